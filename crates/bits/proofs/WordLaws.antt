@@ -39,6 +39,12 @@ byte-more l i k h =
     let p : 8 * i + 8 * k ≡ 8 * (i + k) = omega arith in
     sym (rw (e, field-split (bitAt l) (8 * i) (8 * k) 8, p, byte-field l (i + k) h))
 
+-- eight bytes are four and four
+pub halves : (l : List ℕ) (i : ℕ) → fieldAt (bitAt l) (8 * i) 32 * 2 ^ 32 + fieldAt (bitAt l) (8 * (i + 4)) 32 ≡ fieldAt (bitAt l) (8 * i) 64
+halves l i =
+    let p : 8 * (i + 4) ≡ 8 * i + 32 = omega arith in
+    sym (field-split (bitAt l) (8 * i) 32 32 ∙ rw p)
+
 -- ---- the 64 bits from byte i on, brought to the position 8 * i + r
 
 module _ (f : ℕ → ℕ) (hf : (i : ℕ) → f i < 2) (at r : ℕ) (hr : r ≤ 64) where

@@ -1,0 +1,6 @@
+pub mod Good
+pub mod Combinators
+pub mod OptionLaws
+pub mod RoundTrips
+pub mod TakeLaws
+pub mod Cases

@@ -1,0 +1,4 @@
+pub mod Stops
+pub mod Codec
+pub mod Options
+pub mod Taking

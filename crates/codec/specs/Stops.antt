@@ -1,0 +1,15 @@
+-- The refusals on their way to the caller. Whatever a refusal will carry goes in here, and at the three functions that equal these.
+use Prim.Native.Nat.{ℕ}
+use Rattle.codec.specs.declared.Stop.{Stop}
+
+-- 4: the element that begins at position at reaches past the bit length
+unfoldable pub short : ℕ → ℕ → Stop
+short element at = record { number = 4 }
+
+-- what was read is refused with the number c
+unfoldable pub refusal : ℕ → Stop
+refusal c = record { number = c }
+
+-- what stands beside an answer that is no refusal
+unfoldable pub noStop : Stop
+noStop = record { number = 0 }
