@@ -82,20 +82,6 @@ fn word_inside(buf: &[u8], i: usize) -> u64
     half_word(buf, i) * 0x1_0000_0000 + half_word(buf, i + 4)
 }
 
-// The 32 bits of four bytes that are there. (Of two such loops the compiler makes one load; of one loop over eight it does not.)
-fn half_word(buf: &[u8], i: usize) -> u64
-    requires { ⌜ i + 4 ≤ length (now buf) ⌝ }
-    ensures { λ r. ⌜ r ≡ fieldAt (bitAt (now (buf .entry))) (8 * i) 32 ⌝ }
-{
-    let mut v: u64 = 0;
-    let mut k: usize = 0;
-    while k < 4 {
-        v = v * 256 + wide(buf[i + k]);
-        k += 1;
-    }
-    v
-}
-
 // The same where some may lie past the end.
 fn word_at_end(buf: &[u8], i: usize) -> u64
     requires { ⌜ i + 8 < 2 ^ 64 ⌝ }
@@ -105,6 +91,20 @@ fn word_at_end(buf: &[u8], i: usize) -> u64
     let mut k: usize = 0;
     while k < 8 {
         v = v * 256 + byte_at(buf, i + k);
+        k += 1;
+    }
+    v
+}
+
+// The 32 bits of four bytes that are there. (Of two such loops the compiler makes one load; of one loop over eight it does not.)
+fn half_word(buf: &[u8], i: usize) -> u64
+    requires { ⌜ i + 4 ≤ length (now buf) ⌝ }
+    ensures { λ r. ⌜ r ≡ fieldAt (bitAt (now (buf .entry))) (8 * i) 32 ⌝ }
+{
+    let mut v: u64 = 0;
+    let mut k: usize = 0;
+    while k < 4 {
+        v = v * 256 + wide(buf[i + k]);
         k += 1;
     }
     v
