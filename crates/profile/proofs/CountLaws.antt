@@ -1,0 +1,59 @@
+-- Laws of `every` and `sum`, and of `both` as the code's branches take it. Assumes nothing.
+use Prim.Native.Nat.{ℕ, zero, suc, _+_, _*_, _≤_, _<_}
+use mathlib.Core.Path.{_≡_, refl, sym, ap, _∙_, subst}
+use mathlib.Core.Bool.{Bool, true, false}
+use mathlib.Core.Logic.{⊎-elim}
+use native.Mathlib.Nat.{le-suc-iff, eq-or-lt-of-le, le-of-suc-le-suc}
+use native.Mathlib.Numerals.{add-one}
+use native.Mathlib.Omega.{arith}
+use Rattle.codec.specs.Codec.{both}
+use Rattle.codec.proofs.Good.{both-true, both-left, both-right}
+use Rattle.profile.specs.Counting.{every, sum}
+
+both-none : (a : Bool) → both a false ≡ false
+unfolding both
+both-none true = refl
+both-none false = refl
+
+-- ---- every, as a loop going up takes it
+
+pub every-none : (test : ℕ → Bool) → every 0 test ≡ true
+unfolding every
+every-none test = refl
+
+pub every-more : (n : ℕ) (test : ℕ → Bool) → every n test ≡ true → test n ≡ true → every (n + 1) test ≡ true
+unfolding every
+every-more n test e h = rw add-one (both-true (every n test) (test n) e h)
+
+pub every-not : (n : ℕ) (test : ℕ → Bool) (i : ℕ) → i < n → test i ≡ false → every n test ≡ false
+unfolding every both
+every-not zero test i h e = absurd (omega arith)
+every-not (suc n) test i h e =
+    ⊎-elim
+    (λ d. rw (subst (λ (k : ℕ). test k ≡ false) d e) (both-none (every n test)))
+    (λ k. rw (every-not n test i k e))
+    (eq-or-lt-of-le (le-of-suc-le-suc h))
+
+-- what holds of every number below n holds of one
+pub every-at : (n : ℕ) (test : ℕ → Bool) → every n test ≡ true → (i : ℕ) → i < n → test i ≡ true
+unfolding every
+every-at zero test e i h = absurd (omega arith)
+every-at (suc n) test e i h =
+    ⊎-elim
+    (λ d. subst (λ (k : ℕ). test k ≡ true) (sym d) (both-right (every n test) (test n) e))
+    (λ k. every-at n test (both-left (every n test) (test n) e) i k)
+    (eq-or-lt-of-le (le-of-suc-le-suc h))
+
+-- ---- sum
+
+pub sum-none : (f : ℕ → ℕ) → sum 0 f ≡ 0
+unfolding sum
+sum-none f = refl
+
+pub sum-more : (n : ℕ) (f : ℕ → ℕ) → sum n f + f n ≡ sum (n + 1) f
+unfolding sum
+sum-more n f = rw add-one
+
+-- the loop's end
+pub every-end : (n i : ℕ) (test : ℕ → Bool) → every i test ≡ true → i ≡ n → true ≡ every n test
+every-end n i test e d = sym (subst (λ (k : ℕ). every k test ≡ true) d e)

@@ -1,0 +1,13 @@
+-- `profile::no_profile` meets its contract. Assumes nothing.
+use mathlib.Core.Path.{_≡_, refl, sym, _∙_, ap}
+use Rattle.profile.specs.Rules.{noProfile}
+use borrow.Author.Needs.{needs}
+use Rattle.profile.proofs.no_profile.Statement.{statement}
+use Rattle.profile.proofs.no_profile.Tie as tie
+
+returns : tie.Need-returns
+unfolding noProfile
+returns c = refl
+
+pub no-profile-spec : {M : Type 1} → statement M
+no-profile-spec = tie.close (tie.spec returns)

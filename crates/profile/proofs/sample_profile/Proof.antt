@@ -1,0 +1,13 @@
+-- `profile::sample_profile` meets its contract. Assumes nothing.
+use mathlib.Core.Path.{_≡_, refl, sym, _∙_, ap}
+use Rattle.profile.specs.Sample.{sample, sampleMeanings, sampleShare}
+use borrow.Author.Needs.{needs}
+use Rattle.profile.proofs.sample_profile.Statement.{statement}
+use Rattle.profile.proofs.sample_profile.Tie as tie
+
+returns : tie.Need-returns
+unfolding sample sampleMeanings sampleShare
+returns c = refl
+
+pub sample-profile-spec : {M : Type 1} → statement M
+sample-profile-spec = tie.close (tie.spec returns)

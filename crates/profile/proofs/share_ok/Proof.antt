@@ -1,0 +1,26 @@
+-- `profile::share_ok` meets its contract. Assumes nothing.
+use mathlib.Core.Path.{_≡_, refl, sym, _∙_, ap}
+use borrow.Author.Tests.{le-leb, lt-leb}
+use Rattle.codec.specs.Codec.{both}
+use Rattle.profile.specs.Rules.{shareOk}
+use borrow.Author.Needs.{needs}
+use Rattle.profile.proofs.share_ok.Statement.{statement}
+use Rattle.profile.proofs.share_ok.Tie as tie
+
+returns : tie.Need-returns
+unfolding shareOk both
+returns c = rw (lt-leb _ _ (c .if1 .taken))
+
+cast-if2 : tie.Need-cast-if2
+cast-if2 c = search needs
+
+returns-2 : tie.Need-returns-2
+unfolding shareOk both
+returns-2 c = rw (le-leb _ _ (c .before .before .if1 .left), lt-leb _ _ (c .if2 .taken))
+
+returns-3 : tie.Need-returns-3
+unfolding shareOk both
+returns-3 c = rw (le-leb _ _ (c .before .before .before .if1 .left), le-leb _ _ (c .before .if2 .left))
+
+pub share-ok-spec : {M : Type 1} → statement M
+share-ok-spec = tie.close (tie.spec returns cast-if2 returns-2 returns-3)
