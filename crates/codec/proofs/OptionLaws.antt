@@ -1,4 +1,4 @@
--- Optional elements make good codecs, and what reading one comes to at each of its bits. Assumes nothing.
+-- Optional elements make good codecs, and what reading one comes to where it is there. Assumes nothing.
 use Prim.Native.Nat.{ℕ, zero, suc, _+_, _<_, _^_}
 use mathlib.Core.Path.{_≡_, refl, sym, ap, _∙_}
 use mathlib.Core.Bool.{Bool, true, false, cond, not}
@@ -6,9 +6,8 @@ use native.Mathlib.Omega.{arith}
 use lib.Dec.{eqb}
 use borrow.Author.Tests.{ltb-true}
 use Rattle.codec.specs.Stops.{refusal}
-use Rattle.codec.specs.Codec.{Read, got, no, both, Codec, number, pure, guard, seq, map, choose}
+use Rattle.codec.specs.Codec.{Read, got, no, bind, both, Codec, number, pure, guard, seq, map, choose}
 use Rattle.codec.specs.Options.{flag, given, options, isAbsent, option}
-use Rattle.codec.specs.declared.Stop.{Stop}
 use Rattle.codec.proofs.Good.{both-true, both-left, both-right, not-both, Good}
 use Rattle.codec.proofs.Combinators.{good-number, good-pure, good-guard, good-seq, good-iso, good-choose}
 
@@ -60,22 +59,12 @@ module _ {A : Type 0} (o p : ℕ) (none : A) (isNone : A → Bool) (C : Codec A)
   good-option self only G =
       good-options o (false, none) (isAbsent isNone) (λ x. x .0) (given p none isNone C) (both-true true (isNone none) refl self) (absent-is only) refl (good-given p none isNone C self only G)
 
-  module _ (f : ℕ → ℕ) (n at : ℕ) where
-    pub option-no : (s : Stop) → flag o .read f n at ≡ no s → option o p none isNone C .read f n at ≡ no s
-    option-no s e = rw e
-
-    pub option-absent : (q : ℕ) → flag o .read f n at ≡ got false q → option o p none isNone C .read f n at ≡ got (false, none) q
-    option-absent q e = rw e
-
-    module _ (q : ℕ) (e : flag o .read f n at ≡ got true q) where
-      pub option-p-no : (s : Stop) → flag p .read f n q ≡ no s → option o p none isNone C .read f n at ≡ no s
-      option-p-no s d = rw (e, d)
-
-      pub option-empty : (r : ℕ) → flag p .read f n q ≡ got false r → option o p none isNone C .read f n at ≡ no (refusal 12)
-      option-empty r d = rw (e, d)
-
-      pub option-stop : (r : ℕ) (s : Stop) → flag p .read f n q ≡ got true r → C .read f n r ≡ no s → option o p none isNone C .read f n at ≡ no s
-      option-stop r s d c = rw (e, d, c)
-
-      pub option-got : (r : ℕ) (a : A) (t : ℕ) → flag p .read f n q ≡ got true r → C .read f n r ≡ got a t → option o p none isNone C .read f n at ≡ got (true, a) t
-      option-got r a t d c = rw (e, d, c)
+  -- after an O-bit and a P-bit of 1 the element itself is read
+  pub option-given : (f : ℕ → ℕ) (n at : ℕ) (b d : Bool) (q r : ℕ) → flag o .read f n at ≡ got b q → b ≡ true → flag p .read f n q ≡ got d r → d ≡ true
+      → option o p none isNone C .read f n at ≡ bind (C .read f n r) (λ a t. got (true, a) t)
+  option-given f n at b d q r e eb h hd = rw (e, eb, h, hd) (go (C .read f n r))
+    where
+      go : (x : Read A) → bind (bind (bind (bind x (λ a t. got (true, a) t)) (λ (y : Bool × A) t. cond (y .0) (got y t) (no (refusal 12)))) (λ y t. got (true, y) t)) (λ (z : Bool × (Bool × A)) t. got (z .1) t)
+          ≡ bind x (λ a t. got (true, a) t)
+      go (got a t) = refl
+      go (no s) = refl

@@ -264,7 +264,8 @@ fn meaning_ok(m: Meaning) -> bool
     }
 }
 
-fn list_ok(n: u8) -> bool
+// A list has 1 to 15 addresses.
+pub fn list_ok(n: u8) -> bool
     ensures { λ r. ⌜ r ≡ listOk n ⌝ }
 {
     if n < 1 {

@@ -1,0 +1,69 @@
+-- Document 01's worked cases 1 to 8 as one checked list, with the values that it says, and the kinds. Assumes nothing.
+use Prim.Native.Nat.{ℕ}
+use mathlib.Core.Path.{_≡_, refl}
+use mathlib.Core.Bool.{Bool, true, false}
+use mathlib.Core.List as list
+use mathlib.Core.List.{List, [], _∷_}
+use lib.ListN.{set}
+use Rattle.bits.specs.Fields.{bitAt, fieldAt}
+use Rattle.codec.specs.Stops.{short, refusal}
+use Rattle.codec.specs.Codec.{Read, got, no, both, number, vecRead}
+use Rattle.codec.specs.Options.{flag}
+use Rattle.profile.specs.Counting.{every, sum}
+use Rattle.profile.specs.Rules.{meaningOk, meaningIn, airOk, shareOk, shareIn, sharesOk, profileOk}
+use Rattle.profile.specs.Sample.{sample, sampleMeanings, sampleShare}
+use Rattle.message.specs.Elements as element
+use Rattle.message.specs.Addresses.{nobody, kindC, extensionC, addressC}
+use Rattle.message.specs.Groups.{addressesIn, allowedIn, nobodies, placesC, rangeOk, endsOk, addressesC, rangeC, groupC, noGroup, oneGroup, spanIn, spanOf}
+use Rattle.message.specs.Acks.{maskC, maskedC, resultC}
+use Rattle.message.specs.Values.{activateV, plainV}
+use Rattle.message.specs.Messages.{activateC, ackC, interrogateC, interceptedC, callC, acceptedC, bodyC, isKnown, isCarried, headerC, messageC}
+use Rattle.message.specs.Reading.{wholeOf, lengthOk, bitsOf, readOf}
+use Rattle.message.specs.declared.Value.{Value}
+use Rattle.message.specs.declared.Address.{Address}
+
+-- these bytes, so many bits, are read as this under the sample profile
+pub data Case : Type 0 where
+  reads : List ℕ → ℕ → Read Value → Case
+
+abbrev pub gives : Case → Read Value
+gives (reads l n r) = readOf sample l n
+
+abbrev pub wants : Case → Read Value
+wants (reads l n r) = r
+
+-- kind 1
+abbrev pub home : ℕ → Address
+home s = record { kind = 1; ssi = s; extension = 0 }
+
+-- a message with an identifier or with nothing
+abbrev pub call : ℕ → ℕ → Value
+call t i = plainV t nobody 0 i false nobody
+
+abbrev pub cases : List Case
+cases =
+    -- 1: ACCEPTED; one bit left over; one bit missing
+    reads (0x25 ∷ 0xA0 ∷ []) 11 (got (call 13 0) 11)
+    ∷ reads (0x25 ∷ 0xA0 ∷ []) 12 (no (refusal 13))
+    ∷ reads (0x25 ∷ 0xA0 ∷ []) 10 (no (short element.pduType 6))
+    -- 2, 3: ACCEPT, identifier 5; DIVERT, 16,383
+    ∷ reads (0x25 ∷ 0x80 ∷ 0x02 ∷ 0x80 ∷ []) 25 (got (call 12 5) 25)
+    ∷ reads (0x25 ∷ 0xFF ∷ 0xFF ∷ 0x80 ∷ []) 25 (got (call 15 16383) 25)
+    -- 4, 5, 6: INTERCEPTED, cause 0, no option; DIVERTED likewise; INTERCEPTED, cause 2, kind 1, SSI 1
+    ∷ reads (0x25 ∷ 0x40 ∷ 0x00 ∷ []) 17 (got (plainV 10 nobody 0 0 false nobody) 17)
+    ∷ reads (0x26 ∷ 0x00 ∷ 0x00 ∷ []) 17 (got (plainV 16 nobody 0 0 false nobody) 17)
+    ∷ reads (0x25 ∷ 0x42 ∷ 0xD0 ∷ 0x00 ∷ 0x00 ∷ 0x10 ∷ []) 44 (got (plainV 10 nobody 2 0 true (home 1)) 44)
+    -- 7: INTERROGATE, SSI 1,001
+    ∷ reads (0x25 ∷ 0x08 ∷ 0x00 ∷ 0x1F ∷ 0x48 ∷ []) 37 (got (plainV 8 (home 1001) 0 0 false nobody) 37)
+    -- 8: ACTIVATE, range 15, SSI 1,001 to 1,004, no option
+    ∷ reads (0x24 ∷ 0x5E ∷ 0x80 ∷ 0x01 ∷ 0xF4 ∷ 0xA0 ∷ 0x00 ∷ 0x7D ∷ 0x80 ∷ []) 68
+    (got (activateV (record { range = 15; addresses = set (set nobodies 0 (home 1001)) 1 (home 1004) }) false noGroup) 68)
+    -- kinds: 2 with an extension of 5; 3 and 0 are refused, though nothing follows
+    ∷ reads (0x25 ∷ 0x10 ∷ 0x00 ∷ 0x1F ∷ 0x48 ∷ 0x00 ∷ 0x00 ∷ 0x28 ∷ []) 61 (got (plainV 8 (record { kind = 2; ssi = 1001; extension = 5 }) 0 0 false nobody) 61)
+    ∷ reads (0x25 ∷ 0x18 ∷ []) 13 (no (refusal 10))
+    ∷ reads (0x25 ∷ 0x00 ∷ []) 13 (no (refusal 10))
+    ∷ []
+
+pub cases-right : list.map gives cases ≡ list.map wants cases
+unfolding bitAt fieldAt both number vecRead flag every sum meaningOk meaningIn airOk shareOk shareIn sharesOk profileOk sample sampleMeanings sampleShare kindC extensionC addressC addressesIn allowedIn nobodies placesC rangeOk endsOk addressesC rangeC groupC noGroup oneGroup spanIn spanOf maskC maskedC resultC activateC ackC interrogateC interceptedC callC acceptedC bodyC isKnown isCarried headerC messageC wholeOf lengthOk bitsOf readOf
+cases-right = refl

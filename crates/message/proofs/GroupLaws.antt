@@ -1,0 +1,163 @@
+-- A group is a good codec, and a valid one has at most 15 addresses and 64 identities. Assumes nothing.
+use Prim.Native.Nat.{ℕ, zero, suc, _+_, _-_, _≤_, _<_}
+use mathlib.Core.Path.{_≡_, refl, sym, ap, _∙_}
+use mathlib.Core.Bool.{Bool, true, false}
+use mathlib.Core.List.{List, [], _∷_, _++_}
+use native.Mathlib.Nat.{suc-sub-suc, sub-zero}
+use native.Mathlib.Omega.{arith}
+use lib.Dec.{eqb, leb}
+use lib.ListN.{length, take, drop, getD, set, replicate, take-append-drop}
+use lib.Seq.{sets, sets-eq, take-at, drop-at}
+use borrow.Author.Tests.{leb-true, ltb-true}
+use Rattle.codec.specs.Codec.{Codec, both, number, seq, map, vec, vecOk}
+use Rattle.codec.proofs.Good.{Good, both-true, both-left, both-right, not-both}
+use Rattle.codec.proofs.Combinators.{good-number, good-guard, good-seq, good-map, good-iso, good-vec}
+use Rattle.profile.specs.Rules.{meaningIn}
+use Rattle.profile.specs.declared.Kind.{Kind}
+use Rattle.profile.specs.declared.Kind.the-variants as kind
+use Rattle.profile.specs.declared.Meaning.{Meaning}
+use Rattle.profile.specs.declared.Air.{Air}
+use Rattle.message.specs.Elements as element
+use Rattle.message.specs.Addresses.{nobody, isZero, isNobody, addressC}
+use Rattle.message.specs.Groups.{addressesBy, addressesIn, allowedBy, allowedIn, nobodies, areNobody, placesC, rangeOk, endsBy, endsOk, addressesC, rangeC, groupC, noGroup, oneGroup, isNoGroup, isOneGroup, spanBy, spanIn, spanOf}
+use Rattle.message.specs.declared.Address.{Address}
+use Rattle.message.specs.declared.Group.{Group}
+use Rattle.message.proofs.AddressLaws.{zero-is, good-address, is-nobody, nobody-is}
+
+-- ---- the fifteen places
+
+valid-length : (k : ℕ) (xs : List Address) → vecOk addressC k xs ≡ true → length xs ≡ k
+valid-length zero [] v = refl
+valid-length zero (a ∷ xs) v = not-both v
+valid-length (suc k) [] v = not-both v
+valid-length (suc k) (a ∷ xs) v = ap suc (valid-length k xs (both-right _ _ v))
+
+are-nobody : (k : ℕ) (l : List Address) → areNobody k l ≡ true → l ≡ replicate k nobody
+unfolding areNobody
+are-nobody zero [] e = refl
+are-nobody zero (a ∷ l) e = not-both e
+are-nobody (suc k) [] e = not-both e
+are-nobody (suc k) (a ∷ l) e = rw (is-nobody a (both-left _ _ e), are-nobody k l (both-right (isNobody a) _ e))
+
+nobodies-are : (k : ℕ) → areNobody k (replicate k nobody) ≡ true
+unfolding areNobody
+nobodies-are zero = refl
+nobodies-are (suc k) = both-true _ _ nobody-is (nobodies-are k)
+
+drop-same : (n k : ℕ) → drop k (replicate n nobody) ≡ replicate (n - k) nobody
+drop-same n zero = rw sub-zero
+drop-same zero (suc k) = let z : 0 - suc k ≡ 0 = omega arith in rw z
+drop-same (suc n) (suc k) = drop-same n k ∙ ap (λ (m : ℕ). replicate m nobody) (sym (suc-sub-suc n k))
+
+sets-is : (k : ℕ) (xs : List Address) → k ≤ 15 → length xs ≡ k → sets nobodies 0 xs ≡ xs ++ replicate (15 - k) nobody
+unfolding nobodies
+sets-is k xs h e =
+    let z : 0 + length xs ≡ k = omega arith in
+    sets-eq xs nobodies 0 (omega arith) ∙ ap (λ (m : ℕ). xs ++ drop m nobodies) z ∙ ap (λ (r : List Address). xs ++ r) (drop-same 15 k)
+
+take-sets : (k : ℕ) (xs : List Address) → k ≤ 15 → length xs ≡ k → take k (sets nobodies 0 xs) ≡ xs
+take-sets k xs h e = rw (sets-is k xs h e) (take-at xs _ k e)
+
+sets-fits : (k : ℕ) (xs : List Address) → k ≤ 15 → length xs ≡ k → areNobody (15 - k) (drop k (sets nobodies 0 xs)) ≡ true
+sets-fits k xs h e = rw (sets-is k xs h e, drop-at xs (replicate (15 - k) nobody) k e) (nobodies-are (15 - k))
+
+sets-there : (k : ℕ) (l : List Address) → k ≤ 15 → areNobody (15 - k) (drop k l) ≡ true → length (take k l) ≡ k → sets nobodies 0 (take k l) ≡ l
+sets-there k l h e n = sets-is k (take k l) h n ∙ ap (λ (r : List Address). take k l ++ r) (sym (are-nobody (15 - k) (drop k l) e)) ∙ take-append-drop k l
+
+good-places : (k : ℕ) → k ≤ 15 → Good (placesC k)
+unfolding placesC
+good-places k h =
+    good-map (λ xs. sets nobodies 0 xs) (λ l. take k l) (λ l. areNobody (15 - k) (drop k l)) (vec k addressC)
+    (λ xs v. take-sets k xs h (valid-length k xs v))
+    (λ xs v. sets-fits k xs h (valid-length k xs v))
+    (λ l e v. sets-there k l h e (valid-length k (take k l) v))
+    (good-vec addressC good-address k)
+
+-- ---- the group
+
+few-by : (k : Kind) (n : ℕ) (none : Bool) → allowedBy k n none ≡ true → addressesBy k n ≤ 15
+few-by kind.Reserved n none e = omega arith
+few-by kind.Nobody n none e = omega arith
+few-by kind.Listed n none e = leb-true n 15 (both-right (leb 1 n) (leb n 15) e)
+few-by kind.FirstLast n none e = omega arith
+
+-- a meaning that is allowed has at most 15 addresses
+pub few-addresses : (none : Bool) (m : Meaning) → allowedIn none m ≡ true → addressesIn m ≤ 15
+unfolding addressesIn allowedIn
+few-addresses none m e = few-by (m .kind) (m .count) none e
+
+good-addresses : (m : Meaning) → addressesIn m ≤ 15 → Good (addressesC m)
+unfolding addressesC
+good-addresses m h = good-guard 11 (λ l. endsOk m l) (placesC (addressesIn m)) (good-places (addressesIn m) h)
+
+pub good-range : (air : Air) (none : Bool) → Good (rangeC air none)
+unfolding rangeC
+good-range air none = good-guard 9 (λ r. allowedIn none (meaningIn (air .meanings) r)) (number element.range 4) (good-number element.range 4)
+
+pub range-allowed : (air : Air) (none : Bool) (r : ℕ) → rangeC air none .ok r ≡ true → allowedIn none (meaningIn (air .meanings) r) ≡ true
+unfolding rangeC
+range-allowed air none r v = both-right _ _ v
+
+pub good-group : (air : Air) (none : Bool) → Good (groupC air none)
+unfolding groupC
+good-group air none =
+    good-iso _ _ _ (λ x v. refl) (λ b _. refl)
+    (good-seq (rangeC air none) (λ r. addressesC (meaningIn (air .meanings) r)) (good-range air none)
+    (λ r v. good-addresses (meaningIn (air .meanings) r) (few-addresses none (meaningIn (air .meanings) r) (range-allowed air none r v))))
+
+-- ---- what a valid group names
+
+range-span : (a b : Address) → rangeOk a b ≡ true → b .ssi - a .ssi + 1 ≤ 64
+unfolding rangeOk
+range-span a b t =
+    let u = both-right (eqb (a .kind) (b .kind)) _ t in
+    let w = both-right (eqb (a .extension) (b .extension)) _ u in
+    leb-true (b .ssi - a .ssi + 1) 64 (both-right (leb (a .ssi) (b .ssi)) _ w)
+
+span-by : (k : Kind) (n : ℕ) (none : Bool) (l : List Address) → allowedBy k n none ≡ true → endsBy k l ≡ true → spanBy k n l ≤ 64
+span-by kind.Reserved n none l e t = omega arith
+span-by kind.Nobody n none l e t = omega arith
+span-by kind.Listed n none l e t = let h = leb-true n 15 (both-right (leb 1 n) (leb n 15) e) in omega arith
+span-by kind.FirstLast n none l e t = range-span (getD l 0 nobody) (getD l 1 nobody) t
+
+module _ (air : Air) (none : Bool) (g : Group) (v : groupC air none .ok g ≡ true) where
+  range-valid : rangeC air none .ok (g .range) ≡ true
+  unfolding groupC
+  range-valid = both-left _ _ (both-right true _ v)
+
+  -- at most 64 identities
+  pub few-identities : spanOf air g ≤ 64
+  unfolding groupC addressesC endsOk allowedIn spanOf spanIn
+  few-identities =
+      span-by (meaningIn (air .meanings) (g .range) .kind) (meaningIn (air .meanings) (g .range) .count) none (g .addresses)
+      (range-allowed air none (g .range) range-valid) (both-right _ _ (both-right _ _ (both-right true _ v)))
+
+-- ---- no group, and one address
+
+pub no-group-is : isNoGroup noGroup ≡ true
+unfolding isNoGroup noGroup nobodies areNobody isNobody both
+no-group-is = refl
+
+group-eq : (g : Group) (r : ℕ) (l : List Address) → g .range ≡ r → g .addresses ≡ l → _≡_ {A = Group} (record { range = g .range; addresses = g .addresses }) (record { range = r; addresses = l })
+group-eq g r l e d = rw (e, d)
+
+pub is-no-group : (g : Group) → isNoGroup g ≡ true → g ≡ noGroup
+unfolding isNoGroup noGroup nobodies
+is-no-group g e = group-eq g 0 (replicate 15 nobody) (zero-is _ (both-left _ _ e)) (are-nobody 15 (g .addresses) (both-right (isZero (g .range)) _ e))
+
+one-list : (l : List Address) → areNobody 14 (drop 1 l) ≡ true → set (replicate 15 nobody) 0 (getD l 0 nobody) ≡ l
+unfolding areNobody
+one-list [] e = not-both e
+one-list (a ∷ l) e = ap (λ (t : List Address). a ∷ t) (sym (are-nobody 14 l e))
+
+pub is-one-group : (g : Group) → isOneGroup g ≡ true → oneGroup (getD (g .addresses) 0 nobody) ≡ g
+unfolding isOneGroup oneGroup nobodies
+is-one-group g e = sym (group-eq g 0 _ (zero-is _ (both-left _ _ e)) (sym (one-list (g .addresses) (both-right (isZero (g .range)) _ e))))
+
+pub one-group-is : (a : Address) → isOneGroup (oneGroup a) ≡ true
+unfolding isOneGroup oneGroup nobodies areNobody isNobody both
+one-group-is a = refl
+
+pub first-one : (a : Address) → getD (oneGroup a .addresses) 0 nobody ≡ a
+unfolding oneGroup nobodies
+first-one a = refl

@@ -1,0 +1,36 @@
+-- One address: a 2-bit kind, then with kind 1 an SSI of 24 bits, with kind 2 an SSI and an extension of 24 each.
+use Prim.Native.Nat.{ℕ}
+use mathlib.Core.Bool.{Bool, true, _||_}
+use lib.Dec.{eqb}
+use Rattle.codec.specs.Codec.{Codec, both, number, pure, guard, seq, map, choose}
+use Rattle.message.specs.Elements as element
+use Rattle.message.specs.declared.Address.{Address}
+
+-- no address: what a place holds that carries none
+abbrev pub nobody : Address
+nobody = record { kind = 0; ssi = 0; extension = 0 }
+
+abbrev pub isZero : ℕ → Bool
+isZero n = eqb n 0
+
+unfoldable pub isNobody : Address → Bool
+isNobody a = both (isZero (a .kind)) (both (isZero (a .ssi)) (isZero (a .extension)))
+
+abbrev pub isKind : ℕ → Bool
+isKind k = eqb k 1 || eqb k 2
+
+-- kinds 0 and 3 are refused with 10
+unfoldable pub kindC : Codec ℕ
+kindC = guard 10 isKind (number element.kind 2)
+
+-- the extension is on the air with kind 2 alone, and zero otherwise
+unfoldable pub extensionC : ℕ → Codec ℕ
+extensionC k = choose (eqb k 1) (pure 0 isZero) (number element.extension 24)
+
+unfoldable pub addressC : Codec Address
+addressC =
+    map
+    (λ (x : ℕ × (ℕ × ℕ)). record { kind = x .0; ssi = x .1 .0; extension = x .1 .1 })
+    (λ (a : Address). (a .kind, (a .ssi, a .extension)))
+    (λ _. true)
+    (seq kindC (λ k. seq (number element.ssi 24) (λ s. extensionC k)))

@@ -1,0 +1,118 @@
+-- A group: a range value, then the addresses that its meaning has. It names some identities: each of a list, or all from first to last.
+use Prim.Native.Nat.{ℕ, zero, suc, _+_, _-_}
+use mathlib.Core.Bool.{Bool, true, false}
+use mathlib.Core.List.{List, [], _∷_}
+use lib.Dec.{eqb, leb}
+use lib.ListN.{getD, take, drop, replicate, set}
+use lib.Seq.{sets}
+use Rattle.codec.specs.Codec.{Codec, both, number, guard, seq, map, vec}
+use Rattle.profile.specs.Rules.{listOk, meaningIn}
+use Rattle.profile.specs.declared.Kind.{Kind}
+use Rattle.profile.specs.declared.Kind.the-variants as kind
+use Rattle.profile.specs.declared.Meaning.{Meaning}
+use Rattle.profile.specs.declared.Air.{Air}
+use Rattle.message.specs.Elements as element
+use Rattle.message.specs.Addresses.{nobody, isZero, isNobody, addressC}
+use Rattle.message.specs.declared.Address.{Address}
+use Rattle.message.specs.declared.Group.{Group}
+
+-- ---- what a meaning asks for
+
+abbrev pub addressesBy : Kind → ℕ → ℕ
+addressesBy kind.Reserved n = 0
+addressesBy kind.Nobody n = 0
+addressesBy kind.Listed n = n
+addressesBy kind.FirstLast n = 2
+
+-- how many addresses follow
+unfoldable pub addressesIn : Meaning → ℕ
+addressesIn m = addressesBy (m .kind) (m .count)
+
+abbrev pub allowedBy : Kind → ℕ → Bool → Bool
+allowedBy kind.Reserved n none = false
+allowedBy kind.Nobody n none = none
+allowedBy kind.Listed n none = listOk n
+allowedBy kind.FirstLast n none = true
+
+-- reserved never, "none" where `none` says so: for dispatchers, not for users
+unfoldable pub allowedIn : Bool → Meaning → Bool
+allowedIn none m = allowedBy (m .kind) (m .count) none
+
+-- ---- the addresses, in fifteen places
+
+unfoldable pub nobodies : List Address
+nobodies = replicate 15 nobody
+
+-- k addresses, all zero
+unfoldable pub areNobody : ℕ → List Address → Bool
+areNobody zero [] = true
+areNobody zero (a ∷ l) = false
+areNobody (suc k) [] = false
+areNobody (suc k) (a ∷ l) = both (isNobody a) (areNobody k l)
+
+-- k addresses in the first k places; the places beyond are zero
+unfoldable pub placesC : ℕ → Codec (List Address)
+placesC k = map (λ xs. sets nobodies 0 xs) (λ l. take k l) (λ l. areNobody (15 - k) (drop k l)) (vec k addressC)
+
+-- one kind, one extension, first ≤ last, at most 64 identities
+unfoldable pub rangeOk : Address → Address → Bool
+rangeOk a b =
+    both (eqb (a .kind) (b .kind)) (both (eqb (a .extension) (b .extension)) (both (leb (a .ssi) (b .ssi)) (leb (b .ssi - a .ssi + 1) 64)))
+
+abbrev pub endsBy : Kind → List Address → Bool
+endsBy kind.Reserved l = true
+endsBy kind.Nobody l = true
+endsBy kind.Listed l = true
+endsBy kind.FirstLast l = rangeOk (getD l 0 nobody) (getD l 1 nobody)
+
+-- the ends of a range, where it is one
+unfoldable pub endsOk : Meaning → List Address → Bool
+endsOk m l = endsBy (m .kind) l
+
+-- 11 after the second address
+unfoldable pub addressesC : Meaning → Codec (List Address)
+addressesC m = guard 11 (λ l. endsOk m l) (placesC (addressesIn m))
+
+-- ---- the group
+
+-- 9 after the range
+unfoldable pub rangeC : Air → Bool → Codec ℕ
+rangeC air none = guard 9 (λ r. allowedIn none (meaningIn (air .meanings) r)) (number element.range 4)
+
+unfoldable pub groupC : Air → Bool → Codec Group
+groupC air none =
+    map
+    (λ (x : ℕ × List Address). record { range = x .0; addresses = x .1 })
+    (λ (g : Group). (g .range, g .addresses))
+    (λ _. true)
+    (seq (rangeC air none) (λ r. addressesC (meaningIn (air .meanings) r)))
+
+-- no group, and one address alone, as groups with range number 0
+unfoldable pub noGroup : Group
+noGroup = record { range = 0; addresses = nobodies }
+
+unfoldable pub oneGroup : Address → Group
+oneGroup a = record { range = 0; addresses = set nobodies 0 a }
+
+unfoldable pub isNoGroup : Group → Bool
+isNoGroup g = both (isZero (g .range)) (areNobody 15 (g .addresses))
+
+unfoldable pub isOneGroup : Group → Bool
+isOneGroup g = both (isZero (g .range)) (areNobody 14 (drop 1 (g .addresses)))
+
+abbrev pub firstOf : Group → Address
+firstOf g = getD (g .addresses) 0 nobody
+
+-- ---- how many identities a group names
+
+abbrev pub spanBy : Kind → ℕ → List Address → ℕ
+spanBy kind.Reserved n l = 0
+spanBy kind.Nobody n l = 0
+spanBy kind.Listed n l = n
+spanBy kind.FirstLast n l = getD l 1 nobody .ssi - getD l 0 nobody .ssi + 1
+
+unfoldable pub spanIn : Meaning → List Address → ℕ
+spanIn m l = spanBy (m .kind) (m .count) l
+
+unfoldable pub spanOf : Air → Group → ℕ
+spanOf air g = spanIn (meaningIn (air .meanings) (g .range)) (g .addresses)

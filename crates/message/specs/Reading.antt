@@ -1,0 +1,31 @@
+-- Reading a message: document 01's order, 1, then 3, then along the bits, then 13.
+use Prim.Native.Nat.{ℕ, _*_}
+use mathlib.Core.Bool.{Bool, cond}
+use mathlib.Core.List.{List}
+use lib.Dec.{eqb, leb}
+use lib.ListN.{length}
+use Rattle.bits.specs.Fields.{bitAt}
+use Rattle.codec.specs.Stops.{refusal}
+use Rattle.codec.specs.Codec.{Codec, Read, got, no, bind, both}
+use Rattle.profile.specs.Rules.{profileOk}
+use Rattle.profile.specs.declared.Air.{Air}
+use Rattle.profile.specs.declared.Profile.{Profile}
+use Rattle.message.specs.Messages.{messageC}
+use Rattle.message.specs.declared.Value.{Value}
+
+-- C from the first of n bits, and nothing after it: 13 where bits are left over
+abbrev pub whole : {A : Type 0} → Codec A → (ℕ → ℕ) → ℕ → Read A
+whole C f n = bind (C .read f n 0) (λ a p. cond (eqb p n) (got a p) (no (refusal 13)))
+
+unfoldable pub wholeOf : Air → (ℕ → ℕ) → ℕ → Read Value
+wholeOf air f n = whole (messageC air) f n
+
+-- 3 where this fails: some bits, at most 2,048, and no more than the bytes lent have
+unfoldable pub lengthOk : List ℕ → ℕ → Bool
+lengthOk l n = both (leb 1 n) (both (leb n 2048) (leb n (8 * length l)))
+
+unfoldable pub bitsOf : Air → List ℕ → ℕ → Read Value
+bitsOf air l n = cond (lengthOk l n) (wholeOf air (bitAt l) n) (no (refusal 3))
+
+unfoldable pub readOf : Profile → List ℕ → ℕ → Read Value
+readOf p l n = cond (profileOk p) (bitsOf (p .air) l n) (no (refusal 1))

@@ -1,0 +1,65 @@
+-- Struct answers read back: what was read where one says that it found something, and where not. Assumes nothing.
+use Prim.Native.Nat.{ℕ}
+use mathlib.Core.Path.{_≡_, refl, sym, ap, _∙_}
+use mathlib.Core.Bool.{Bool, true, false}
+use mathlib.Core.List.{List}
+use Rattle.codec.specs.Codec.{Read, got, no}
+use Rattle.codec.specs.declared.Stop.{Stop}
+use Rattle.message.specs.declared.Address.{Address}
+use Rattle.message.specs.declared.Group.{Group}
+use Rattle.message.specs.declared.Value.{Value}
+use Rattle.reading.specs.Answers.{placesOf, groupOf, optionOf, bodyOf}
+use Rattle.reading.specs.declared.group.PlacesRead.{PlacesRead}
+use Rattle.reading.specs.declared.group.GroupRead.{GroupRead}
+use Rattle.reading.specs.declared.option.OptionRead.{OptionRead}
+use Rattle.reading.specs.declared.body.Body.{Body}
+
+-- what such an answer R of a reading of A says: `answer` makes it, `value` and `next` and `stop` take it apart
+module _ {A R : Type 0} (answer : Read A → R) (found : R → Bool) (value : R → A) (next : R → ℕ) (stop : R → Stop)
+    (yes : (a : A) (p : ℕ) → found (answer (got a p)) ≡ true) (nay : (s : Stop) → found (answer (no s)) ≡ false)
+    (back : (a : A) (p : ℕ) → got (value (answer (got a p))) (next (answer (got a p))) ≡ got a p) (same : (s : Stop) → stop (answer (no s)) ≡ s) where
+  answer-got : (rd : Read A) (r : R) → r ≡ answer rd → found r ≡ true → rd ≡ got (value r) (next r)
+  answer-got (got a p) r e h = rw e (sym (back a p))
+  answer-got (no s) r e h = let z : _≡_ {A = Bool} false true = sym (nay s) ∙ sym (ap found e) ∙ h in cc
+
+  answer-no : (rd : Read A) (r : R) → r ≡ answer rd → found r ≡ false → rd ≡ no (stop r)
+  answer-no (got a p) r e h = let z : _≡_ {A = Bool} true false = sym (yes a p) ∙ sym (ap found e) ∙ h in cc
+  answer-no (no s) r e h = rw (e, same s)
+
+pub places-got : (rd : Read (List Address)) (r : PlacesRead) → r ≡ placesOf rd → r .found ≡ true → rd ≡ got (r .list) (r .next)
+unfolding placesOf
+places-got =
+    answer-got placesOf (λ (r : PlacesRead). r .found) (λ (r : PlacesRead). r .list) (λ (r : PlacesRead). r .next) (λ (r : PlacesRead). r .stop) (λ a p. refl) (λ s. refl) (λ a p. refl) (λ s. refl)
+
+pub places-no : (rd : Read (List Address)) (r : PlacesRead) → r ≡ placesOf rd → r .found ≡ false → rd ≡ no (r .stop)
+unfolding placesOf
+places-no =
+    answer-no placesOf (λ (r : PlacesRead). r .found) (λ (r : PlacesRead). r .list) (λ (r : PlacesRead). r .next) (λ (r : PlacesRead). r .stop) (λ a p. refl) (λ s. refl) (λ a p. refl) (λ s. refl)
+
+pub group-got : (rd : Read Group) (r : GroupRead) → r ≡ groupOf rd → r .found ≡ true → rd ≡ got (r .group) (r .next)
+unfolding groupOf
+group-got =
+    answer-got groupOf (λ (r : GroupRead). r .found) (λ (r : GroupRead). r .group) (λ (r : GroupRead). r .next) (λ (r : GroupRead). r .stop) (λ a p. refl) (λ s. refl) (λ a p. refl) (λ s. refl)
+
+pub group-no : (rd : Read Group) (r : GroupRead) → r ≡ groupOf rd → r .found ≡ false → rd ≡ no (r .stop)
+unfolding groupOf
+group-no =
+    answer-no groupOf (λ (r : GroupRead). r .found) (λ (r : GroupRead). r .group) (λ (r : GroupRead). r .next) (λ (r : GroupRead). r .stop) (λ a p. refl) (λ s. refl) (λ a p. refl) (λ s. refl)
+
+pub option-got : (rd : Read (Bool × Group)) (r : OptionRead) → r ≡ optionOf rd → r .found ≡ true → rd ≡ got (r .present, r .group) (r .next)
+unfolding optionOf
+option-got =
+    answer-got optionOf (λ (r : OptionRead). r .found) (λ (r : OptionRead). (r .present, r .group)) (λ (r : OptionRead). r .next) (λ (r : OptionRead). r .stop) (λ a p. refl) (λ s. refl) (λ a p. refl) (λ s. refl)
+
+pub option-no : (rd : Read (Bool × Group)) (r : OptionRead) → r ≡ optionOf rd → r .found ≡ false → rd ≡ no (r .stop)
+unfolding optionOf
+option-no =
+    answer-no optionOf (λ (r : OptionRead). r .found) (λ (r : OptionRead). (r .present, r .group)) (λ (r : OptionRead). r .next) (λ (r : OptionRead). r .stop) (λ a p. refl) (λ s. refl) (λ a p. refl) (λ s. refl)
+
+pub body-got : (rd : Read Value) (r : Body) → r ≡ bodyOf rd → r .found ≡ true → rd ≡ got (r .value) (r .next)
+unfolding bodyOf
+body-got = answer-got bodyOf (λ (r : Body). r .found) (λ (r : Body). r .value) (λ (r : Body). r .next) (λ (r : Body). r .stop) (λ a p. refl) (λ s. refl) (λ a p. refl) (λ s. refl)
+
+pub body-no : (rd : Read Value) (r : Body) → r ≡ bodyOf rd → r .found ≡ false → rd ≡ no (r .stop)
+unfolding bodyOf
+body-no = answer-no bodyOf (λ (r : Body). r .found) (λ (r : Body). r .value) (λ (r : Body). r .next) (λ (r : Body). r .stop) (λ a p. refl) (λ s. refl) (λ a p. refl) (λ s. refl)

@@ -1,0 +1,104 @@
+// ACTIVATE ACK: users, a mask of one bit for each identity, a result.
+ghost use mathlib.Core.Path.{_≡_};
+ghost use Prim.Native.Nat.{_*_, _-_, _<_, _≤_, _^_};
+ghost use Rattle.bits.specs.Fields.{bitAt};
+ghost use Rattle.codec.specs.Taking.{tookOf};
+ghost use Rattle.message.specs.Acks.{maskC, maskedC, resultC};
+ghost use Rattle.message.specs.Messages.{ackC};
+ghost use Rattle.reading.specs.Answers.{maskedOf, resultOf, bodyOf};
+use crate::body;
+use crate::body::Body;
+use crate::element;
+use crate::element::ByteTook;
+use crate::element::FlagTook;
+use crate::group;
+use codec::Stop;
+use codec::Took;
+use profile::Air;
+
+pub enum MaskedTook {
+    Got(bool, u64, usize),
+    Refused(Stop),
+}
+
+pub enum ResultTook {
+    Got(u8, u8, usize),
+    Refused(Stop),
+}
+
+pub fn read_ack(air: Air, buf: &[u8], bits: usize, at: usize) -> Body
+    ensures { λ r. ⌜ r ≡ bodyOf (ackC air .read (bitAt (now (buf .entry))) bits at) ⌝ }
+{
+    let u = group::read_group(air, false, buf, bits, at);
+    if u.found {
+        let p = u.next;
+        let users = u.group;
+        return match read_masked(message::span_of(air, users), buf, bits, p) {
+            MaskedTook::Refused(s) => body::no_body(s),
+            MaskedTook::Got(masked, mask, q) => match read_result(buf, bits, q) {
+                ResultTook::Refused(s) => body::no_body(s),
+                ResultTook::Got(result, reason, e) => {
+                    body::carried(message::ack_value(users, masked, mask, result, reason), e)
+                }
+            },
+        };
+    }
+    let s = u.stop;
+    body::no_body(s)
+}
+
+fn read_masked(count: usize, buf: &[u8], bits: usize, at: usize) -> MaskedTook
+    requires { ⌜ count ≤ 64 ⌝ }
+    ensures { λ r. ⌜ maskedOf r ≡ maskedC count .read (bitAt (now (buf .entry))) bits at ⌝ }
+{
+    match element::bit(element::MASK_PRESENT, buf, bits, at) {
+        FlagTook::Refused(s) => MaskedTook::Refused(s),
+        FlagTook::Got(b, p) => {
+            if b {
+                return match read_mask(count, buf, bits, p) {
+                    Took::Refused(s) => MaskedTook::Refused(s),
+                    Took::Got(mask, q) => MaskedTook::Got(true, mask, q),
+                };
+            }
+            MaskedTook::Got(false, 0, p)
+        }
+    }
+}
+
+fn read_mask(count: usize, buf: &[u8], bits: usize, at: usize) -> Took
+    requires { ⌜ count ≤ 64 ⌝ }
+    ensures { λ r. ⌜ tookOf r ≡ maskC count .read (bitAt (now (buf .entry))) bits at ⌝ }
+{
+    match codec::take(element::MASK, buf, bits, at, count) {
+        Took::Refused(s) => Took::Refused(s),
+        Took::Got(v, p) => Took::Got(aligned(v, count), p),
+    }
+}
+
+// The top `count` of 64 bits.
+fn aligned(v: u64, count: usize) -> u64
+    requires { ⌜ (v < 2 ^ count) × (count ≤ 64) ⌝ }
+    ensures { λ r. ⌜ r ≡ v * 2 ^ (64 - count) ⌝ }
+{
+    if count == 0 {
+        return 0;
+    }
+    v << (64 - count)
+}
+
+fn read_result(buf: &[u8], bits: usize, at: usize) -> ResultTook
+    ensures { λ r. ⌜ resultOf r ≡ resultC .read (bitAt (now (buf .entry))) bits at ⌝ }
+{
+    match element::byte(element::RESULT, buf, bits, at, 1) {
+        ByteTook::Refused(s) => ResultTook::Refused(s),
+        ByteTook::Got(result, p) => {
+            if result == 1 {
+                return ResultTook::Got(result, 0, p);
+            }
+            match element::byte(element::REASON, buf, bits, p, 7) {
+                ByteTook::Refused(s) => ResultTook::Refused(s),
+                ByteTook::Got(reason, q) => ResultTook::Got(result, reason, q),
+            }
+        }
+    }
+}

@@ -1,0 +1,63 @@
+// One address.
+ghost use mathlib.Core.Path.{_≡_};
+ghost use Rattle.bits.specs.Fields.{bitAt};
+ghost use Rattle.message.specs.Addresses.{kindC, extensionC, addressC};
+ghost use Rattle.reading.specs.Answers.{byteOf, wordOf, addressOf};
+use crate::element;
+use crate::element::ByteTook;
+use crate::element::WordTook;
+use codec::Stop;
+use message::Address;
+
+pub enum AddressTook {
+    Got(Address, usize),
+    Refused(Stop),
+}
+
+pub fn read_address(buf: &[u8], bits: usize, at: usize) -> AddressTook
+    ensures { λ r. ⌜ addressOf r ≡ addressC .read (bitAt (now (buf .entry))) bits at ⌝ }
+{
+    match read_kind(buf, bits, at) {
+        ByteTook::Refused(s) => AddressTook::Refused(s),
+        ByteTook::Got(kind, p) => match element::word(element::SSI, buf, bits, p, 24) {
+            WordTook::Refused(s) => AddressTook::Refused(s),
+            WordTook::Got(ssi, q) => match read_extension(kind, buf, bits, q) {
+                WordTook::Refused(s) => AddressTook::Refused(s),
+                WordTook::Got(extension, e) => AddressTook::Got(
+                    Address {
+                        kind: kind,
+                        ssi: ssi,
+                        extension: extension,
+                    },
+                    e,
+                ),
+            },
+        },
+    }
+}
+
+fn read_kind(buf: &[u8], bits: usize, at: usize) -> ByteTook
+    ensures { λ r. ⌜ byteOf r ≡ kindC .read (bitAt (now (buf .entry))) bits at ⌝ }
+{
+    match element::byte(element::KIND, buf, bits, at, 2) {
+        ByteTook::Refused(s) => ByteTook::Refused(s),
+        ByteTook::Got(kind, p) => {
+            if kind == 1 {
+                return ByteTook::Got(kind, p);
+            }
+            if kind == 2 {
+                return ByteTook::Got(kind, p);
+            }
+            ByteTook::Refused(codec::refuse(10))
+        }
+    }
+}
+
+fn read_extension(kind: u8, buf: &[u8], bits: usize, at: usize) -> WordTook
+    ensures { λ r. ⌜ wordOf r ≡ extensionC kind .read (bitAt (now (buf .entry))) bits at ⌝ }
+{
+    if kind == 1 {
+        return WordTook::Got(0, at);
+    }
+    element::word(element::EXTENSION, buf, bits, at, 24)
+}
