@@ -1,0 +1,41 @@
+//! How often each message name and each refusal came in a listing's output.
+//! It also says whether every answer that reading can give came at least once.
+
+use std::collections::BTreeMap;
+use std::io::{self, Write};
+
+const NAMES: [&str; 8] = [
+    "ACCEPT",
+    "ACCEPTED",
+    "ACTIVATE",
+    "ACTIVATE ACK",
+    "DIVERT",
+    "DIVERTED",
+    "INTERCEPTED",
+    "INTERROGATE",
+];
+/// Those that reading under a sound profile can give.
+const REFUSALS: [u32; 10] = [3, 4, 5, 6, 7, 9, 10, 11, 12, 13];
+
+/// Prints the counts, names before refusals; false if an answer never came or isn't known.
+pub fn count(listing: &[u8], out: &mut dyn Write) -> io::Result<bool> {
+    let mut answers = NAMES.map(str::to_string).to_vec();
+    answers.extend(REFUSALS.iter().map(|number| format!("refused {number}")));
+
+    let mut came: BTreeMap<String, u64> = BTreeMap::new();
+    for line in String::from_utf8_lossy(listing).lines() {
+        let answer = line.split_once(' ').map_or("", |(_, answer)| answer);
+        *came.entry(answer.to_string()).or_insert(0) += 1;
+    }
+
+    let mut complete = true;
+    for answer in &answers {
+        let times = came.remove(answer).unwrap_or(0);
+        writeln!(out, "{times:9} {answer}")?;
+        complete &= times > 0;
+    }
+    for (unknown, times) in &came {
+        writeln!(out, "{times:9} not an answer of the listing: {unknown:?}")?;
+    }
+    Ok(complete && came.is_empty())
+}

@@ -1,0 +1,200 @@
+//! Valid profiles and valid messages drawn by the dice, with the edges of each number frequent.
+//! Whatever is drawn here, reading has to accept.
+
+use crate::dice::Dice;
+use crate::message::{identity_count, meaning_of, AckResult, Address, Group, Message};
+use crate::profile::{Meaning, Post, Profile, MOST_POSTS, PLACES};
+
+const LARGEST_24_BITS: u32 = (1 << 24) - 1;
+
+pub fn profile(dice: &mut Dice) -> Profile {
+    let mut meanings = [Meaning::Reserved; 16];
+    for meaning in meanings.iter_mut() {
+        *meaning = match dice.below(6) {
+            0 => Meaning::NoIdentity,
+            1 => Meaning::FirstAndLast,
+            2 => Meaning::Reserved,
+            _ => Meaning::List(1 + dice.below(15) as u8),
+        };
+    }
+    let reason_no_record = dice.number(7);
+    Profile {
+        ss_type: dice.number(6),
+        home_extension: extension(dice, 0),
+        meanings,
+        reason_no_record,
+        reason_other_post: if dice.one_in(4) {
+            reason_no_record
+        } else {
+            dice.number(7)
+        },
+        posts: posts(dice),
+    }
+}
+
+fn posts(dice: &mut Dice) -> Vec<Post> {
+    let mut posts = Vec::new();
+    let mut unreserved = PLACES;
+    for _ in 0..=dice.below(MOST_POSTS) {
+        let ceiling = 1 + dice.below(PLACES as usize) as u32;
+        let reserved = dice.below(1 + ceiling.min(unreserved) as usize) as u32;
+        unreserved -= reserved;
+        posts.push(Post { reserved, ceiling });
+    }
+    posts
+}
+
+pub fn message(dice: &mut Dice, profile: &Profile) -> Message {
+    let pdu_type = dice.pick(&[2, 2, 2, 3, 3, 3, 8, 8, 10, 10, 12, 13, 15, 16, 16]);
+    match pdu_type {
+        2 | 3 => match users(dice, profile) {
+            Some(users) if pdu_type == 2 => Message::Activate {
+                users,
+                dispatchers: dispatchers(dice, profile),
+            },
+            Some(users) => activate_ack(dice, profile, users),
+            None => Message::Accepted,
+        },
+        8 => Message::Interrogate {
+            user: address(dice, profile),
+        },
+        10 => Message::Intercepted {
+            cause: dice.number(5),
+            dispatcher: optional_address(dice, profile),
+        },
+        12 => Message::Accept {
+            identifier: identifier(dice),
+        },
+        13 => Message::Accepted,
+        15 => Message::Divert {
+            identifier: identifier(dice),
+        },
+        _ => Message::Diverted {
+            cause: dice.number(5),
+            dispatcher: optional_address(dice, profile),
+        },
+    }
+}
+
+fn activate_ack(dice: &mut Dice, profile: &Profile, users: Group) -> Message {
+    let count = identity_count(profile, &users);
+    let mask = match dice.below(6) {
+        0 => Some(vec![false; count]),
+        1 => Some(vec![true; count]),
+        2 | 3 => Some(dice.bits(count)),
+        _ => None,
+    };
+    let result = if dice.one_in(2) {
+        AckResult::Accepted
+    } else {
+        AckResult::NotAccepted {
+            reason: dice.number(7),
+        }
+    };
+    Message::ActivateAck {
+        users,
+        mask,
+        result,
+    }
+}
+
+/// Nothing if the profile has no range value that users may have.
+fn users(dice: &mut Dice, profile: &Profile) -> Option<Group> {
+    let ranges: Vec<u32> = (0..16)
+        .filter(|range| {
+            matches!(
+                meaning_of(profile, *range),
+                Meaning::List(_) | Meaning::FirstAndLast
+            )
+        })
+        .collect();
+    group(dice, profile, &ranges)
+}
+
+/// Nothing also where the dice leave the option out.
+fn dispatchers(dice: &mut Dice, profile: &Profile) -> Option<Group> {
+    if dice.one_in(3) {
+        return None;
+    }
+    let ranges: Vec<u32> = (0..16)
+        .filter(|range| meaning_of(profile, *range) != Meaning::Reserved)
+        .collect();
+    group(dice, profile, &ranges)
+}
+
+fn group(dice: &mut Dice, profile: &Profile, ranges: &[u32]) -> Option<Group> {
+    if ranges.is_empty() {
+        return None;
+    }
+    let range = dice.pick(ranges);
+    let addresses = match meaning_of(profile, range) {
+        Meaning::List(count) => (0..count).map(|_| address(dice, profile)).collect(),
+        Meaning::FirstAndLast => {
+            let span = match dice.below(4) {
+                0 => dice.pick(&[1, 2, 63, 64]),
+                _ => 1 + dice.below(64) as u32,
+            };
+            range_ends(dice, profile, span)
+        }
+        Meaning::NoIdentity | Meaning::Reserved => Vec::new(),
+    };
+    Some(Group { range, addresses })
+}
+
+/// First and last of a range of `span` identities, in any part of the number space.
+pub fn range_ends(dice: &mut Dice, profile: &Profile, span: u32) -> Vec<Address> {
+    let highest_first = LARGEST_24_BITS - (span - 1);
+    let mut first = address(dice, profile);
+    first.ssi = match dice.below(4) {
+        0 => 0,
+        1 => highest_first,
+        _ => dice.below(highest_first as usize + 1) as u32,
+    };
+    let mut last = first.clone();
+    last.ssi += span - 1;
+    vec![first, last]
+}
+
+fn optional_address(dice: &mut Dice, profile: &Profile) -> Option<Address> {
+    if dice.one_in(3) {
+        None
+    } else {
+        Some(address(dice, profile))
+    }
+}
+
+pub fn address(dice: &mut Dice, profile: &Profile) -> Address {
+    let ssi = match dice.below(4) {
+        0 => dice.pick(&[0, 1, 1 << 23, LARGEST_24_BITS]),
+        1 => 1000 + dice.below(10) as u32,
+        _ => dice.number(24),
+    };
+    if dice.one_in(2) {
+        Address {
+            kind: 1,
+            ssi,
+            extension: 0,
+        }
+    } else {
+        Address {
+            kind: 2,
+            ssi,
+            extension: extension(dice, profile.home_extension),
+        }
+    }
+}
+
+fn extension(dice: &mut Dice, home: u32) -> u32 {
+    match dice.below(4) {
+        0 => home,
+        1 => dice.pick(&[0, 1, 1 << 23, LARGEST_24_BITS]),
+        _ => dice.number(24),
+    }
+}
+
+fn identifier(dice: &mut Dice) -> u32 {
+    match dice.below(4) {
+        0 => dice.pick(&[0, 1, 5, 1 << 13, 16_383]),
+        _ => dice.number(14),
+    }
+}

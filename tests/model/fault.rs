@@ -1,0 +1,224 @@
+//! Messages with a fault in their bits, one function for each sort of fault, drawn by the dice.
+//! Some come out valid all the same: they stand on the good side of an edge.
+
+use crate::dice::Dice;
+use crate::draw;
+use crate::message::{Address, Group, Message};
+use crate::profile::Profile;
+use crate::write::{bits_of, elements};
+
+const CARRIED: [u32; 8] = [2, 3, 8, 10, 12, 13, 15, 16];
+
+pub fn sound(dice: &mut Dice, profile: &Profile) -> Vec<bool> {
+    bits_of(profile, &draw::message(dice, profile))
+}
+
+/// Another SS type, often one bit away from the profile's.
+pub fn ss_type(dice: &mut Dice, profile: &Profile) -> Vec<bool> {
+    let mut bits = sound(dice, profile);
+    if dice.one_in(2) {
+        let place = dice.below(6);
+        bits[place] = !bits[place];
+    } else {
+        let other = dice.number(6);
+        bits.splice(0..6, elements(&[(other, 6)]));
+    }
+    bits
+}
+
+/// Any of the 32 PDU types before the elements of one message.
+pub fn pdu_type(dice: &mut Dice, profile: &Profile) -> Vec<bool> {
+    let mut bits = sound(dice, profile);
+    let other = dice.number(5);
+    bits.splice(6..11, elements(&[(other, 5)]));
+    bits
+}
+
+/// Range ends that fall, span too much, or differ in kind or extension; and those just good.
+pub fn range_ends(dice: &mut Dice, profile: &Profile) -> Vec<bool> {
+    let mut message = message_with_group(dice, profile);
+    let span = dice.pick(&[1, 2, 3, 63, 64, 65, 66, 128, 1 << 16, 1 << 24]);
+    let mut ends = draw::range_ends(dice, profile, span);
+    match dice.below(8) {
+        0 => ends.swap(0, 1),
+        1 => ends[0].ssi = ends[1].ssi.saturating_add(1).min((1 << 24) - 1),
+        2 => ends[1].ssi = ends[0].ssi.saturating_sub(1),
+        3 => ends[1].kind = 3 - ends[1].kind,
+        4 => {
+            ends[0].kind = 1;
+            ends[1].kind = 2;
+            ends[1].extension = profile.home_extension;
+        }
+        5 => {
+            ends[0].kind = 2;
+            ends[1].kind = 2;
+            ends[1].extension = ends[0].extension ^ (1 << dice.below(24));
+        }
+        _ => {}
+    }
+    let mut groups = groups_of(&mut message);
+    let chosen = dice.below(groups.len());
+    *groups[chosen] = Group {
+        range: 15,
+        addresses: ends,
+    };
+    bits_of(profile, &message)
+}
+
+/// Any range number before addresses that were meant for another one.
+pub fn range(dice: &mut Dice, profile: &Profile) -> Vec<bool> {
+    let mut message = message_with_group(dice, profile);
+    let mut groups = groups_of(&mut message);
+    let chosen = dice.below(groups.len());
+    groups[chosen].range = dice.number(4);
+    bits_of(profile, &message)
+}
+
+/// Any kind, with or without the extension that belongs to it, and often nothing after it.
+pub fn kind(dice: &mut Dice, profile: &Profile) -> Vec<bool> {
+    let mut message = draw::message(dice, profile);
+    let mut addresses = addresses_of(&mut message);
+    if addresses.is_empty() {
+        let mut bits = elements(&[(profile.ss_type, 6), (8, 5), (dice.number(2), 2)]);
+        let rest = dice.pick(&[0, 1, 23, 24, 47, 48]);
+        bits.extend(dice.bits(rest));
+        return bits;
+    }
+    let chosen = dice.below(addresses.len());
+    addresses[chosen].kind = dice.pick(&[0, 0, 3, 3, 1, 2]);
+    bits_of(profile, &message)
+}
+
+/// O-bit 1, P-bit 0 or 1, and then nothing, a bit, or an address's worth of bits.
+pub fn option(dice: &mut Dice, profile: &Profile) -> Vec<bool> {
+    let mut message = draw::message(dice, profile);
+    match &mut message {
+        Message::Activate { dispatchers, .. } => *dispatchers = None,
+        Message::Intercepted { dispatcher, .. } | Message::Diverted { dispatcher, .. } => {
+            *dispatcher = None;
+        }
+        _ => {
+            message = Message::Intercepted {
+                cause: dice.number(5),
+                dispatcher: None,
+            };
+        }
+    }
+    let mut bits = bits_of(profile, &message);
+    let o_bit = bits.len() - 1;
+    bits[o_bit] = true;
+    if !dice.one_in(4) {
+        let p_bit = dice.one_in(4);
+        bits.push(p_bit);
+        let rest = dice.pick(&[0, 1, 2, 4, 26, 30, 50]);
+        bits.extend(dice.bits(rest));
+    }
+    bits
+}
+
+/// A mask one bit too long or too short, which moves the result and the reason.
+pub fn mask(dice: &mut Dice, profile: &Profile) -> Vec<bool> {
+    loop {
+        let mut message = draw::message(dice, profile);
+        if let Message::ActivateAck {
+            mask: Some(mask), ..
+        } = &mut message
+        {
+            if dice.one_in(2) {
+                mask.push(dice.one_in(2));
+            } else {
+                mask.pop();
+            }
+            return bits_of(profile, &message);
+        }
+    }
+}
+
+/// A good header and then any bits.
+pub fn content(dice: &mut Dice, profile: &Profile) -> Vec<bool> {
+    let mut bits = elements(&[(profile.ss_type, 6), (dice.pick(&CARRIED), 5)]);
+    let rest = match dice.below(3) {
+        0 => dice.pick(&[0, 5, 6, 14, 26, 50]),
+        _ => dice.below(330),
+    };
+    bits.extend(dice.bits(rest));
+    bits
+}
+
+/// A second fault on top of whatever the bits have already; one of them decides the refusal.
+pub fn touch(dice: &mut Dice, bits: &mut Vec<bool>) {
+    match dice.below(5) {
+        0 => bits.truncate(dice.below(bits.len() + 1)),
+        1 => leave_over(dice, bits),
+        2 => {
+            bits.insert(dice.below(bits.len() + 1), true);
+        }
+        3 => {
+            bits.remove(dice.below(bits.len()));
+        }
+        _ => flip(dice, bits),
+    }
+}
+
+pub fn leave_over(dice: &mut Dice, bits: &mut Vec<bool>) {
+    let more = match dice.below(4) {
+        0 => dice.below(300),
+        _ => dice.pick(&[1, 1, 2, 7, 8, 9]),
+    };
+    if dice.one_in(3) {
+        bits.extend(vec![false; more]);
+    } else {
+        bits.extend(dice.bits(more));
+    }
+}
+
+/// Flips one to five bits, half of the time within the first 20, where most is decided.
+pub fn flip(dice: &mut Dice, bits: &mut [bool]) {
+    for _ in 0..=dice.below(5) {
+        let within = if dice.one_in(2) {
+            bits.len().min(20)
+        } else {
+            bits.len()
+        };
+        let place = dice.below(within);
+        bits[place] = !bits[place];
+    }
+}
+
+fn message_with_group(dice: &mut Dice, profile: &Profile) -> Message {
+    loop {
+        let mut message = draw::message(dice, profile);
+        if !groups_of(&mut message).is_empty() {
+            return message;
+        }
+    }
+}
+
+fn groups_of(message: &mut Message) -> Vec<&mut Group> {
+    match message {
+        Message::Activate {
+            users,
+            dispatchers: Some(dispatchers),
+        } => vec![users, dispatchers],
+        Message::Activate { users, .. } | Message::ActivateAck { users, .. } => vec![users],
+        _ => Vec::new(),
+    }
+}
+
+fn addresses_of(message: &mut Message) -> Vec<&mut Address> {
+    match message {
+        Message::Interrogate { user } => vec![user],
+        Message::Intercepted {
+            dispatcher: Some(dispatcher),
+            ..
+        }
+        | Message::Diverted {
+            dispatcher: Some(dispatcher),
+            ..
+        } => vec![dispatcher],
+        _ => groups_of(message)
+            .into_iter()
+            .flat_map(|group| group.addresses.iter_mut())
+            .collect(),
+    }
+}

@@ -1,0 +1,59 @@
+//! The shape of one input line of the listing: a bit length, one space, hex digits.
+//! Lines are bytes, not text: any byte may come.
+
+const MOST_LENGTH_DIGITS: usize = 4;
+const MOST_HEX_DIGITS: usize = 512;
+
+/// The bit length and bytes that a line gives, or nothing if it has another shape.
+pub fn read_line(line: &[u8]) -> Option<(usize, Vec<u8>)> {
+    let space = line.iter().position(|byte| *byte == b' ')?;
+    let length = read_length(&line[..space])?;
+    let hex = &line[space + 1..];
+    if hex.len() > MOST_HEX_DIGITS {
+        return None;
+    }
+    Some((length, read_hex(hex)?))
+}
+
+fn read_length(digits: &[u8]) -> Option<usize> {
+    if digits.is_empty() || digits.len() > MOST_LENGTH_DIGITS {
+        return None;
+    }
+    let mut length = 0;
+    for digit in digits {
+        if !digit.is_ascii_digit() {
+            return None;
+        }
+        length = 10 * length + usize::from(digit - b'0');
+    }
+    Some(length)
+}
+
+/// The bytes of an even number of upper-case hex digits.
+pub fn read_hex(hex: &[u8]) -> Option<Vec<u8>> {
+    if hex.len() % 2 != 0 {
+        return None;
+    }
+    let mut bytes = Vec::new();
+    for pair in hex.chunks(2) {
+        bytes.push(16 * hex_value(pair[0])? + hex_value(pair[1])?);
+    }
+    Some(bytes)
+}
+
+fn hex_value(digit: u8) -> Option<u8> {
+    match digit {
+        b'0'..=b'9' => Some(digit - b'0'),
+        b'A'..=b'F' => Some(digit - b'A' + 10),
+        _ => None,
+    }
+}
+
+/// The line for a bit length and bytes; of the right shape up to 9,999 bits and 256 bytes.
+pub fn line_of(length: usize, bytes: &[u8]) -> Vec<u8> {
+    let mut line = format!("{length} ");
+    for byte in bytes {
+        line.push_str(&format!("{byte:02X}"));
+    }
+    line.into_bytes()
+}

@@ -1,0 +1,70 @@
+//! An independent model of the SS-CAD message reader and of the listing program.
+//! It shares nothing with the product: where the two differ, document 01 decides.
+
+mod bits;
+mod count;
+mod dice;
+mod draw;
+mod fault;
+mod generate;
+mod line;
+mod listing;
+mod message;
+mod odd;
+mod profile;
+mod selftest;
+mod shapes;
+mod suite;
+mod worked;
+mod write;
+
+use std::env;
+use std::io::{self, BufWriter, Read, Write};
+use std::process::ExitCode;
+
+const USAGE: &str = "usage: model listing | generate SEED COUNT | suite | count | selftest";
+
+fn main() -> ExitCode {
+    let arguments: Vec<String> = env::args_os()
+        .skip(1)
+        .map(|argument| argument.to_string_lossy().into_owned())
+        .collect();
+    let words: Vec<&str> = arguments.iter().map(String::as_str).collect();
+    match run(&words) {
+        Ok(Some(true)) => ExitCode::SUCCESS,
+        Ok(Some(false)) => ExitCode::from(1),
+        Ok(None) => {
+            eprintln!("{USAGE}");
+            ExitCode::from(2)
+        }
+        Err(error) => {
+            eprintln!("model: {error}");
+            ExitCode::from(1)
+        }
+    }
+}
+
+/// Whether the subcommand found all good; nothing if there is no such subcommand.
+fn run(words: &[&str]) -> io::Result<Option<bool>> {
+    let mut out = BufWriter::new(io::stdout());
+    let mut good = true;
+    match words {
+        ["listing"] => listing::list(&standard_input()?, &mut out)?,
+        ["generate", seed, count] => match (seed.parse(), count.parse()) {
+            (Ok(seed), Ok(count)) => generate::generate(seed, count, &mut out)?,
+            _ => return Ok(None),
+        },
+        ["suite"] => suite::write_suite(&mut out)?,
+        ["count"] => good = count::count(&standard_input()?, &mut out)?,
+        ["selftest"] => good = selftest::selftest(&mut out)?,
+        _ => return Ok(None),
+    }
+    out.flush()?;
+    Ok(Some(good))
+}
+
+fn standard_input() -> io::Result<Vec<u8>> {
+    let mut input = Vec::new();
+    io::stdin().lock().read_to_end(&mut input)?;
+    Ok(input)
+}

@@ -1,0 +1,257 @@
+//! The eight messages of the base and how one is read from a byte buffer and a bit length.
+//! Every refusal is given by document 01's number, in the order of its "Order" paragraph.
+
+use crate::bits::{Bits, Refusal};
+use crate::profile::{Meaning, Profile};
+
+pub const MOST_BITS: usize = 2048;
+pub const MOST_IDENTITIES: u32 = 64;
+
+/// `extension` is 0 with kind 1, which doesn't carry one.
+#[derive(Clone, PartialEq, Eq, Debug)]
+pub struct Address {
+    pub kind: u32,
+    pub ssi: u32,
+    pub extension: u32,
+}
+
+/// A range number and the addresses that it announces: those of a list, or first and last.
+#[derive(Clone, PartialEq, Eq, Debug)]
+pub struct Group {
+    pub range: u32,
+    pub addresses: Vec<Address>,
+}
+
+#[derive(Clone, PartialEq, Eq, Debug)]
+pub enum AckResult {
+    Accepted,
+    NotAccepted { reason: u32 },
+}
+
+#[derive(Clone, PartialEq, Eq, Debug)]
+pub enum Message {
+    Activate {
+        users: Group,
+        dispatchers: Option<Group>,
+    },
+    ActivateAck {
+        users: Group,
+        mask: Option<Vec<bool>>,
+        result: AckResult,
+    },
+    Interrogate {
+        user: Address,
+    },
+    Intercepted {
+        cause: u32,
+        dispatcher: Option<Address>,
+    },
+    Accept {
+        identifier: u32,
+    },
+    Accepted,
+    Divert {
+        identifier: u32,
+    },
+    Diverted {
+        cause: u32,
+        dispatcher: Option<Address>,
+    },
+}
+
+impl Message {
+    pub fn pdu_type(&self) -> u32 {
+        match self {
+            Message::Activate { .. } => 2,
+            Message::ActivateAck { .. } => 3,
+            Message::Interrogate { .. } => 8,
+            Message::Intercepted { .. } => 10,
+            Message::Accept { .. } => 12,
+            Message::Accepted => 13,
+            Message::Divert { .. } => 15,
+            Message::Diverted { .. } => 16,
+        }
+    }
+
+    pub fn name(&self) -> &'static str {
+        match self {
+            Message::Activate { .. } => "ACTIVATE",
+            Message::ActivateAck { .. } => "ACTIVATE ACK",
+            Message::Interrogate { .. } => "INTERROGATE",
+            Message::Intercepted { .. } => "INTERCEPTED",
+            Message::Accept { .. } => "ACCEPT",
+            Message::Accepted => "ACCEPTED",
+            Message::Divert { .. } => "DIVERT",
+            Message::Diverted { .. } => "DIVERTED",
+        }
+    }
+}
+
+pub fn read(profile: &Profile, bytes: &[u8], length: usize) -> Result<Message, Refusal> {
+    if !profile.keeps_rules() {
+        return Err(1);
+    }
+    if length == 0 || length > MOST_BITS || length > 8 * bytes.len() {
+        return Err(3);
+    }
+    let mut bits = Bits::new(bytes, length);
+    let message = read_elements(profile, &mut bits)?;
+    if bits.left() > 0 {
+        return Err(13);
+    }
+    Ok(message)
+}
+
+fn read_elements(profile: &Profile, bits: &mut Bits) -> Result<Message, Refusal> {
+    // The header is both fields: neither is judged before both are there.
+    let ss_type = bits.take(6)?;
+    let pdu_type = bits.take(5)?;
+    if ss_type != profile.ss_type {
+        return Err(5);
+    }
+    match pdu_type {
+        0 | 1 | 19..=31 => Err(6),
+        2 => read_activate(profile, bits),
+        3 => read_activate_ack(profile, bits),
+        8 => Ok(Message::Interrogate {
+            user: read_address(bits)?,
+        }),
+        10 => Ok(Message::Intercepted {
+            cause: bits.take(5)?,
+            dispatcher: read_optional_address(bits)?,
+        }),
+        12 => Ok(Message::Accept {
+            identifier: bits.take(14)?,
+        }),
+        13 => Ok(Message::Accepted),
+        15 => Ok(Message::Divert {
+            identifier: bits.take(14)?,
+        }),
+        16 => Ok(Message::Diverted {
+            cause: bits.take(5)?,
+            dispatcher: read_optional_address(bits)?,
+        }),
+        // 4 to 7, 9, 11, 14, 17 and 18: the CAD types that are not carried yet.
+        _ => Err(7),
+    }
+}
+
+fn read_activate(profile: &Profile, bits: &mut Bits) -> Result<Message, Refusal> {
+    let users = read_users(profile, bits)?;
+    let mut dispatchers = None;
+    if read_option_present(bits)? {
+        dispatchers = Some(read_group(profile, bits)?);
+    }
+    Ok(Message::Activate { users, dispatchers })
+}
+
+fn read_activate_ack(profile: &Profile, bits: &mut Bits) -> Result<Message, Refusal> {
+    let users = read_users(profile, bits)?;
+    let mut mask = None;
+    if bits.take(1)? == 1 {
+        mask = Some(bits.take_bits(identity_count(profile, &users))?);
+    }
+    let result = if bits.take(1)? == 1 {
+        AckResult::Accepted
+    } else {
+        AckResult::NotAccepted {
+            reason: bits.take(7)?,
+        }
+    };
+    Ok(Message::ActivateAck {
+        users,
+        mask,
+        result,
+    })
+}
+
+/// The O-bit, and after an O-bit of 1 the one P-bit, which has to be 1.
+fn read_option_present(bits: &mut Bits) -> Result<bool, Refusal> {
+    if bits.take(1)? == 0 {
+        return Ok(false);
+    }
+    if bits.take(1)? == 0 {
+        return Err(12);
+    }
+    Ok(true)
+}
+
+fn read_optional_address(bits: &mut Bits) -> Result<Option<Address>, Refusal> {
+    if read_option_present(bits)? {
+        Ok(Some(read_address(bits)?))
+    } else {
+        Ok(None)
+    }
+}
+
+fn read_users(profile: &Profile, bits: &mut Bits) -> Result<Group, Refusal> {
+    let range = bits.take(4)?;
+    if meaning_of(profile, range) == Meaning::NoIdentity {
+        return Err(9);
+    }
+    read_addresses(profile, range, bits)
+}
+
+/// A group that may be "none", as the dispatchers may.
+fn read_group(profile: &Profile, bits: &mut Bits) -> Result<Group, Refusal> {
+    let range = bits.take(4)?;
+    read_addresses(profile, range, bits)
+}
+
+fn read_addresses(profile: &Profile, range: u32, bits: &mut Bits) -> Result<Group, Refusal> {
+    let mut addresses = Vec::new();
+    match meaning_of(profile, range) {
+        Meaning::Reserved => return Err(9),
+        Meaning::NoIdentity => {}
+        Meaning::List(count) => {
+            for _ in 0..count {
+                addresses.push(read_address(bits)?);
+            }
+        }
+        Meaning::FirstAndLast => {
+            let first = read_address(bits)?;
+            let last = read_address(bits)?;
+            if !are_range_ends(&first, &last) {
+                return Err(11);
+            }
+            addresses.push(first);
+            addresses.push(last);
+        }
+    }
+    Ok(Group { range, addresses })
+}
+
+fn are_range_ends(first: &Address, last: &Address) -> bool {
+    if first.kind != last.kind || first.extension != last.extension || first.ssi > last.ssi {
+        return false;
+    }
+    let span = last.ssi - first.ssi + 1;
+    span <= MOST_IDENTITIES
+}
+
+fn read_address(bits: &mut Bits) -> Result<Address, Refusal> {
+    let kind = bits.take(2)?;
+    if kind == 0 || kind == 3 {
+        return Err(10);
+    }
+    let ssi = bits.take(24)?;
+    let extension = if kind == 2 { bits.take(24)? } else { 0 };
+    Ok(Address {
+        kind,
+        ssi,
+        extension,
+    })
+}
+
+pub fn meaning_of(profile: &Profile, range: u32) -> Meaning {
+    profile.meanings[range as usize]
+}
+
+/// How many identities a group names, which is also the width of its mask.
+/// The group has to be one that reading accepts.
+pub fn identity_count(profile: &Profile, group: &Group) -> usize {
+    match meaning_of(profile, group.range) {
+        Meaning::FirstAndLast => (group.addresses[1].ssi - group.addresses[0].ssi + 1) as usize,
+        _ => group.addresses.len(),
+    }
+}

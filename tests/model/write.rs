@@ -1,0 +1,105 @@
+//! The bits of a message, element by element, and their bytes with zero spare bits.
+//! It checks nothing: a value that reading would refuse is written as it stands.
+
+use crate::message::{AckResult, Address, Group, Message};
+use crate::profile::Profile;
+
+/// Appends one element, most significant bit first.
+pub fn put(bits: &mut Vec<bool>, number: u32, width: usize) {
+    for place in (0..width).rev() {
+        bits.push((number >> place) & 1 == 1);
+    }
+}
+
+/// The bits of a row of elements, each given as its number and width.
+pub fn elements(row: &[(u32, usize)]) -> Vec<bool> {
+    let mut bits = Vec::new();
+    for (number, width) in row {
+        put(&mut bits, *number, *width);
+    }
+    bits
+}
+
+pub fn bits_of(profile: &Profile, message: &Message) -> Vec<bool> {
+    let mut bits = elements(&[(profile.ss_type, 6), (message.pdu_type(), 5)]);
+    match message {
+        Message::Activate { users, dispatchers } => {
+            put_group(&mut bits, users);
+            put_option_present(&mut bits, dispatchers.is_some());
+            if let Some(group) = dispatchers {
+                put_group(&mut bits, group);
+            }
+        }
+        Message::ActivateAck {
+            users,
+            mask,
+            result,
+        } => {
+            put_group(&mut bits, users);
+            put(&mut bits, u32::from(mask.is_some()), 1);
+            if let Some(mask) = mask {
+                bits.extend(mask);
+            }
+            put_result(&mut bits, result);
+        }
+        Message::Interrogate { user } => put_address(&mut bits, user),
+        Message::Intercepted { cause, dispatcher } | Message::Diverted { cause, dispatcher } => {
+            put(&mut bits, *cause, 5);
+            put_option_present(&mut bits, dispatcher.is_some());
+            if let Some(address) = dispatcher {
+                put_address(&mut bits, address);
+            }
+        }
+        Message::Accept { identifier } | Message::Divert { identifier } => {
+            put(&mut bits, *identifier, 14);
+        }
+        Message::Accepted => {}
+    }
+    bits
+}
+
+fn put_group(bits: &mut Vec<bool>, group: &Group) {
+    put(bits, group.range, 4);
+    for address in &group.addresses {
+        put_address(bits, address);
+    }
+}
+
+fn put_address(bits: &mut Vec<bool>, address: &Address) {
+    put(bits, address.kind, 2);
+    put(bits, address.ssi, 24);
+    if address.kind == 2 {
+        put(bits, address.extension, 24);
+    }
+}
+
+/// The O-bit, and after an O-bit of 1 the P-bit.
+fn put_option_present(bits: &mut Vec<bool>, present: bool) {
+    if present {
+        put(bits, 0b11, 2);
+    } else {
+        put(bits, 0, 1);
+    }
+}
+
+fn put_result(bits: &mut Vec<bool>, result: &AckResult) {
+    match result {
+        AckResult::Accepted => put(bits, 1, 1),
+        AckResult::NotAccepted { reason } => {
+            put(bits, 0, 1);
+            put(bits, *reason, 7);
+        }
+    }
+}
+
+pub fn bytes_of(bits: &[bool]) -> Vec<u8> {
+    let mut bytes = Vec::new();
+    for eight in bits.chunks(8) {
+        let mut byte = 0;
+        for (from_top, bit) in eight.iter().enumerate() {
+            byte |= u8::from(*bit) << (7 - from_top);
+        }
+        bytes.push(byte);
+    }
+    bytes
+}
