@@ -1,0 +1,3 @@
+pub mod ShapeLaws
+pub mod SayLaws
+pub mod KeepLaws

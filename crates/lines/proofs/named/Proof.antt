@@ -1,0 +1,76 @@
+-- `lines::named` meets its contract. Assumes nothing.
+use borrow.Author.Tests.{eq-eqb, ne-eqb}
+use Rattle.lines.specs.Saying.{nameOf, textOf}
+use Rattle.lines.proofs.named.Statement.{statement}
+use Rattle.lines.proofs.named.Tie as tie
+
+returns : tie.Need-returns
+unfolding nameOf textOf
+returns c = rw (eq-eqb _ _ (c .if1 .taken))
+
+returns-2 : tie.Need-returns-2
+unfolding nameOf textOf
+returns-2 c =
+    let p1 = c .before in
+    rw (ne-eqb _ _ (p1 .if1 .left), eq-eqb _ _ (c .if2 .taken))
+
+returns-3 : tie.Need-returns-3
+unfolding nameOf textOf
+returns-3 c =
+    let p1 = c .before .before in
+    let p2 = c .before in
+    rw (ne-eqb _ _ (p1 .if1 .left), ne-eqb _ _ (p2 .if2 .left), eq-eqb _ _ (c .if3 .taken))
+
+returns-4 : tie.Need-returns-4
+unfolding nameOf textOf
+returns-4 c =
+    let p1 = c .before .before .before in
+    let p2 = c .before .before in
+    let p3 = c .before in
+    rw (ne-eqb _ _ (p1 .if1 .left), ne-eqb _ _ (p2 .if2 .left), ne-eqb _ _ (p3 .if3 .left), eq-eqb _ _ (c .if4 .taken))
+
+returns-5 : tie.Need-returns-5
+unfolding nameOf textOf
+returns-5 c =
+    let p1 = c .before .before .before .before in
+    let p2 = c .before .before .before in
+    let p3 = c .before .before in
+    let p4 = c .before in
+    rw (ne-eqb _ _ (p1 .if1 .left), ne-eqb _ _ (p2 .if2 .left), ne-eqb _ _ (p3 .if3 .left), ne-eqb _ _ (p4 .if4 .left), eq-eqb _ _ (c .if5 .taken))
+
+returns-6 : tie.Need-returns-6
+unfolding nameOf textOf
+returns-6 c =
+    let p1 = c .before .before .before .before .before in
+    let p2 = c .before .before .before .before in
+    let p3 = c .before .before .before in
+    let p4 = c .before .before in
+    let p5 = c .before in
+    rw (ne-eqb _ _ (p1 .if1 .left), ne-eqb _ _ (p2 .if2 .left), ne-eqb _ _ (p3 .if3 .left), ne-eqb _ _ (p4 .if4 .left), ne-eqb _ _ (p5 .if5 .left), eq-eqb _ _ (c .if6 .taken))
+
+returns-7 : tie.Need-returns-7
+unfolding nameOf textOf
+returns-7 c =
+    let p1 = c .before .before .before .before .before .before in
+    let p2 = c .before .before .before .before .before in
+    let p3 = c .before .before .before .before in
+    let p4 = c .before .before .before in
+    let p5 = c .before .before in
+    let p6 = c .before in
+    rw (ne-eqb _ _ (p1 .if1 .left), ne-eqb _ _ (p2 .if2 .left), ne-eqb _ _ (p3 .if3 .left), ne-eqb _ _ (p4 .if4 .left), ne-eqb _ _ (p5 .if5 .left), ne-eqb _ _ (p6 .if6 .left), eq-eqb _ _ (c .if7 .taken))
+
+returns-8 : tie.Need-returns-8
+unfolding nameOf textOf
+returns-8 c =
+    let p1 = c .before .before .before .before .before .before in
+    let p2 = c .before .before .before .before .before in
+    let p3 = c .before .before .before .before in
+    let p4 = c .before .before .before in
+    let p5 = c .before .before in
+    let p6 = c .before in
+    rw (ne-eqb _ _ (p1 .if1 .left), ne-eqb _ _ (p2 .if2 .left), ne-eqb _ _ (p3 .if3 .left), ne-eqb _ _ (p4 .if4 .left), ne-eqb _ _ (p5 .if5 .left), ne-eqb _ _ (p6 .if6 .left), ne-eqb _ _ (c .if7 .left))
+
+pub named-spec : {M : Type 1} → statement M
+named-spec =
+    tie.close
+    (tie.spec returns returns-2 returns-3 returns-4 returns-5 returns-6 returns-7 returns-8)

@@ -1,0 +1,16 @@
+-- The start of a line that comes in pieces, of which 518 bytes are kept: one more than any line of the right shape has.
+use Prim.Native.Nat.{ℕ, _+_, _-_, min}
+use mathlib.Core.List.{List}
+use lib.ListN.{length, take, replicate}
+use lib.Seq.{sets}
+use Rattle.lines.specs.declared.Kept.{Kept}
+
+unfoldable pub nothingKept : Kept
+nothingKept = record { len = 0; bytes = replicate 518 0 }
+
+-- as many more bytes as there is room for
+unfoldable pub roomFor : Kept → List ℕ → ℕ
+roomFor kept piece = min (518 - kept .len) (length piece)
+
+unfoldable pub keepOf : Kept → List ℕ → Kept
+keepOf kept piece = record { len = kept .len + roomFor kept piece; bytes = sets (kept .bytes) (kept .len) (take (roomFor kept piece) piece) }

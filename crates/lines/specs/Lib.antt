@@ -1,0 +1,4 @@
+pub mod Shape
+pub mod Saying
+pub mod Keeping
+pub mod Parsing

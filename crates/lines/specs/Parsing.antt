@@ -1,0 +1,15 @@
+-- What the code's answer says of a line.
+use Prim.Native.Nat.{ℕ, _≤_}
+use mathlib.Core.Path.{_≡_}
+use mathlib.Core.Bool.{Bool, true, false, cond}
+use mathlib.Core.List.{List}
+use lib.ListN.{take}
+use Rattle.lines.specs.Shape.{Line, good, other}
+use Rattle.lines.specs.declared.Parsed.{Parsed}
+
+abbrev pub parsedOf : Parsed → Line
+parsedOf r = cond (r .good) (good (r .bits) (take (r .count) (r .bytes))) other
+
+pub record Parses (r : Parsed) (l : Line) : Type 0 where
+  pub line : parsedOf r ≡ l
+  pub few : r .count ≤ 256

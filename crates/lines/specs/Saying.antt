@@ -1,0 +1,59 @@
+-- What is printed for a line after its number: the message's name in capitals, or `refused` and the number, under the sample profile.
+use Prim.Native.Nat.{ℕ, _+_, _/_, _%_}
+use mathlib.Core.Bool.{Bool, cond}
+use mathlib.Core.List.{List, [], _∷_}
+use lib.Dec.{eqb, ltb}
+use lib.ListN.{length, replicate}
+use lib.Seq.{sets}
+use Rattle.codec.specs.Codec.{Read, got, no}
+use Rattle.profile.specs.Sample.{sample}
+use Rattle.message.specs.Reading.{readOf}
+use Rattle.message.specs.declared.Value.{Value}
+use Rattle.lines.specs.Shape.{Line, good, other, lineOf}
+use Rattle.lines.specs.declared.Text.{Text}
+
+-- the name of a message of PDU type t
+unfoldable pub nameOf : ℕ → List ℕ
+nameOf t =
+    -- ACTIVATE
+    cond (eqb t 2) (65 ∷ 67 ∷ 84 ∷ 73 ∷ 86 ∷ 65 ∷ 84 ∷ 69 ∷ [])
+    -- ACTIVATE ACK
+    (cond (eqb t 3) (65 ∷ 67 ∷ 84 ∷ 73 ∷ 86 ∷ 65 ∷ 84 ∷ 69 ∷ 32 ∷ 65 ∷ 67 ∷ 75 ∷ [])
+    -- INTERROGATE
+    (cond (eqb t 8) (73 ∷ 78 ∷ 84 ∷ 69 ∷ 82 ∷ 82 ∷ 79 ∷ 71 ∷ 65 ∷ 84 ∷ 69 ∷ [])
+    -- INTERCEPTED
+    (cond (eqb t 10) (73 ∷ 78 ∷ 84 ∷ 69 ∷ 82 ∷ 67 ∷ 69 ∷ 80 ∷ 84 ∷ 69 ∷ 68 ∷ [])
+    -- ACCEPT
+    (cond (eqb t 12) (65 ∷ 67 ∷ 67 ∷ 69 ∷ 80 ∷ 84 ∷ [])
+    -- ACCEPTED
+    (cond (eqb t 13) (65 ∷ 67 ∷ 67 ∷ 69 ∷ 80 ∷ 84 ∷ 69 ∷ 68 ∷ [])
+    -- DIVERT
+    (cond (eqb t 15) (68 ∷ 73 ∷ 86 ∷ 69 ∷ 82 ∷ 84 ∷ [])
+    -- DIVERTED
+    (68 ∷ 73 ∷ 86 ∷ 69 ∷ 82 ∷ 84 ∷ 69 ∷ 68 ∷ [])))))))
+
+-- `refused ` and a number below 256 in decimal
+abbrev pub decimalOf : ℕ → List ℕ
+decimalOf n =
+    cond (ltb n 10) ((48 + n) ∷ [])
+    (cond (ltb n 100) ((48 + n / 10) ∷ (48 + n % 10) ∷ []) ((48 + n / 100) ∷ (48 + n / 10 % 10) ∷ (48 + n % 10) ∷ []))
+
+unfoldable pub refusedOf : ℕ → List ℕ
+refusedOf n = 114 ∷ 101 ∷ 102 ∷ 117 ∷ 115 ∷ 101 ∷ 100 ∷ 32 ∷ decimalOf n
+
+-- what a reading comes to
+unfoldable pub answerOf : Read Value → List ℕ
+answerOf (got v p) = nameOf (v .pdu)
+answerOf (no s) = refusedOf (s .number)
+
+-- a line of another shape is `refused 3`
+abbrev pub sayOf : Line → List ℕ
+sayOf (good bits bytes) = answerOf (readOf sample bytes bits)
+sayOf other = refusedOf 3
+
+unfoldable pub saidOf : List ℕ → List ℕ
+saidOf line = sayOf (lineOf line)
+
+-- the bytes of a text at the front of twelve
+unfoldable pub textOf : List ℕ → Text
+textOf xs = record { len = length xs; bytes = sets (replicate 12 0) 0 xs }

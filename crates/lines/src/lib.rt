@@ -1,0 +1,404 @@
+// One line of the listing: from its bytes to what is printed after its number (document 01, "Bits and calls worked out").
+//
+// `said` equals `saidOf` for every line. A line that comes in pieces is put together by `keep`, of which the first 518 bytes count:
+// a longer line has another shape, and so have its first 518 bytes (proofs/KeepLaws), so that a line may have any length.
+ghost use mathlib.Core.Path.{_≡_};
+ghost use mathlib.Core.Bool.{Bool};
+ghost use mathlib.Core.List.{[]};
+ghost use Prim.Native.Nat.{_+_, _-_, _<_, _≤_, min};
+ghost use lib.ListN.{length, take, drop};
+ghost use Rattle.profile.specs.Sample.{sample};
+ghost use Rattle.message.specs.Reading.{readOf};
+ghost use Rattle.lines.specs.Shape.{other, isDigit, hexOf, hexThen, afterDigits, lineOf};
+ghost use Rattle.lines.specs.Saying.{nameOf, refusedOf, answerOf, saidOf, textOf};
+ghost use Rattle.lines.specs.Keeping.{nothingKept, keepOf};
+ghost use Rattle.lines.specs.Parsing.{Parses};
+
+// The first `len` of the bytes; the others are zero.
+pub struct Text {
+    pub len: usize,
+    pub bytes: [u8; 12],
+}
+
+// The first `len` of the bytes are the start of a line.
+pub struct Kept {
+    pub len: usize,
+    pub bytes: [u8; 518],
+}
+
+// A line of the right shape, or not; its first `count` bytes are the message's.
+struct Parsed {
+    good: bool,
+    bits: usize,
+    count: usize,
+    bytes: [u8; 256],
+}
+
+// What is printed for a line after its number.
+pub fn said(line: &[u8]) -> Text
+    ensures { λ r. ⌜ r ≡ textOf (saidOf (now (line .entry))) ⌝ }
+{
+    let parsed = parse(line);
+    if parsed.good {
+        let bytes = parsed.bytes;
+        return answered_first(bytes, parsed.count, parsed.bits);
+    }
+    refused(3)
+}
+
+// Nothing of a line is there yet.
+pub fn nothing_kept() -> Kept
+    ensures { λ r. ⌜ r ≡ nothingKept ⌝ }
+{
+    Kept {
+        len: 0,
+        bytes: [0; 518],
+    }
+}
+
+// One more piece of a line, as far as there is room.
+pub fn keep(kept: Kept, piece: &[u8]) -> Kept
+    ensures { λ r. ⌜ r ≡ keepOf kept (now (piece .entry)) ⌝ }
+{
+    let start = kept.len;
+    let mut bytes = kept.bytes;
+    let n = room_for(start, piece.len());
+    let mut i: usize = 0;
+    while i < n {
+        bytes[start + i] = piece[i];
+        i += 1;
+    }
+    Kept {
+        len: start + n,
+        bytes: bytes,
+    }
+}
+
+// What is printed for a line that came in pieces.
+pub fn said_kept(kept: Kept) -> Text
+    ensures { λ r. ⌜ r ≡ textOf (saidOf (take (kept .len) (kept .bytes))) ⌝ }
+{
+    let bytes = kept.bytes;
+    said_first(bytes, kept.len)
+}
+
+fn said_first(bytes: [u8; 518], len: usize) -> Text
+    ensures { λ r. ⌜ r ≡ textOf (saidOf (take len bytes)) ⌝ }
+{
+    let line: &[u8] = &bytes;
+    if len > 518 {
+        return said(line);
+    }
+    said(&line[..len])
+}
+
+fn room_for(len: usize, more: usize) -> usize
+    ensures { λ r. ⌜ (r ≡ min (518 - len) more) × ((r ≤ 518 - len) × (r ≤ more)) ⌝ }
+{
+    if len >= 518 {
+        return 0;
+    }
+    if 518 - len < more {
+        return 518 - len;
+    }
+    more
+}
+
+// ---- what is printed
+
+// The message is the first `count` of these bytes.
+fn answered_first(bytes: [u8; 256], count: usize, bits: usize) -> Text
+    requires { ⌜ count ≤ 256 ⌝ }
+    ensures { λ r. ⌜ r ≡ textOf (answerOf (readOf sample (take count bytes) bits)) ⌝ }
+{
+    let message: &[u8] = &bytes;
+    answered(&message[..count], bits)
+}
+
+fn answered(message: &[u8], bits: usize) -> Text
+    ensures { λ r. ⌜ r ≡ textOf (answerOf (readOf sample (now (message .entry)) bits)) ⌝ }
+{
+    let r = reading::read(profile::sample_profile(), message, bits);
+    if r.found {
+        let value = r.value;
+        return named(value.pdu);
+    }
+    let stop = r.stop;
+    refused(stop.number)
+}
+
+fn named(pdu: u8) -> Text
+    ensures { λ r. ⌜ r ≡ textOf (nameOf pdu) ⌝ }
+{
+    if pdu == 2 {
+        return ACTIVATE;
+    }
+    if pdu == 3 {
+        return ACTIVATE_ACK;
+    }
+    if pdu == 8 {
+        return INTERROGATE;
+    }
+    if pdu == 10 {
+        return INTERCEPTED;
+    }
+    if pdu == 12 {
+        return ACCEPT;
+    }
+    if pdu == 13 {
+        return ACCEPTED;
+    }
+    if pdu == 15 {
+        return DIVERT;
+    }
+    DIVERTED
+}
+
+const ACTIVATE: Text = Text {
+    len: 8,
+    bytes: [b'A', b'C', b'T', b'I', b'V', b'A', b'T', b'E', 0, 0, 0, 0],
+};
+
+const ACTIVATE_ACK: Text = Text {
+    len: 12,
+    bytes: [
+        b'A',
+        b'C',
+        b'T',
+        b'I',
+        b'V',
+        b'A',
+        b'T',
+        b'E',
+        b' ',
+        b'A',
+        b'C',
+        b'K',
+    ],
+};
+
+const INTERROGATE: Text = Text {
+    len: 11,
+    bytes: [
+        b'I',
+        b'N',
+        b'T',
+        b'E',
+        b'R',
+        b'R',
+        b'O',
+        b'G',
+        b'A',
+        b'T',
+        b'E',
+        0,
+    ],
+};
+
+const INTERCEPTED: Text = Text {
+    len: 11,
+    bytes: [
+        b'I',
+        b'N',
+        b'T',
+        b'E',
+        b'R',
+        b'C',
+        b'E',
+        b'P',
+        b'T',
+        b'E',
+        b'D',
+        0,
+    ],
+};
+
+const ACCEPT: Text = Text {
+    len: 6,
+    bytes: [b'A', b'C', b'C', b'E', b'P', b'T', 0, 0, 0, 0, 0, 0],
+};
+
+const ACCEPTED: Text = Text {
+    len: 8,
+    bytes: [b'A', b'C', b'C', b'E', b'P', b'T', b'E', b'D', 0, 0, 0, 0],
+};
+
+const DIVERT: Text = Text {
+    len: 6,
+    bytes: [b'D', b'I', b'V', b'E', b'R', b'T', 0, 0, 0, 0, 0, 0],
+};
+
+const DIVERTED: Text = Text {
+    len: 8,
+    bytes: [b'D', b'I', b'V', b'E', b'R', b'T', b'E', b'D', 0, 0, 0, 0],
+};
+
+fn refused(number: u8) -> Text
+    ensures { λ r. ⌜ r ≡ textOf (refusedOf number) ⌝ }
+{
+    if number < 10 {
+        return Text {
+            len: 9,
+            bytes: [
+                b'r',
+                b'e',
+                b'f',
+                b'u',
+                b's',
+                b'e',
+                b'd',
+                b' ',
+                48 + number,
+                0,
+                0,
+                0,
+            ],
+        };
+    }
+    if number < 100 {
+        return Text {
+            len: 10,
+            bytes: [
+                b'r',
+                b'e',
+                b'f',
+                b'u',
+                b's',
+                b'e',
+                b'd',
+                b' ',
+                48 + number / 10,
+                48 + number % 10,
+                0,
+                0,
+            ],
+        };
+    }
+    Text {
+        len: 11,
+        bytes: [
+            b'r',
+            b'e',
+            b'f',
+            b'u',
+            b's',
+            b'e',
+            b'd',
+            b' ',
+            48 + number / 100,
+            48 + number / 10 % 10,
+            48 + number % 10,
+            0,
+        ],
+    }
+}
+
+// ---- the shape of a line
+
+// The bit length, up to the first byte that is no digit.
+fn parse(line: &[u8]) -> Parsed
+    ensures { λ r. ⌜ Parses r (lineOf (now (line .entry))) ⌝ }
+{
+    let mut bits: usize = 0;
+    let mut i: usize = 0;
+    while i < line.len() {
+        let b = line[i];
+        if is_digit(b) {} else {
+            return after_digits(line, i, bits, b);
+        }
+        if i >= 4 {
+            return no_line();
+        }
+        bits = bits * 10 + hex_digit(b) as usize;
+        i += 1;
+    }
+    no_line()
+}
+
+// One space after the first digit, and the rest.
+fn after_digits(line: &[u8], seen: usize, bits: usize, b: u8) -> Parsed
+    requires { ⌜ seen < length (now line) ⌝ }
+    ensures { λ r. ⌜ Parses r (afterDigits seen bits b (drop (seen + 1) (now (line .entry)))) ⌝ }
+{
+    if b == 32 {
+        if seen < 1 {
+            return no_line();
+        }
+        return parse_hex(line, seen + 1, bits);
+    }
+    no_line()
+}
+
+// Pairs of hex digits to the end, at most 256.
+fn parse_hex(line: &[u8], from: usize, bits: usize) -> Parsed
+    requires { ⌜ from ≤ length (now line) ⌝ }
+    ensures { λ r. ⌜ Parses r (hexThen bits [] 256 (drop from (now (line .entry)))) ⌝ }
+{
+    let mut bytes = [0u8; 256];
+    let mut count: usize = 0;
+    let mut k = from;
+    while k < line.len() {
+        if line.len() - k < 2 {
+            return no_line();
+        }
+        if count >= 256 {
+            return no_line();
+        }
+        let x = hex_digit(line[k]);
+        let y = hex_digit(line[k + 1]);
+        if x >= 16 {
+            return no_line();
+        }
+        if y >= 16 {
+            return no_line();
+        }
+        bytes[count] = x * 16 + y;
+        count += 1;
+        k += 2;
+    }
+    Parsed {
+        good: true,
+        bits: bits,
+        count: count,
+        bytes: bytes,
+    }
+}
+
+fn no_line() -> Parsed
+    ensures { λ r. ⌜ Parses r other ⌝ }
+{
+    Parsed {
+        good: false,
+        bits: 0,
+        count: 0,
+        bytes: [0; 256],
+    }
+}
+
+fn is_digit(b: u8) -> bool
+    ensures { λ r. ⌜ r ≡ isDigit b ⌝ }
+{
+    if b < 48 {
+        return false;
+    }
+    b <= 57
+}
+
+// The worth of a hex digit, or 16.
+fn hex_digit(b: u8) -> u8
+    ensures { λ r. ⌜ r ≡ hexOf b ⌝ }
+{
+    if b < 48 {
+        return 16;
+    }
+    if b <= 57 {
+        return b - 48;
+    }
+    if b < 65 {
+        return 16;
+    }
+    if b > 70 {
+        return 16;
+    }
+    b - 55
+}
