@@ -1,4 +1,4 @@
--- Document 01's worked cases 1 to 8 as one checked list, with the values that it says, and the kinds. Assumes nothing.
+-- Document 01's worked cases 1 to 8 as one checked list, with the values that it says; the kinds, and 5 before 6 and 7. Assumes nothing.
 use Prim.Native.Nat.{ℕ}
 use mathlib.Core.Path.{_≡_, refl}
 use mathlib.Core.Bool.{Bool, true, false}
@@ -62,6 +62,9 @@ cases =
     ∷ reads (0x25 ∷ 0x10 ∷ 0x00 ∷ 0x1F ∷ 0x48 ∷ 0x00 ∷ 0x00 ∷ 0x28 ∷ []) 61 (got (plainV 8 (record { kind = 2; ssi = 1001; extension = 5 }) 0 0 false nobody) 61)
     ∷ reads (0x25 ∷ 0x18 ∷ []) 13 (no (refusal 10))
     ∷ reads (0x25 ∷ 0x00 ∷ []) 13 (no (refusal 10))
+    -- SS type 10 with PDU type 1 and with type 4: 5 comes before 6 and 7
+    ∷ reads (0x28 ∷ 0x20 ∷ []) 11 (no (refusal 5))
+    ∷ reads (0x28 ∷ 0x80 ∷ []) 11 (no (refusal 5))
     ∷ []
 
 pub cases-right : list.map gives cases ≡ list.map wants cases
