@@ -32,12 +32,13 @@ nameOf t =
     -- DIVERTED
     (68 ∷ 73 ∷ 86 ∷ 69 ∷ 82 ∷ 84 ∷ 69 ∷ 68 ∷ [])))))))
 
--- `refused ` and a number below 256 in decimal
+-- a number below 256 in decimal
 abbrev pub decimalOf : ℕ → List ℕ
 decimalOf n =
     cond (ltb n 10) ((48 + n) ∷ [])
     (cond (ltb n 100) ((48 + n / 10) ∷ (48 + n % 10) ∷ []) ((48 + n / 100) ∷ (48 + n / 10 % 10) ∷ (48 + n % 10) ∷ []))
 
+-- `refused ` and the number
 unfoldable pub refusedOf : ℕ → List ℕ
 refusedOf n = 114 ∷ 101 ∷ 102 ∷ 117 ∷ 115 ∷ 101 ∷ 100 ∷ 32 ∷ decimalOf n
 

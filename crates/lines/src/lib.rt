@@ -1,7 +1,7 @@
 // One line of the listing: from its bytes to what is printed after its number (document 01, "Bits and calls worked out").
 //
-// `said` equals `saidOf` for every line. A line that comes in pieces is put together by `keep`, of which the first 518 bytes count:
-// a longer line has another shape, and so have its first 518 bytes (proofs/KeepLaws), so that a line may have any length.
+// `said` equals `saidOf` for every line. Of a line that comes in pieces `keep` holds the first 518 bytes, one more than a line of the
+// right shape has, and `said_kept` of these says what the whole line says, however long it is (proofs/KeepLaws).
 ghost use mathlib.Core.Path.{_≡_};
 ghost use mathlib.Core.Bool.{Bool};
 ghost use mathlib.Core.List.{[]};

@@ -18,7 +18,7 @@ use Rattle.message.specs.Groups.{addressesIn, allowedIn, nobodies, place
 use Rattle.message.specs.Acks.{maskC, maskedC, resultC}
 use Rattle.message.specs.Values.{activateV, plainV}
 use Rattle.message.specs.Messages.{activateC, ackC, interrogateC, interceptedC, callC, acceptedC, bodyC, isKnown, isCarried, headerC, messageC}
-use Rattle.message.specs.Reading.{wholeOf, lengthOk, bitsOf, readOf}
+use Rattle.message.specs.Reading.{wholeOf, lengthOk, readBits, readOf}
 use Rattle.message.specs.declared.Value.{Value}
 use Rattle.message.specs.declared.Address.{Address}
 
@@ -68,5 +68,5 @@ cases =
     ∷ []
 
 pub cases-right : list.map gives cases ≡ list.map wants cases
-unfolding bitAt fieldAt both number vecRead flag every sum meaningOk meaningIn airOk shareOk shareIn sharesOk profileOk sample sampleMeanings sampleShare kindC extensionC addressC addressesIn allowedIn nobodies placesC rangeOk endsOk addressesC rangeC groupC noGroup oneGroup spanIn spanOf maskC maskedC resultC activateC ackC interrogateC interceptedC callC acceptedC bodyC isKnown isCarried headerC messageC wholeOf lengthOk bitsOf readOf
+unfolding bitAt fieldAt both number vecRead flag every sum meaningOk meaningIn airOk shareOk shareIn sharesOk profileOk sample sampleMeanings sampleShare kindC extensionC addressC addressesIn allowedIn nobodies placesC rangeOk endsOk addressesC rangeC groupC noGroup oneGroup spanIn spanOf maskC maskedC resultC activateC ackC interrogateC interceptedC callC acceptedC bodyC isKnown isCarried headerC messageC wholeOf lengthOk readBits readOf
 cases-right = refl

@@ -24,8 +24,8 @@ wholeOf air f n = whole (messageC air) f n
 unfoldable pub lengthOk : List ℕ → ℕ → Bool
 lengthOk l n = both (leb 1 n) (both (leb n 2048) (leb n (8 * length l)))
 
-unfoldable pub bitsOf : Air → List ℕ → ℕ → Read Value
-bitsOf air l n = cond (lengthOk l n) (wholeOf air (bitAt l) n) (no (refusal 3))
+unfoldable pub readBits : Air → List ℕ → ℕ → Read Value
+readBits air l n = cond (lengthOk l n) (wholeOf air (bitAt l) n) (no (refusal 3))
 
 unfoldable pub readOf : Profile → List ℕ → ℕ → Read Value
-readOf p l n = cond (profileOk p) (bitsOf (p .air) l n) (no (refusal 1))
+readOf p l n = cond (profileOk p) (readBits (p .air) l n) (no (refusal 1))

@@ -42,8 +42,6 @@ pub struct Value {
 }
 
 impl Group {
-    pub const ADDRESSES: usize = 15;
-
     // What a first-and-last range may name at most.
     pub const IDENTITIES: usize = 64;
 }

@@ -1,9 +1,8 @@
--- What passing means, and that the sample profile passes. Assumes nothing.
+-- The sample profile passes, and `Profile::new` gives a profile exactly if it does. Assumes nothing.
 use mathlib.Core.Path.{_≡_, refl}
 use mathlib.Core.Bool.{Bool, true, false}
 use Rattle.codec.specs.Codec.{both}
 use Rattle.codec.specs.Stops.{refusal, noStop}
-use Rattle.codec.proofs.Good.{both-left, both-right}
 use Rattle.profile.specs.Counting.{every, sum}
 use Rattle.profile.specs.Rules.{meaningOk, meaningIn, airOk, shareOk, shareIn, sharesOk, profileOk, noProfile, newOf}
 use Rattle.profile.specs.Sample.{sampleMeanings, sampleShare, sample}
@@ -14,14 +13,6 @@ unfolding profileOk airOk sharesOk every sum both meaningOk meaningIn shareOk sh
 sample-passes = refl
 
 module _ (p : Profile) where
-  pub air-passes : profileOk p ≡ true → airOk (p .air) ≡ true
-  unfolding profileOk
-  air-passes e = both-left _ _ e
-
-  pub shares-pass : profileOk p ≡ true → sharesOk (p .shares) ≡ true
-  unfolding profileOk
-  shares-pass e = both-right (airOk (p .air)) _ e
-
   -- `Profile::new` gives a profile that passes, and 1 for any other
   pub new-found : profileOk p ≡ true → newOf (p .air) (p .shares) ≡ record { found = true; stop = noStop; profile = p }
   unfolding newOf

@@ -147,6 +147,9 @@ pub const SAMPLE: Profile = Profile {
 };
 
 impl Profile {
+    // The user records that a host may lend at most.
+    pub const RECORDS: usize = 128;
+
     // The profile of these two parts, or refusal 1.
     pub fn new(air: Air, shares: Shares) -> NewProfile
         ensures { λ r. ⌜ r ≡ newOf air shares ⌝ }

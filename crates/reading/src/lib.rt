@@ -5,7 +5,7 @@
 ghost use mathlib.Core.Path.{_≡_};
 ghost use Rattle.bits.specs.Fields.{bitAt};
 ghost use Rattle.codec.specs.Codec.{got, no};
-ghost use Rattle.message.specs.Reading.{wholeOf, bitsOf, readOf};
+ghost use Rattle.message.specs.Reading.{wholeOf, readBits, readOf};
 ghost use Rattle.reading.specs.Answers.{readingOf};
 use codec::Stop;
 use message::Value;
@@ -39,7 +39,7 @@ pub fn read(profile: Profile, message: &[u8], bits: usize) -> Reading
 }
 
 fn read_bits(air: Air, message: &[u8], bits: usize) -> Reading
-    ensures { λ r. ⌜ r ≡ readingOf (bitsOf air (now (message .entry)) bits) ⌝ }
+    ensures { λ r. ⌜ r ≡ readingOf (readBits air (now (message .entry)) bits) ⌝ }
 {
     if bits < 1 {
         return refused(codec::refuse(3));

@@ -6,7 +6,7 @@ use lib.ListN.{length}
 use borrow.Author.Needs.{needs}
 use borrow.Author.Tests.{le-leb, lt-leb}
 use Rattle.codec.specs.Codec.{both}
-use Rattle.message.specs.Reading.{lengthOk, bitsOf}
+use Rattle.message.specs.Reading.{lengthOk, readBits}
 use Rattle.reading.proofs.read_bits.Statement.{statement}
 use Rattle.reading.proofs.read_bits.Tie as tie
 
@@ -17,7 +17,7 @@ refused-requires : tie.Need-refused-requires
 refused-requires c κs = search needs
 
 returns : tie.Need-returns
-unfolding bitsOf lengthOk both
+unfolding readBits lengthOk both
 returns c =
     let p1 = c .before .before in
     let p2 = c .before in
@@ -30,7 +30,7 @@ refused-requires-2 : tie.Need-refused-requires-2
 refused-requires-2 c κs = search needs
 
 returns-2 : tie.Need-returns-2
-unfolding bitsOf lengthOk both
+unfolding readBits lengthOk both
 returns-2 c =
     let p1 = c .before .before .before in
     let p2 = c .before .before in
@@ -47,7 +47,7 @@ refused-requires-3 : tie.Need-refused-requires-3
 refused-requires-3 c κs = search needs
 
 returns-3 : tie.Need-returns-3
-unfolding bitsOf lengthOk both
+unfolding readBits lengthOk both
 returns-3 c =
     let t = c .before .before in
     let a = t .before .before .before .before .args in
@@ -57,7 +57,7 @@ read-whole-requires : tie.Need-read-whole-requires
 read-whole-requires c κs = search needs
 
 returns-4 : tie.Need-returns-4
-unfolding bitsOf lengthOk both
+unfolding readBits lengthOk both
 returns-4 c =
     let t = c .before in
     let a = t .before .before .before .before .args in
