@@ -1,6 +1,6 @@
 -- `lines::refused` meets its contract. Assumes nothing.
 use borrow.Author.Needs.{needs}
-use borrow.Author.Tests.{le-ltb, lt-ltb}
+use borrow.Author.Tests.{lt-ltb, le-ltb}
 use Rattle.lines.specs.Saying.{refusedOf, textOf}
 use Rattle.lines.proofs.refused.Statement.{statement}
 use Rattle.lines.proofs.refused.Tie as tie
@@ -20,9 +20,7 @@ add-t8 c = search needs
 
 returns-2 : tie.Need-returns-2
 unfolding refusedOf textOf
-returns-2 c =
-    let p1 = c .before in
-    rw (le-ltb _ _ (p1 .if1 .left), lt-ltb _ _ (c .if2 .taken))
+returns-2 c = rw (le-ltb _ _ (c .before .if1 .left), lt-ltb _ _ (c .if2 .taken))
 
 add-t11 : tie.Need-add-t11
 add-t11 c = search needs
@@ -35,9 +33,7 @@ add-t16 c = search needs
 
 returns-3 : tie.Need-returns-3
 unfolding refusedOf textOf
-returns-3 c =
-    let p1 = c .before in
-    rw (le-ltb _ _ (p1 .if1 .left), le-ltb _ _ (c .if2 .left))
+returns-3 c = rw (le-ltb _ _ (c .before .if1 .left), le-ltb _ _ (c .if2 .left))
 
 pub refused-spec : {M : Type 1} → statement M
 refused-spec =

@@ -1,9 +1,7 @@
 -- `reading::option::read_dispatchers` meets its contract. Assumes nothing.
-use mathlib.Core.Bool.{Bool}
 use mathlib.Core.Path.{sym, ap, _∙_}
 use borrow.Author.Needs.{needs}
 use Rattle.codec.proofs.OptionLaws.{option-given}
-use Rattle.codec.specs.Codec.{got}
 use Rattle.reading.specs.Answers.{flagOf, optionOf}
 use Rattle.reading.proofs.option.read_dispatchers.Statement.{statement}
 use Rattle.reading.proofs.option.read_dispatchers.Tie as tie
