@@ -1,6 +1,6 @@
 -- Laws of bits and fields, each over any width. Assumes nothing.
 use Prim.Native.Nat.{ℕ, zero, suc, _+_, _*_, _/_, _^_, _≤_, _<_}
-use mathlib.Core.Path.{_≡_, refl, ap, _∙_}
+use mathlib.Core.Path.{_≡_, refl}
 use mathlib.Core.List.{List}
 use native.Mathlib.Nat.{mod-lt, pow-suc, pow-zero, zero-lt-suc, lt-of-lt-of-le, add-zero, add-suc, add-assoc, add-mul, mul-assoc, mul-one}
 use native.Mathlib.Omega.{arith}

@@ -2,7 +2,6 @@
 -- nothing can be put. Assumes nothing.
 use Prim.Native.Nat.{ℕ, zero, suc, _+_, _-_, _*_, _/_, _%_, _^_, _≤_, _<_}
 use mathlib.Core.Path.{_≡_, refl, sym, ap, _∙_}
-use mathlib.Core.Bool.{true, false}
 use mathlib.Core.List.{List, [], _∷_, _++_}
 use native.Mathlib.Nat.{mod-lt, pow-suc, div-one, suc-add, add-suc, add-zero}
 use native.Mathlib.Numerals.{add-one}

@@ -1,6 +1,6 @@
 -- A field, from the eight bytes that it begins in and the ninth. Assumes nothing.
 use Prim.Native.Nat.{ℕ, zero, suc, _+_, _-_, _*_, _/_, _%_, _^_, _≤_, _<_}
-use mathlib.Core.Path.{_≡_, refl, sym, ap, _∙_}
+use mathlib.Core.Path.{_≡_, sym, ap, _∙_}
 use mathlib.Core.List.{List}
 use native.Mathlib.Nat.{div-one, mul-assoc, add-mul}
 use native.Mathlib.Omega.{arith}

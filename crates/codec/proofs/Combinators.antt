@@ -2,21 +2,20 @@
 use Prim.Native.Nat.{ℕ, zero, suc, _+_, _≤_, _<_, _^_}
 use mathlib.Core.Path.{_≡_, refl, sym, ap, _∙_, subst}
 use mathlib.Core.Bool.{Bool, true, false, cond}
-use mathlib.Core.List.{List, [], _∷_, _++_}
+use mathlib.Core.List.{List, [], _∷_}
 use mathlib.Core.Logic.{⊎-elim}
 use native.Mathlib.Nat.{add-zero}
 use native.Mathlib.Omega.{arith}
 use lib.ListN.{length, length-append}
 use borrow.Author.Tests.{le-leb, lt-leb, ltb-true, lt-ltb}
 use Rattle.bits.specs.Fields.{fieldAt}
-use Rattle.bits.specs.Puts.{binary}
 use Rattle.bits.proofs.FieldLaws.{field-lt, field-same}
 use Rattle.bits.proofs.PutLaws.{length-binary}
 use Rattle.bits.proofs.SetLaws.{lt-or}
 use Rattle.bits.proofs.Stands.{AreBits, Stands, stands-left, stands-right, stands-join, bits-join}
 use Rattle.bits.proofs.RoundLaws.{binary-bits, binary-read, read-binary}
 use Rattle.codec.specs.Stops.{short, refusal}
-use Rattle.codec.specs.Codec.{Read, got, no, bind, both, Codec, number, pure, guard, seq, map, choose, vec, vecRead, vecBits, vecOk, vecThen}
+use Rattle.codec.specs.Codec.{Read, got, no, bind, Codec, number, pure, guard, seq, map, choose, vec, vecRead, vecBits, vecOk, vecThen}
 use Rattle.codec.proofs.Good.{both-true, both-left, both-right, not-both, Binary, Agree, Found, View, refused, found, Good}
 
 -- ---- number

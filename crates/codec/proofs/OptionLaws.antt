@@ -1,12 +1,12 @@
 -- Optional elements make good codecs, and what reading one comes to where it is there. Assumes nothing.
-use Prim.Native.Nat.{ℕ, zero, suc, _+_, _<_, _^_}
-use mathlib.Core.Path.{_≡_, refl, sym, ap, _∙_}
-use mathlib.Core.Bool.{Bool, true, false, cond, not}
+use Prim.Native.Nat.{ℕ, zero, suc, _<_, _^_}
+use mathlib.Core.Path.{_≡_, refl, ap, _∙_}
+use mathlib.Core.Bool.{Bool, true, false, cond}
 use native.Mathlib.Omega.{arith}
 use lib.Dec.{eqb}
 use borrow.Author.Tests.{ltb-true}
 use Rattle.codec.specs.Stops.{refusal}
-use Rattle.codec.specs.Codec.{Read, got, no, bind, both, Codec, number, pure, guard, seq, map, choose}
+use Rattle.codec.specs.Codec.{Read, got, no, bind, Codec, number, pure, guard, choose}
 use Rattle.codec.specs.Options.{flag, given, options, isAbsent, option}
 use Rattle.codec.proofs.Good.{both-true, both-left, both-right, not-both, Good}
 use Rattle.codec.proofs.Combinators.{good-number, good-pure, good-guard, good-seq, good-iso, good-choose}

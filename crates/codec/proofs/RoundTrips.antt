@@ -5,8 +5,8 @@
 --     past-unread     buffers that agree on the first n bits read alike
 -- Assumes nothing.
 use Prim.Native.Nat.{ℕ, _+_, _*_, _≤_, _<_, _^_}
-use mathlib.Core.Path.{_≡_, refl, sym, ap, _∙_, subst}
-use mathlib.Core.Bool.{Bool, true, false}
+use mathlib.Core.Path.{_≡_, subst}
+use mathlib.Core.Bool.{true}
 use mathlib.Core.List.{List}
 use native.Mathlib.Omega.{arith}
 use lib.ListN.{length}
@@ -16,7 +16,7 @@ use Rattle.bits.specs.Puts.{putBits}
 use Rattle.bits.proofs.FieldLaws.{bit-lt}
 use Rattle.bits.proofs.Stands.{put-stands, put-standing}
 use Rattle.codec.specs.Codec.{Read, got, no, Codec, number}
-use Rattle.codec.proofs.Good.{Binary, Agree, Found, View, refused, found, Good}
+use Rattle.codec.proofs.Good.{Agree, Found, View, refused, found, Good}
 use Rattle.codec.proofs.Combinators.{good-number}
 
 module _ {A : Type 0} (C : Codec A) (G : Good C) (l : List ℕ) (n at : ℕ) where

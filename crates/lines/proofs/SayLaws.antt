@@ -1,8 +1,6 @@
 -- What a reading that was found, and one that was refused, come to. Assumes nothing.
-use Prim.Native.Nat.{ℕ}
-use mathlib.Core.Path.{_≡_, refl, sym, ap, _∙_}
+use mathlib.Core.Path.{_≡_, sym, ap, _∙_}
 use mathlib.Core.Bool.{Bool, true, false}
-use mathlib.Core.List.{List}
 use Rattle.codec.specs.Codec.{Read, got, no}
 use Rattle.message.specs.declared.Value.{Value}
 use Rattle.reading.specs.Answers.{readingOf}

@@ -1,8 +1,7 @@
 -- What the code's answer says of a line.
-use Prim.Native.Nat.{ℕ, _≤_}
+use Prim.Native.Nat.{_≤_}
 use mathlib.Core.Path.{_≡_}
-use mathlib.Core.Bool.{Bool, true, false, cond}
-use mathlib.Core.List.{List}
+use mathlib.Core.Bool.{cond}
 use lib.ListN.{take}
 use Rattle.lines.specs.Shape.{Line, good, other}
 use Rattle.lines.specs.declared.Parsed.{Parsed}

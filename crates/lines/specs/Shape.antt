@@ -1,7 +1,7 @@
 -- The shape of a line: document 01, "Bits and calls worked out", last paragraph. A bit length of 1 to 4 digits, one space, and an even
 -- number of upper-case hex digits, at most 512.
 use Prim.Native.Nat.{ℕ, zero, suc, _+_, _-_, _*_}
-use mathlib.Core.Bool.{Bool, true, false, cond}
+use mathlib.Core.Bool.{Bool, cond}
 use mathlib.Core.List.{List, [], _∷_, _++_}
 use lib.Dec.{eqb, leb, ltb}
 use Rattle.codec.specs.Codec.{both}

@@ -1,10 +1,10 @@
 -- An address is a good codec, and `nobody` is the address whose parts are zero. Assumes nothing.
 use Prim.Native.Nat.{ℕ}
 use mathlib.Core.Path.{_≡_, refl}
-use mathlib.Core.Bool.{Bool, true, false}
+use mathlib.Core.Bool.{true}
 use lib.Dec.{eqb}
 use borrow.Author.Tests.{eqb-true}
-use Rattle.codec.specs.Codec.{Codec, both, number, pure, seq}
+use Rattle.codec.specs.Codec.{both, number, pure, seq}
 use Rattle.codec.proofs.Good.{Good, both-left, both-right}
 use Rattle.codec.proofs.Combinators.{good-number, good-pure, good-guard, good-seq, good-iso, good-choose}
 use Rattle.message.specs.Elements as element

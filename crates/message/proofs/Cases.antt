@@ -1,7 +1,7 @@
 -- Document 01's worked cases 1 to 8 as one checked list, with the values that it says; the kinds, and 5 before 6 and 7. Assumes nothing.
 use Prim.Native.Nat.{ℕ}
 use mathlib.Core.Path.{_≡_, refl}
-use mathlib.Core.Bool.{Bool, true, false}
+use mathlib.Core.Bool.{true, false}
 use mathlib.Core.List as list
 use mathlib.Core.List.{List, [], _∷_}
 use lib.ListN.{set}

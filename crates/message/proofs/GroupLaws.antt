@@ -1,15 +1,15 @@
 -- A group is a good codec, and a valid one has at most 15 addresses and 64 identities. Assumes nothing.
-use Prim.Native.Nat.{ℕ, zero, suc, _+_, _-_, _≤_, _<_}
+use Prim.Native.Nat.{ℕ, zero, suc, _+_, _-_, _≤_}
 use mathlib.Core.Path.{_≡_, refl, sym, ap, _∙_}
-use mathlib.Core.Bool.{Bool, true, false}
+use mathlib.Core.Bool.{Bool, true}
 use mathlib.Core.List.{List, [], _∷_, _++_}
 use native.Mathlib.Nat.{suc-sub-suc, sub-zero}
 use native.Mathlib.Omega.{arith}
 use lib.Dec.{eqb, leb}
 use lib.ListN.{length, take, drop, getD, set, replicate, take-append-drop}
 use lib.Seq.{sets, sets-eq, take-at, drop-at}
-use borrow.Author.Tests.{leb-true, ltb-true}
-use Rattle.codec.specs.Codec.{Codec, both, number, seq, map, vec, vecOk}
+use borrow.Author.Tests.{leb-true}
+use Rattle.codec.specs.Codec.{both, number, vec, vecOk}
 use Rattle.codec.proofs.Good.{Good, both-true, both-left, both-right, not-both}
 use Rattle.codec.proofs.Combinators.{good-number, good-guard, good-seq, good-map, good-iso, good-vec}
 use Rattle.profile.specs.Rules.{meaningIn}

@@ -4,7 +4,7 @@ use mathlib.Core.Path.{_≡_, refl, sym, ap, _∙_}
 use mathlib.Core.Bool.{Bool, true, false, _||_}
 use lib.Dec.{eqb}
 use borrow.Author.Tests.{eqb-true}
-use Rattle.codec.specs.Codec.{Codec, both, number, seq, choose}
+use Rattle.codec.specs.Codec.{Codec, number, seq, choose}
 use Rattle.codec.specs.Options.{option}
 use Rattle.codec.proofs.Good.{Good, both-left, both-right}
 use Rattle.codec.proofs.Combinators.{good-number, good-pure, good-guard, good-seq, good-map, good-iso, good-choose}
@@ -12,7 +12,7 @@ use Rattle.codec.proofs.OptionLaws.{good-option}
 use Rattle.profile.specs.declared.Air.{Air}
 use Rattle.message.specs.Elements as element
 use Rattle.message.specs.Addresses.{nobody, isNobody, addressC}
-use Rattle.message.specs.Groups.{groupC, noGroup, isNoGroup, oneGroup, spanOf}
+use Rattle.message.specs.Groups.{groupC, noGroup, isNoGroup, spanOf}
 use Rattle.message.specs.Acks.{maskedC, resultC}
 use Rattle.message.specs.Values.{activateV, ackV, plainV, activateFits, ackFits, interrogateFits, interceptedFits, callFits, acceptedFits}
 use Rattle.message.specs.Messages.{activateC, ackC, interrogateC, interceptedC, callC, acceptedC, bodyC, isKnown, isCarried, headerC, messageC}

@@ -7,7 +7,7 @@ use borrow.Author.Tests.{eqb-true, eq-eqb, not-true}
 use Rattle.codec.specs.Codec.{both}
 use Rattle.codec.proofs.Good.{both-true, both-left, both-right}
 use Rattle.message.specs.Addresses.{nobody, isZero, isNobody}
-use Rattle.message.specs.Groups.{oneGroup, isOneGroup, isNoGroup, firstOf}
+use Rattle.message.specs.Groups.{oneGroup, isOneGroup, firstOf}
 use Rattle.message.specs.Values.{activateV, ackV, plainV, activateFits, ackFits, plainFits, interrogateFits, interceptedFits, callFits, acceptedFits}
 use Rattle.message.specs.declared.Address.{Address}
 use Rattle.message.specs.declared.Group.{Group}

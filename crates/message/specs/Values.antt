@@ -1,7 +1,7 @@
 -- One flat value for all messages. Each constructor here is the value of a message with these contents; all else is zero. Each test
 -- says that nothing else is in a value.
 use Prim.Native.Nat.{ℕ}
-use mathlib.Core.Bool.{Bool, true, false, not}
+use mathlib.Core.Bool.{Bool, false, not}
 use lib.Dec.{eqb}
 use Rattle.codec.specs.Codec.{both}
 use Rattle.message.specs.Addresses.{nobody, isZero, isNobody}

@@ -1,6 +1,6 @@
 -- The sample profile passes, and `Profile::new` gives a profile exactly if it does. Assumes nothing.
 use mathlib.Core.Path.{_≡_, refl}
-use mathlib.Core.Bool.{Bool, true, false}
+use mathlib.Core.Bool.{true, false}
 use Rattle.codec.specs.Codec.{both}
 use Rattle.codec.specs.Stops.{refusal, noStop}
 use Rattle.profile.specs.Counting.{every, sum}

@@ -1,7 +1,7 @@
 -- `bits::put_inside` meets its contract. The loop's invariant: the first k bits stand. Assumes nothing.
-use Prim.Native.Nat.{ℕ, _≤_, _<_, _+_, _-_, _*_, _/_, _^_, _%_}
+use Prim.Native.Nat.{ℕ, _≤_, _-_, _/_, _^_}
 use mathlib.Core.List.{List}
-use mathlib.Core.Path.{_≡_, refl, sym, _∙_, ap}
+use mathlib.Core.Path.{_≡_, refl, _∙_, ap}
 use native.Mathlib.Omega.{arith}
 use denote.Ref.{now}
 use lib.ListN.{length}

@@ -1,5 +1,4 @@
 -- `message::ack_value` meets its contract. Assumes nothing.
-use mathlib.Core.Path.{_≡_, refl, sym, _∙_, ap}
 use Rattle.message.specs.Values.{ackV}
 use borrow.Author.Needs.{needs}
 use Rattle.message.proofs.ack_value.Statement.{statement}

@@ -1,5 +1,4 @@
 -- `message::addresses_in` meets its contract: a case of the kind each. Assumes nothing.
-use mathlib.Core.Path.{_≡_, refl, sym, _∙_, ap}
 use Rattle.message.specs.Groups.{addressesIn}
 use borrow.Author.Needs.{needs}
 use Rattle.message.proofs.addresses_in.Statement.{statement}

@@ -1,5 +1,4 @@
 -- `message::ends_ok` meets its contract: a case of the kind each. Assumes nothing.
-use mathlib.Core.Path.{_≡_, refl, sym, _∙_, ap}
 use Rattle.message.specs.Groups.{endsOk}
 use borrow.Author.Needs.{needs}
 use Rattle.message.proofs.ends_ok.Statement.{statement}

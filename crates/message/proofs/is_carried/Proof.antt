@@ -1,8 +1,6 @@
 -- `message::is_carried` meets its contract: a test at each return. Assumes nothing.
-use mathlib.Core.Path.{_≡_, refl, sym, _∙_, ap}
-use borrow.Author.Tests.{eq-eqb, ne-eqb, le-leb, lt-leb}
+use borrow.Author.Tests.{eq-eqb, ne-eqb}
 use Rattle.message.specs.Messages.{isCarried}
-use borrow.Author.Needs.{needs}
 use Rattle.message.proofs.is_carried.Statement.{statement}
 use Rattle.message.proofs.is_carried.Tie as tie
 

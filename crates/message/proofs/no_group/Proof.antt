@@ -1,7 +1,6 @@
 -- `message::no_group` meets its contract. Assumes nothing.
-use mathlib.Core.Path.{_≡_, refl, sym, _∙_, ap}
+use mathlib.Core.Path.{refl}
 use Rattle.message.specs.Groups.{nobodies, noGroup}
-use borrow.Author.Needs.{needs}
 use Rattle.message.proofs.no_group.Statement.{statement}
 use Rattle.message.proofs.no_group.Tie as tie
 

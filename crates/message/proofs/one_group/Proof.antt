@@ -1,5 +1,5 @@
 -- `message::one_group` meets its contract. Assumes nothing.
-use mathlib.Core.Path.{_≡_, refl, sym, _∙_, ap}
+use mathlib.Core.Path.{refl}
 use Rattle.message.specs.Groups.{nobodies, oneGroup}
 use borrow.Author.Needs.{needs}
 use Rattle.message.proofs.one_group.Statement.{statement}

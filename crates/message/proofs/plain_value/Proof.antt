@@ -1,5 +1,4 @@
 -- `message::plain_value` meets its contract. Assumes nothing.
-use mathlib.Core.Path.{_≡_, refl, sym, _∙_, ap}
 use Rattle.message.specs.Values.{plainV}
 use borrow.Author.Needs.{needs}
 use Rattle.message.proofs.plain_value.Statement.{statement}

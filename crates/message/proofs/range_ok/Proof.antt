@@ -1,5 +1,4 @@
 -- `message::range_ok` meets its contract: a test at each return. Assumes nothing.
-use mathlib.Core.Path.{_≡_, refl, sym, _∙_, ap}
 use borrow.Author.Tests.{eq-eqb, ne-eqb, le-leb, lt-leb}
 use Rattle.codec.specs.Codec.{both}
 use Rattle.message.specs.Groups.{rangeOk}

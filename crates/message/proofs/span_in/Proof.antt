@@ -1,5 +1,4 @@
 -- `message::span_in` meets its contract: a case of the kind each. Assumes nothing.
-use mathlib.Core.Path.{_≡_, refl, sym, _∙_, ap}
 use Rattle.message.specs.Groups.{spanIn}
 use borrow.Author.Needs.{needs}
 use Rattle.message.proofs.span_in.Statement.{statement}

@@ -1,5 +1,4 @@
 -- `message::span_of` meets its contract. Assumes nothing.
-use mathlib.Core.Path.{_≡_, refl, sym, _∙_, ap}
 use Rattle.message.specs.Groups.{spanOf}
 use borrow.Author.Needs.{needs}
 use Rattle.message.proofs.span_of.Statement.{statement}

@@ -1,6 +1,5 @@
 -- `profile::air_ok` meets its contract: a test at each return. Assumes nothing.
-use mathlib.Core.Path.{_≡_, refl, sym, _∙_, ap}
-use borrow.Author.Tests.{eq-eqb, ne-eqb, le-leb, lt-leb}
+use borrow.Author.Tests.{le-leb, lt-leb}
 use Rattle.codec.specs.Codec.{both}
 use Rattle.profile.specs.Rules.{airOk}
 use borrow.Author.Needs.{needs}

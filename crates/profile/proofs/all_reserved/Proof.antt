@@ -1,6 +1,6 @@
 -- `profile::all_reserved` meets its contract: the loop's invariant: the total is over the posts passed, each at most 255. Assumes nothing.
-use Prim.Native.Nat.{ℕ, _≤_, _<_, _+_, _-_, _*_}
-use mathlib.Core.Path.{_≡_, refl, sym, _∙_, ap}
+use Prim.Native.Nat.{_≤_, _-_, _*_}
+use mathlib.Core.Path.{_≡_, sym, _∙_}
 use native.Mathlib.Omega.{arith}
 use Rattle.profile.specs.Counting.{sum}
 use Rattle.profile.specs.Rules.{shareIn}

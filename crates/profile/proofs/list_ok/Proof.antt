@@ -1,8 +1,6 @@
 -- `profile::list_ok` meets its contract. Assumes nothing.
 use borrow.Author.Tests.{le-leb, lt-leb}
 use Rattle.codec.specs.Codec.{both}
-use mathlib.Core.Path.{_≡_, refl, sym, _∙_, ap}
-use borrow.Author.Needs.{needs}
 use Rattle.profile.proofs.list_ok.Statement.{statement}
 use Rattle.profile.proofs.list_ok.Tie as tie
 

@@ -1,6 +1,5 @@
 -- `profile::meaning_ok` meets its contract: a case of the kind each. Assumes nothing.
-use mathlib.Core.Path.{_≡_, refl, sym, _∙_, ap}
-use Rattle.profile.specs.Rules.{meaningOk, meaningOkBy}
+use Rattle.profile.specs.Rules.{meaningOk}
 use borrow.Author.Needs.{needs}
 use Rattle.profile.proofs.meaning_ok.Statement.{statement}
 use Rattle.profile.proofs.meaning_ok.Tie as tie

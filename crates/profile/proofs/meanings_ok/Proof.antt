@@ -1,8 +1,8 @@
 -- `profile::meanings_ok` meets its contract: the loop's invariant: every meaning passed is good. Assumes nothing.
-use Prim.Native.Nat.{ℕ, _≤_, _<_, _+_, _-_, _*_}
-use mathlib.Core.Path.{_≡_, refl, sym, _∙_, ap}
+use Prim.Native.Nat.{_≤_, _-_}
+use mathlib.Core.Path.{_≡_, sym, _∙_}
 use native.Mathlib.Omega.{arith}
-use mathlib.Core.Bool.{Bool, true, false}
+use mathlib.Core.Bool.{true}
 use lib.ListN.{length}
 use Rattle.profile.specs.Counting.{every}
 use Rattle.profile.specs.Rules.{meaningOk, meaningIn}

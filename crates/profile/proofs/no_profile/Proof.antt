@@ -1,7 +1,6 @@
 -- `profile::no_profile` meets its contract. Assumes nothing.
-use mathlib.Core.Path.{_≡_, refl, sym, _∙_, ap}
+use mathlib.Core.Path.{refl}
 use Rattle.profile.specs.Rules.{noProfile}
-use borrow.Author.Needs.{needs}
 use Rattle.profile.proofs.no_profile.Statement.{statement}
 use Rattle.profile.proofs.no_profile.Tie as tie
 

@@ -1,7 +1,6 @@
 -- `profile::sample_profile` meets its contract. Assumes nothing.
-use mathlib.Core.Path.{_≡_, refl, sym, _∙_, ap}
+use mathlib.Core.Path.{refl}
 use Rattle.profile.specs.Sample.{sample, sampleMeanings, sampleShare}
-use borrow.Author.Needs.{needs}
 use Rattle.profile.proofs.sample_profile.Statement.{statement}
 use Rattle.profile.proofs.sample_profile.Tie as tie
 

@@ -1,5 +1,4 @@
 -- `profile::share_ok` meets its contract. Assumes nothing.
-use mathlib.Core.Path.{_≡_, refl, sym, _∙_, ap}
 use borrow.Author.Tests.{le-leb, lt-leb}
 use Rattle.codec.specs.Codec.{both}
 use Rattle.profile.specs.Rules.{shareOk}

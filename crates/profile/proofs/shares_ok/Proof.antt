@@ -1,6 +1,6 @@
 -- `profile::shares_ok` meets its contract: a test at each return. Assumes nothing.
-use mathlib.Core.Path.{_≡_, refl, sym, _∙_, ap}
-use borrow.Author.Tests.{eq-eqb, ne-eqb, le-leb, lt-leb}
+use mathlib.Core.Path.{sym, _∙_}
+use borrow.Author.Tests.{le-leb, lt-leb}
 use Rattle.codec.specs.Codec.{both}
 use Rattle.profile.specs.Rules.{sharesOk}
 use borrow.Author.Needs.{needs}

@@ -1,7 +1,5 @@
 -- `profile::Profile::new` meets its contract. Assumes nothing.
-use mathlib.Core.Path.{_≡_, refl, sym, _∙_, ap}
-use borrow.Author.Tests.{eq-eqb, ne-eqb, le-leb, lt-leb}
-use Rattle.codec.specs.Codec.{both}
+use mathlib.Core.Path.{sym, _∙_}
 use Rattle.profile.specs.Rules.{newOf}
 use borrow.Author.Needs.{needs}
 use Rattle.profile.proofs.Profile.new.Statement.{statement}
