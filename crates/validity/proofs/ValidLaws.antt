@@ -1,0 +1,191 @@
+-- What the tests of validity go by. Assumes nothing.
+use Prim.Native.Nat.{ℕ, suc, _+_, _-_, _*_, _/_, _%_, _^_, _≤_, _<_}
+use mathlib.Core.Path.{_≡_, refl, sym, ap, _∙_}
+use mathlib.Core.Bool.{Bool, true, false, _||_}
+use mathlib.Core.List.{List, _∷_}
+use native.Mathlib.Numerals.{add-one}
+use native.Mathlib.Omega.{arith}
+use lib.Dec.{eqb, leb, ltb}
+use lib.ListN.{length, length-take, take, drop, getD, drop-of-length-le}
+use lib.Pow.{shr-lt, shl-exact}
+use lib.Seq.{drop-cons, getD-take}
+use borrow.Author.Tests.{eqb-true, eqb-false, eq-eqb, ne-eqb, lt-ltb, le-ltb, le-leb}
+use Rattle.codec.specs.Codec.{Codec, both, number, vecOk}
+use Rattle.codec.specs.Options.{flag, option}
+use Rattle.codec.proofs.Good.{both-true, not-both}
+use Rattle.message.specs.Addresses.{nobody, isZero, isNobody, kindC, addressC}
+use Rattle.message.specs.Groups.{areNobody}
+use Rattle.message.specs.Acks.{maskC, maskedC}
+use Rattle.message.specs.Messages.{isKnown, isCarried, headerC}
+use Rattle.message.specs.declared.Address.{Address}
+
+-- ---- both
+
+pub both-yes : (a b : Bool) → a ≡ true → both a b ≡ b
+unfolding both
+both-yes a b e = rw e
+
+pub both-no : (a b : Bool) → a ≡ false → both a b ≡ false
+unfolding both
+both-no a b e = rw e
+
+both-all : (a : Bool) → both a true ≡ a
+unfolding both
+both-all true = refl
+both-all false = refl
+
+both-none : (a : Bool) → both a false ≡ false
+unfolding both
+both-none true = refl
+both-none false = refl
+
+-- ---- the kind
+
+two-fits : (k : ℕ) (b : Bool) → eqb k 2 ≡ b → eqb k 2 ≡ both (ltb k (2 ^ 2)) (eqb k 2)
+two-fits k true e = let h = eqb-true k 2 e in sym (both-yes _ _ (lt-ltb k (2 ^ 2) (omega arith)))
+two-fits k false e = rw e (sym (both-none _))
+
+-- a kind that is not 1 is good if it is 2
+pub kind-two : (k : ℕ) → (k ≡ 1 → ⊥) → eqb k 2 ≡ kindC .ok k
+unfolding kindC number
+kind-two k h = rw (ne-eqb _ _ h) (two-fits k (eqb k 2) refl)
+
+-- ---- the first addresses
+
+module _ (l : List Address) (count i : ℕ) (h : i < count) (k : count ≤ length l) where
+  cut : drop i (take count l) ≡ getD l i nobody ∷ drop (i + 1) (take count l)
+  cut =
+      let n : i < length (take count l) = simp length-take (omega arith) in
+      rw (add-one, drop-cons (take count l) i nobody n, getD-take count l i nobody h)
+
+  left : count - i ≡ suc (count - (i + 1))
+  left = omega arith
+
+  pub first-more : addressC .ok (getD l i nobody) ≡ true
+      → vecOk addressC (count - i) (drop i (take count l)) ≡ vecOk addressC (count - (i + 1)) (drop (i + 1) (take count l))
+  first-more e = rw (left, cut) (both-yes _ _ e)
+
+  pub first-not : addressC .ok (getD l i nobody) ≡ false → vecOk addressC (count - i) (drop i (take count l)) ≡ false
+  first-not e = rw (left, cut) (both-no _ _ e)
+
+pub first-end : (l : List Address) (count i : ℕ) → count ≤ i → count ≤ length l → vecOk addressC (count - i) (drop i (take count l)) ≡ true
+first-end l count i h k =
+    let n : length (take count l) ≤ i = simp length-take (omega arith) in
+    let z : count - i ≡ 0 = omega arith in
+    rw (z, drop-of-length-le (take count l) n)
+
+-- ---- the places beyond
+
+module _ (l : List Address) (i : ℕ) (h : i < 15) (k : length l ≡ 15) where
+  gone : drop i l ≡ getD l i nobody ∷ drop (i + 1) l
+  gone = let n : i < length l = omega arith in rw (add-one, drop-cons l i nobody n)
+
+  less : 15 - i ≡ suc (15 - (i + 1))
+  less = omega arith
+
+  pub rest-more : isNobody (getD l i nobody) ≡ true → areNobody (15 - i) (drop i l) ≡ areNobody (15 - (i + 1)) (drop (i + 1) l)
+  unfolding areNobody
+  rest-more e = rw (less, gone) (both-yes _ _ e)
+
+  pub rest-not : isNobody (getD l i nobody) ≡ false → areNobody (15 - i) (drop i l) ≡ false
+  unfolding areNobody
+  rest-not e = rw (less, gone) (both-no _ _ e)
+
+pub rest-end : (l : List Address) (i : ℕ) → 15 ≤ i → length l ≡ 15 → areNobody (15 - i) (drop i l) ≡ true
+unfolding areNobody
+rest-end l i h k =
+    let n : length l ≤ i = omega arith in
+    let z : 15 - i ≡ 0 = omega arith in
+    rw (z, drop-of-length-le l n)
+
+-- ---- a mask of n identities in 64 bits
+
+module _ (n m : ℕ) (h : n ≤ 64) (f : m < 2 ^ 64) where
+  mask-lt : m / 2 ^ (64 - n) < 2 ^ n
+  mask-lt = let w : n + (64 - n) ≡ 64 = omega arith in shr-lt n (64 - n) (rw w f)
+
+  -- its number is never too wide
+  mask-ok : maskC n .ok m ≡ eqb (m / 2 ^ (64 - n) * 2 ^ (64 - n)) m
+  unfolding maskC number
+  mask-ok = rw (lt-ltb _ _ mask-lt) (both-all _)
+
+  pub mask-some : eqb (m / 2 ^ (64 - n) * 2 ^ (64 - n) % 2 ^ 64) m ≡ maskC n .ok m
+  mask-some = rw (mask-ok, shl-exact n (64 - n) 64 mask-lt (omega arith))
+
+zero-first : (m : ℕ) (b : Bool) → eqb m 0 ≡ b → eqb m 0 ≡ eqb 0 m
+zero-first m true e = let z = eqb-true m 0 e in rw z
+zero-first m false e = rw e (sym (ne-eqb 0 m (λ z. eqb-false m 0 e (sym z))))
+
+pub mask-none : (n m : ℕ) → n ≡ 0 → m < 2 ^ 64 → eqb m 0 ≡ maskC n .ok m
+mask-none n m e f = rw e (of-none (mask-lt 0 m (omega arith) f))
+  where
+    of-none : m / 2 ^ 64 < 2 ^ 0 → eqb m 0 ≡ maskC 0 .ok m
+    of-none k = let z : m / 2 ^ 64 ≡ 0 = omega arith in rw (mask-ok 0 m (omega arith) f, z) (zero-first m (eqb m 0) refl)
+
+-- ---- what is there or not
+
+flag-ok : (e : ℕ) (b : Bool) → flag e .ok b ≡ true
+unfolding flag number both
+flag-ok e true = refl
+flag-ok e false = refl
+
+pub masked-there : (n m : ℕ) (b : Bool) → b ≡ true → maskedC n .ok (b, m) ≡ maskC n .ok m
+unfolding maskedC
+masked-there n m b e = rw e (both-yes _ _ (flag-ok _ true))
+
+pub masked-none : (n m : ℕ) (b : Bool) → b ≡ false → maskedC n .ok (b, m) ≡ isZero m
+unfolding maskedC
+masked-none n m b e = rw e (both-yes _ _ (flag-ok _ false))
+
+module _ {A : Type 0} (o p : ℕ) (none : A) (isNone : A → Bool) (C : Codec A) (x : A) where
+  pub option-there : (b : Bool) → b ≡ true → option o p none isNone C .ok (b, x) ≡ C .ok x
+  option-there b e = rw e (both-yes _ _ refl ∙ both-yes _ _ (flag-ok o true) ∙ both-all _ ∙ both-yes _ _ (flag-ok p true))
+
+  pub option-none : (b : Bool) → b ≡ false → option o p none isNone C .ok (b, x) ≡ isNone x
+  option-none b e = rw e (both-yes _ _ refl ∙ both-yes _ _ (flag-ok o false) ∙ both-yes _ _ refl)
+
+-- ---- the header
+
+or-true : {A : Type 0} (a b : Bool) → (a ≡ true → A) → (b ≡ true → A) → (a || b) ≡ true → A
+or-true true b f g e = f refl
+or-true false b f g e = g e
+
+one-of : (t k : ℕ) → 2 ≤ k → k ≤ 16 → eqb t k ≡ true → (2 ≤ t) × (t ≤ 16)
+one-of t k l h e = let z = eqb-true t k e in (omega arith, omega arith)
+
+carried-small : (t : ℕ) → isCarried t ≡ true → (2 ≤ t) × (t ≤ 16)
+unfolding isCarried
+carried-small t e =
+    or-true (eqb t 2) _ (one-of t 2 (omega arith) (omega arith))
+    (or-true (eqb t 3) _ (one-of t 3 (omega arith) (omega arith))
+    (or-true (eqb t 8) _ (one-of t 8 (omega arith) (omega arith))
+    (or-true (eqb t 10) _ (one-of t 10 (omega arith) (omega arith))
+    (or-true (eqb t 12) _ (one-of t 12 (omega arith) (omega arith))
+    (or-true (eqb t 13) _ (one-of t 13 (omega arith) (omega arith))
+    (or-true (eqb t 15) _ (one-of t 15 (omega arith) (omega arith)) (one-of t 16 (omega arith) (omega arith)))))))) e
+
+carried-ok : (ss t : ℕ) → ss < 64 → isCarried t ≡ true → headerC ss .ok (ss, t) ≡ true
+unfolding headerC number isKnown
+carried-ok ss t h e =
+    let s = carried-small t e in
+    both-true _ _
+    (both-true _ _
+    (both-true _ _ (both-true _ _ (lt-ltb ss (2 ^ 6) (omega arith)) (lt-ltb t (2 ^ 5) (omega (arith, s)))) (eq-eqb ss ss refl))
+    (both-true _ _ (le-leb 2 t (omega (arith, s))) (le-leb t 18 (omega (arith, s)))))
+    e
+
+uncarried : (ss t : ℕ) → isCarried t ≡ false → headerC ss .ok (ss, t) ≡ false
+unfolding headerC
+uncarried ss t e = rw e (both-none _)
+
+header-by : (ss t : ℕ) (b : Bool) → ss < 64 → isCarried t ≡ b → isCarried t ≡ headerC ss .ok (ss, t)
+header-by ss t true h e = e ∙ sym (carried-ok ss t h e)
+header-by ss t false h e = e ∙ sym (uncarried ss t e)
+
+-- a carried type is known and fits; the SS type is itself
+pub header-fits : (ss t : ℕ) → ss < 64 → isCarried t ≡ headerC ss .ok (ss, t)
+header-fits ss t h = header-by ss t (isCarried t) h refl
+
+pub header-wide : (ss t : ℕ) → 64 ≤ ss → headerC ss .ok (ss, t) ≡ false
+unfolding headerC number both
+header-wide ss t h = rw (le-ltb ss (2 ^ 6) h)
