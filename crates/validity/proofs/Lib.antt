@@ -1,1 +1,2 @@
 pub mod ValidLaws
+pub mod Cases

@@ -1,18 +1,18 @@
 -- What the tests of validity go by. Assumes nothing.
 use Prim.Native.Nat.{ℕ, suc, _+_, _-_, _*_, _/_, _%_, _^_, _≤_, _<_}
-use mathlib.Core.Path.{_≡_, refl, sym, ap, _∙_}
+use mathlib.Core.Path.{_≡_, refl, sym, _∙_}
 use mathlib.Core.Bool.{Bool, true, false, _||_}
 use mathlib.Core.List.{List, _∷_}
 use native.Mathlib.Numerals.{add-one}
 use native.Mathlib.Omega.{arith}
-use lib.Dec.{eqb, leb, ltb}
+use lib.Dec.{eqb, ltb}
 use lib.ListN.{length, length-take, take, drop, getD, drop-of-length-le}
 use lib.Pow.{shr-lt, shl-exact}
 use lib.Seq.{drop-cons, getD-take}
 use borrow.Author.Tests.{eqb-true, eqb-false, eq-eqb, ne-eqb, lt-ltb, le-ltb, le-leb}
 use Rattle.codec.specs.Codec.{Codec, both, number, vecOk}
 use Rattle.codec.specs.Options.{flag, option}
-use Rattle.codec.proofs.Good.{both-true, not-both}
+use Rattle.codec.proofs.Good.{both-true}
 use Rattle.message.specs.Addresses.{nobody, isZero, isNobody, kindC, addressC}
 use Rattle.message.specs.Groups.{areNobody}
 use Rattle.message.specs.Acks.{maskC, maskedC}

@@ -1,10 +1,10 @@
-// Which values are valid: document 01, "Bits on the air", its last paragraph. A value is valid exactly if some message is read as it
-// and it is written as that message; the definition is the `ok` of `message`'s codec.
+// Which values are valid (document 01, "Bits on the air", its last paragraph): the numbers fit, ranges and addresses would pass 9 to 11,
+// and all that the message doesn't carry is zero. The definition is the `ok` of `message`'s codec, which its round trips are about.
 //
 // `valid` equals `validOf` for every profile and value, also for a profile that breaks a rule: refusing that is the caller's. The files
 // go from small to large: address, group, ack, body. Each function is the test of one codec, or of what a message doesn't carry.
 ghost use mathlib.Core.Path.{_≡_};
-ghost use Rattle.message.specs.Messages.{isKnown, headerC};
+ghost use Rattle.message.specs.Messages.{headerC};
 ghost use Rattle.validity.specs.Validity.{validOf};
 use message::Value;
 use profile::Profile;
