@@ -21,11 +21,11 @@ use Rattle.message.specs.declared.Address.{Address}
 
 -- ---- both
 
-pub both-yes : (a b : Bool) → a ≡ true → both a b ≡ b
+both-yes : (a b : Bool) → a ≡ true → both a b ≡ b
 unfolding both
 both-yes a b e = rw e
 
-pub both-no : (a b : Bool) → a ≡ false → both a b ≡ false
+both-no : (a b : Bool) → a ≡ false → both a b ≡ false
 unfolding both
 both-no a b e = rw e
 
