@@ -1,4 +1,4 @@
-//! An independent model of the SS-CAD message reader and of the listing program.
+//! An independent model of the reading and writing of SS-CAD messages and of the listing program.
 //! It shares nothing with the product: where the two differ, document 01 decides.
 
 mod bits;
@@ -7,14 +7,18 @@ mod dice;
 mod draw;
 mod fault;
 mod generate;
+mod hex;
 mod line;
 mod listing;
 mod message;
 mod odd;
 mod profile;
+mod rounds;
 mod selftest;
 mod shapes;
 mod suite;
+mod table;
+mod value;
 mod worked;
 mod write;
 
@@ -22,7 +26,8 @@ use std::env;
 use std::io::{self, BufWriter, Read, Write};
 use std::process::ExitCode;
 
-const USAGE: &str = "usage: model listing | generate SEED COUNT | suite | count | selftest";
+const USAGE: &str =
+    "usage: model listing | generate SEED COUNT | suite | count | rounds | selftest";
 
 fn main() -> ExitCode {
     let arguments: Vec<String> = env::args_os()
@@ -55,6 +60,7 @@ fn run(words: &[&str]) -> io::Result<Option<bool>> {
             _ => return Ok(None),
         },
         ["suite"] => suite::write_suite(&mut out)?,
+        ["rounds"] => rounds::print_rounds(&mut out)?,
         ["count"] => good = count::count(&standard_input()?, &mut out)?,
         ["selftest"] => good = selftest::selftest(&mut out)?,
         _ => return Ok(None),
