@@ -8,6 +8,8 @@ mod draw;
 mod fault;
 mod generate;
 mod hex;
+mod interface;
+mod layout;
 mod line;
 mod listing;
 mod message;

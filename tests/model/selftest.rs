@@ -1,6 +1,7 @@
 //! The model checked against document 01's worked cases and rules, and against its own laws.
 //! Each check prints one line; the answer is false if any failed.
 
+mod layouts;
 mod reading;
 mod writing;
 
@@ -26,5 +27,6 @@ pub fn selftest(out: &mut dyn Write) -> io::Result<bool> {
     };
     reading::check(&mut report)?;
     writing::check(&mut report)?;
+    layouts::check(&mut report)?;
     Ok(report.all_good)
 }
