@@ -1,10 +1,19 @@
-//! The shape of one input line of the listing: a bit length, one space, hex digits.
+//! Lines of input, and the shape of one of the listing: a bit length, one space, hex digits.
 //! Lines are bytes, not text: any byte may come.
 
 use crate::hex::{hex_of, read_hex};
 
 const MOST_LENGTH_DIGITS: usize = 4;
 const MOST_HEX_DIGITS: usize = 512;
+
+/// LF ends a line. What follows the last LF is a line too, unless it is empty.
+pub fn lines_of(input: &[u8]) -> Vec<&[u8]> {
+    let mut lines: Vec<&[u8]> = input.split(|byte| *byte == b'\n').collect();
+    if lines.last().map_or(false, |rest| rest.is_empty()) {
+        lines.pop();
+    }
+    lines
+}
 
 /// The bit length and bytes that a line gives, or nothing if it has another shape.
 pub fn read_line(line: &[u8]) -> Option<(usize, Vec<u8>)> {

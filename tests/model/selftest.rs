@@ -1,8 +1,11 @@
 //! The model checked against document 01's worked cases and rules, and against its own laws.
 //! Each check prints one line; the answer is false if any failed.
 
+mod desk;
 mod layouts;
 mod reading;
+mod script_lines;
+mod scripts;
 mod writing;
 
 use std::io::{self, Write};
@@ -28,5 +31,6 @@ pub fn selftest(out: &mut dyn Write) -> io::Result<bool> {
     reading::check(&mut report)?;
     writing::check(&mut report)?;
     layouts::check(&mut report)?;
+    desk::check(&mut report)?;
     Ok(report.all_good)
 }
