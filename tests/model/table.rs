@@ -14,7 +14,7 @@ const WIDE: usize = 48;
 const NARROW: usize = 12;
 const LARGEST: u32 = (1 << 24) - 1;
 
-/// The rows in order; row K of the paper is at K - 1.
+/// The rows in order; row K, counted from 1, is at K - 1.
 pub fn rows() -> Vec<Row> {
     let mut rows = Vec::new();
     for (area, value) in written().into_iter().chain(sizes()) {
