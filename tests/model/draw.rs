@@ -32,7 +32,7 @@ pub fn profile(dice: &mut Dice) -> Profile {
     }
 }
 
-fn posts(dice: &mut Dice) -> Vec<Post> {
+pub fn posts(dice: &mut Dice) -> Vec<Post> {
     let mut posts = Vec::new();
     let mut unreserved = PLACES;
     for _ in 0..=dice.below(MOST_POSTS) {

@@ -1,8 +1,19 @@
-//! The shape of one input line of the listing: a bit length, one space, hex digits.
+//! Lines of input, and the shape of one of the listing: a bit length, one space, hex digits.
 //! Lines are bytes, not text: any byte may come.
+
+use crate::hex::{hex_of, read_hex};
 
 const MOST_LENGTH_DIGITS: usize = 4;
 const MOST_HEX_DIGITS: usize = 512;
+
+/// LF ends a line. What follows the last LF is a line too, unless it is empty.
+pub fn lines_of(input: &[u8]) -> Vec<&[u8]> {
+    let mut lines: Vec<&[u8]> = input.split(|byte| *byte == b'\n').collect();
+    if lines.last().map_or(false, |rest| rest.is_empty()) {
+        lines.pop();
+    }
+    lines
+}
 
 /// The bit length and bytes that a line gives, or nothing if it has another shape.
 pub fn read_line(line: &[u8]) -> Option<(usize, Vec<u8>)> {
@@ -29,31 +40,7 @@ fn read_length(digits: &[u8]) -> Option<usize> {
     Some(length)
 }
 
-/// The bytes of an even number of upper-case hex digits.
-pub fn read_hex(hex: &[u8]) -> Option<Vec<u8>> {
-    if hex.len() % 2 != 0 {
-        return None;
-    }
-    let mut bytes = Vec::new();
-    for pair in hex.chunks(2) {
-        bytes.push(16 * hex_value(pair[0])? + hex_value(pair[1])?);
-    }
-    Some(bytes)
-}
-
-fn hex_value(digit: u8) -> Option<u8> {
-    match digit {
-        b'0'..=b'9' => Some(digit - b'0'),
-        b'A'..=b'F' => Some(digit - b'A' + 10),
-        _ => None,
-    }
-}
-
 /// The line for a bit length and bytes; of the right shape up to 9,999 bits and 256 bytes.
 pub fn line_of(length: usize, bytes: &[u8]) -> Vec<u8> {
-    let mut line = format!("{length} ");
-    for byte in bytes {
-        line.push_str(&format!("{byte:02X}"));
-    }
-    line.into_bytes()
+    format!("{length} {}", hex_of(bytes)).into_bytes()
 }

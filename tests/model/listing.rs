@@ -1,7 +1,7 @@
 //! The listing program: for each input line its number and the message's name, or the refusal.
 //! It works under the sample profile and takes any bytes as input.
 
-use crate::line::read_line;
+use crate::line::{lines_of, read_line};
 use crate::message::read;
 use crate::profile::{sample, Profile};
 use std::io::{self, Write};
@@ -12,15 +12,6 @@ pub fn list(input: &[u8], out: &mut dyn Write) -> io::Result<()> {
         writeln!(out, "{} {}", before + 1, answer(&profile, line))?;
     }
     Ok(())
-}
-
-/// LF ends a line. What follows the last LF is a line too, unless it is empty.
-fn lines_of(input: &[u8]) -> Vec<&[u8]> {
-    let mut lines: Vec<&[u8]> = input.split(|byte| *byte == b'\n').collect();
-    if lines.last().map_or(false, |rest| rest.is_empty()) {
-        lines.pop();
-    }
-    lines
 }
 
 fn answer(profile: &Profile, line: &[u8]) -> String {

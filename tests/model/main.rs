@@ -1,20 +1,34 @@
-//! An independent model of the SS-CAD message reader and of the listing program.
+//! An independent model of SS-CAD messages, of the call desk, and of the programs over them.
 //! It shares nothing with the product: where the two differ, document 01 decides.
 
+mod activate;
 mod bits;
 mod count;
+mod desk;
 mod dice;
 mod draw;
 mod fault;
 mod generate;
+mod hex;
+mod history;
+mod interface;
+mod layout;
 mod line;
 mod listing;
 mod message;
 mod odd;
+mod places;
 mod profile;
+mod records;
+mod replay;
+mod rounds;
+mod script;
 mod selftest;
 mod shapes;
 mod suite;
+mod table;
+mod tally;
+mod value;
 mod worked;
 mod write;
 
@@ -22,7 +36,8 @@ use std::env;
 use std::io::{self, BufWriter, Read, Write};
 use std::process::ExitCode;
 
-const USAGE: &str = "usage: model listing | generate SEED COUNT | suite | count | selftest";
+const USAGE: &str = "usage: model listing | generate SEED COUNT | suite | count | rounds | \
+    replay | script SEED COUNT | tally | selftest";
 
 fn main() -> ExitCode {
     let arguments: Vec<String> = env::args_os()
@@ -55,6 +70,13 @@ fn run(words: &[&str]) -> io::Result<Option<bool>> {
             _ => return Ok(None),
         },
         ["suite"] => suite::write_suite(&mut out)?,
+        ["rounds"] => rounds::print_rounds(&mut out)?,
+        ["replay"] => replay::replay(&standard_input()?, &mut out)?,
+        ["script", seed, count] => match (seed.parse(), count.parse()) {
+            (Ok(seed), Ok(count)) => history::write_script(seed, count, &mut out)?,
+            _ => return Ok(None),
+        },
+        ["tally"] => good = tally::tally(&standard_input()?, &mut out)?,
         ["count"] => good = count::count(&standard_input()?, &mut out)?,
         ["selftest"] => good = selftest::selftest(&mut out)?,
         _ => return Ok(None),

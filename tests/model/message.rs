@@ -8,7 +8,7 @@ pub const MOST_BITS: usize = 2048;
 pub const MOST_IDENTITIES: u32 = 64;
 
 /// `extension` is 0 with kind 1, which doesn't carry one.
-#[derive(Clone, PartialEq, Eq, Debug)]
+#[derive(Clone, Copy, PartialEq, Eq, Debug, Default)]
 pub struct Address {
     pub kind: u32,
     pub ssi: u32,
@@ -221,7 +221,8 @@ fn read_addresses(profile: &Profile, range: u32, bits: &mut Bits) -> Result<Grou
     Ok(Group { range, addresses })
 }
 
-fn are_range_ends(first: &Address, last: &Address) -> bool {
+/// Refusal 11 is given where two addresses are not the ends of a range.
+pub fn are_range_ends(first: &Address, last: &Address) -> bool {
     if first.kind != last.kind || first.extension != last.extension || first.ssi > last.ssi {
         return false;
     }

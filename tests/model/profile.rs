@@ -14,13 +14,13 @@ pub enum Meaning {
 }
 
 /// A post's share of the places: g (reserved number) and c (ceiling).
-#[derive(Clone, Debug)]
+#[derive(Clone, PartialEq, Eq, Debug)]
 pub struct Post {
     pub reserved: u32,
     pub ceiling: u32,
 }
 
-#[derive(Clone, Debug)]
+#[derive(Clone, PartialEq, Eq, Debug)]
 pub struct Profile {
     pub ss_type: u32,
     pub home_extension: u32,

@@ -1,7 +1,8 @@
 //! The fixed list of input lines that is stored as the listing's test input.
 //! Chosen by hand or counted through; no dice. Its last line has no LF.
 
-use crate::line::{line_of, read_hex};
+use crate::hex::read_hex;
+use crate::line::line_of;
 use crate::shapes;
 use crate::worked;
 use crate::write::{bytes_of, elements};

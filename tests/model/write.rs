@@ -1,8 +1,26 @@
-//! The bits of a message, element by element, and their bytes with zero spare bits.
-//! It checks nothing: a value that reading would refuse is written as it stands.
+//! Writing a value into a byte area, and below it the bits of a message, element by element.
+//! `bits_of` checks nothing: a message that reading would refuse is written as it stands.
 
+use crate::bits::Refusal;
 use crate::message::{AckResult, Address, Group, Message};
 use crate::profile::Profile;
+use crate::value::{valid_message, Value};
+
+/// Writes the value from byte 0 on and gives its bit length; the spare bits of the last byte
+/// are zero and no later byte is touched. A refusal leaves the area as it stood.
+pub fn write(profile: &Profile, value: &Value, area: &mut [u8]) -> Result<usize, Refusal> {
+    if !profile.keeps_rules() {
+        return Err(1);
+    }
+    let message = valid_message(profile, value).ok_or(22)?;
+    let bits = bits_of(profile, &message);
+    let bytes = bytes_of(&bits);
+    if area.len() < bytes.len() {
+        return Err(14);
+    }
+    area[..bytes.len()].copy_from_slice(&bytes);
+    Ok(bits.len())
+}
 
 /// Appends one element, most significant bit first.
 pub fn put(bits: &mut Vec<bool>, number: u32, width: usize) {

@@ -1,0 +1,201 @@
+//! The calls of a history: messages of posts, set-ups, rejects and cancels, good and faulty.
+
+use super::{Mood, Source};
+use crate::dice::Dice;
+use crate::draw;
+use crate::fault;
+use crate::hex::hex_of;
+use crate::message::{meaning_of, Address, Group, Message};
+use crate::profile::{Meaning, Profile};
+use crate::records::Identity;
+use crate::write::{bits_of, bytes_of};
+
+impl Source {
+    pub(super) fn call(&mut self) -> Vec<u8> {
+        let (set_up, ending) = match self.mood {
+            Mood::Fill => (50, 60),
+            Mood::Drain => (15, 65),
+            Mood::Mix => (25, 45),
+        };
+        match self.dice.below(100) {
+            chosen if chosen < set_up => self.set_up(),
+            chosen if chosen < ending => self.ending(),
+            chosen if chosen < 80 => self.activate(),
+            chosen if chosen < 90 => self.interrogate(),
+            _ => self.faulty_message(),
+        }
+    }
+
+    fn set_up(&mut self) -> Vec<u8> {
+        let (mut caller, mut called) = (self.party(), self.party());
+        let mut identifier = self.new_identifier();
+        if self.dice.one_in(25) {
+            let far = self.dice.pick(&[1 << 24, u32::MAX]);
+            match self.dice.below(5) {
+                0 => caller.ssi = far,
+                1 => caller.extension = far,
+                2 => called.ssi = far,
+                3 => called.extension = far,
+                _ => identifier = self.dice.pick(&[1 << 14, u32::MAX]),
+            }
+        }
+        format!(
+            "setup {} {} {} {} {identifier}",
+            caller.ssi, caller.extension, called.ssi, called.extension
+        )
+        .into_bytes()
+    }
+
+    /// Half of the time one whose record is in use and marked, if there is one.
+    fn party(&mut self) -> Identity {
+        let marked: Vec<Identity> = self
+            .replay
+            .records
+            .iter()
+            .filter(|record| record.in_use && record.active)
+            .map(|record| Identity {
+                ssi: record.ssi,
+                extension: record.extension,
+            })
+            .collect();
+        if marked.is_empty() || self.dice.one_in(2) {
+            self.cast.identity(&mut self.dice)
+        } else {
+            self.dice.pick(&marked)
+        }
+    }
+
+    /// One that ended calls leave behind and new ones take again; it may be waiting.
+    fn new_identifier(&mut self) -> u32 {
+        match self.dice.below(12) {
+            0 => self.dice.pick(&[0, 16_383]),
+            1 => self.dice.number(14),
+            _ => self.dice.below(300) as u32,
+        }
+    }
+
+    /// ACCEPT, DIVERT, reject or cancel, mostly of a waiting call and mostly at its post.
+    fn ending(&mut self) -> Vec<u8> {
+        let calls = self.calls_waiting();
+        let (mut identifier, mut post) = if calls.is_empty() || self.dice.one_in(8) {
+            (self.new_identifier(), self.post())
+        } else {
+            let call = self.dice.pick(&calls);
+            (call.identifier, call.post)
+        };
+        if self.dice.one_in(8) {
+            post = self.post();
+        }
+        let message = match self.dice.below(4) {
+            0 => Message::Accept { identifier },
+            1 => Message::Divert { identifier },
+            plain => {
+                let post_is_there = (post as usize) < self.replay.desk.profile.posts.len();
+                if self.dice.one_in(if post_is_there { 20 } else { 2 }) {
+                    identifier = self.dice.pick(&[1 << 14, u32::MAX]);
+                }
+                return if plain == 2 {
+                    format!("reject {post} {identifier}").into_bytes()
+                } else {
+                    format!("cancel {identifier}").into_bytes()
+                };
+            }
+        };
+        self.message_line(post, &message)
+    }
+
+    fn activate(&mut self) -> Vec<u8> {
+        let profile = &self.replay.desk.profile;
+        let users = self.cast.users(&mut self.dice, profile);
+        let dispatchers = match self.dice.below(8) {
+            0 => Some(self.cast.users(&mut self.dice, profile)),
+            1 => none_group(&mut self.dice, profile),
+            _ => None,
+        };
+        let post = self.post();
+        self.message_line(post, &Message::Activate { users, dispatchers })
+    }
+
+    /// Half of the time of a record's identity, and then mostly from the record's post.
+    fn interrogate(&mut self) -> Vec<u8> {
+        let mut user = self.cast.address(&mut self.dice);
+        let mut post = self.post();
+        if !self.replay.records.is_empty() && self.dice.one_in(2) {
+            let record = self.dice.pick(&self.replay.records);
+            user = Address {
+                kind: 2,
+                ssi: record.ssi % (1 << 24),
+                extension: record.extension % (1 << 24),
+            };
+            if !self.dice.one_in(4) {
+                post = record.post;
+            }
+        }
+        self.message_line(post, &Message::Interrogate { user })
+    }
+
+    /// A post of the profile, and now and then one that isn't there.
+    fn post(&mut self) -> u32 {
+        let count = self.replay.desk.profile.posts.len();
+        match self.dice.below(40) {
+            0 => self.dice.pick(&[count as u32, 8, 255, 256, u32::MAX]),
+            _ => self.dice.below(count) as u32,
+        }
+    }
+
+    fn message_line(&mut self, post: u32, message: &Message) -> Vec<u8> {
+        let bits = bits_of(&self.replay.desk.profile, message);
+        post_line(post, bits.len() as u32, &bytes_of(&bits))
+    }
+
+    /// A message that reading refuses, or one that posts don't send.
+    fn faulty_message(&mut self) -> Vec<u8> {
+        let post = self.post();
+        let (dice, profile) = (&mut self.dice, &self.replay.desk.profile);
+        let mut bits = match dice.below(12) {
+            0 => fault::ss_type(dice, profile),
+            1 | 2 => fault::pdu_type(dice, profile),
+            3 => fault::range_ends(dice, profile),
+            4 => fault::range(dice, profile),
+            5 => fault::kind(dice, profile),
+            6 => fault::option(dice, profile),
+            7 => fault::mask(dice, profile),
+            8 => fault::content(dice, profile),
+            _ => bits_of(profile, &draw::message(dice, profile)),
+        };
+        if dice.one_in(3) {
+            fault::touch(dice, &mut bits);
+        }
+        let mut bytes = bytes_of(&bits);
+        let mut length = bits.len() as u32;
+        if dice.one_in(5) {
+            length = dice.pick(&[0, length + 8, 2048, 2049, u32::MAX]);
+        }
+        if dice.one_in(8) {
+            bytes.resize(dice.pick(&[0, 1, 255, 256]), 0);
+        }
+        post_line(post, length, &bytes)
+    }
+}
+
+/// A group that means "none", which is as no option, if the profile has a range for it.
+fn none_group(dice: &mut Dice, profile: &Profile) -> Option<Group> {
+    let ranges: Vec<u32> = (0..16)
+        .filter(|range| meaning_of(profile, *range) == Meaning::NoIdentity)
+        .collect();
+    if ranges.is_empty() {
+        return None;
+    }
+    Some(Group {
+        range: dice.pick(&ranges),
+        addresses: Vec::new(),
+    })
+}
+
+fn post_line(post: u32, bits: u32, bytes: &[u8]) -> Vec<u8> {
+    if bytes.is_empty() {
+        format!("post {post} {bits}").into_bytes()
+    } else {
+        format!("post {post} {bits} {}", hex_of(bytes)).into_bytes()
+    }
+}

@@ -1,0 +1,9 @@
+//! The model as a static library for a C program: the same files, without the programs.
+
+pub mod bits;
+pub mod interface;
+pub mod layout;
+pub mod message;
+pub mod profile;
+pub mod value;
+pub mod write;

@@ -1,0 +1,152 @@
+//! The replay program: a desk run from a script, one call a line, each answered in words.
+//! The sample profile is in force at the start, with no record lent and 300 bytes of output.
+
+use crate::bits::Refusal;
+use crate::desk::{Answer, Desk, Lent, State};
+use crate::hex::hex_of;
+use crate::line::lines_of;
+use crate::profile::sample;
+use crate::records::Record;
+use crate::script::{read_script_line, Line, MOST_OUTPUT};
+use std::io::{self, Write};
+
+/// The desk and what is lent to it from line to line.
+pub struct Replay {
+    pub desk: Desk,
+    pub records: Vec<Record>,
+    pub output_bytes: usize,
+}
+
+pub fn replay(script: &[u8], out: &mut dyn Write) -> io::Result<()> {
+    let mut replay = Replay::new();
+    for (before, line) in lines_of(script).into_iter().enumerate() {
+        if let Some(words) = replay.run(line) {
+            writeln!(out, "{} {words}", before + 1)?;
+        }
+    }
+    Ok(())
+}
+
+impl Replay {
+    pub fn new() -> Self {
+        Replay {
+            desk: Desk::open(sample()).expect("the sample profile keeps the rules"),
+            records: Vec::new(),
+            output_bytes: MOST_OUTPUT,
+        }
+    }
+
+    /// Runs one line and gives what follows the line's number, if anything is printed.
+    pub fn run(&mut self, line: &[u8]) -> Option<String> {
+        let line = match read_script_line(line) {
+            Some(line) => line,
+            None => return Some("not understood".to_string()),
+        };
+        // Each call finds AA in every byte of the output area.
+        let mut output = vec![0xAA; self.output_bytes];
+        let lent = Lent {
+            records: &mut self.records,
+            output: &mut output,
+        };
+        let outcome = match line {
+            Line::Profile(profile) => return self.open(profile.ok_or(1).and_then(Desk::open)),
+            Line::Record { number, record } => return self.set_record(number, record),
+            Line::Out { bytes } => {
+                self.output_bytes = bytes;
+                return None;
+            }
+            Line::Place { place, call } => {
+                self.desk.places[place] = Some(call);
+                return None;
+            }
+            Line::Unplace { place } => {
+                self.desk.places[place] = None;
+                return None;
+            }
+            Line::Dump => return Some(self.dump()),
+            Line::Post { post, bits, bytes } => self.desk.message(lent, post, &bytes, bits),
+            Line::SetUp {
+                caller,
+                called,
+                identifier,
+            } => self.desk.set_up(lent, caller, called, identifier),
+            Line::Reject { post, identifier } => self.desk.reject(post, identifier),
+            Line::Cancel { identifier } => self.desk.cancel(identifier),
+        };
+        Some(words(outcome, &output))
+    }
+
+    /// A refused profile leaves the desk that is there.
+    fn open(&mut self, opened: Result<Desk, Refusal>) -> Option<String> {
+        match opened {
+            Ok(desk) => {
+                self.desk = desk;
+                None
+            }
+            Err(refusal) => Some(format!("refused {refusal}")),
+        }
+    }
+
+    fn set_record(&mut self, number: usize, record: Record) -> Option<String> {
+        if number >= self.records.len() {
+            self.records.resize(number + 1, Record::default());
+        }
+        self.records[number] = record;
+        None
+    }
+
+    fn dump(&self) -> String {
+        let mut words = vec!["dump".to_string()];
+        for (place, call) in self.desk.places.iter().enumerate() {
+            if let Some(call) = call {
+                words.push(format!("{place}:{}:{}", call.identifier, call.post));
+            }
+        }
+        words.push("|".to_string());
+        for (number, record) in self.records.iter().enumerate() {
+            if record.in_use {
+                words.push(format!(
+                    "{number}:{}:{}:{}:{}",
+                    record.ssi,
+                    record.extension,
+                    record.post,
+                    u32::from(record.active)
+                ));
+            }
+        }
+        words.join(" ")
+    }
+}
+
+fn words(outcome: Result<Answer, Refusal>, output: &[u8]) -> String {
+    let hex = |at: usize, bits: usize| hex_of(&output[at..at + (bits + 7) / 8]);
+    match outcome {
+        Err(refusal) => format!("refused {refusal}"),
+        Ok(Answer::Acks { bits }) => {
+            let mut words = vec!["acks".to_string(), bits.len().to_string()];
+            words.extend(bits.iter().map(usize::to_string));
+            for (number, bits) in bits.iter().enumerate() {
+                words.push(hex(100 * number, *bits));
+            }
+            words.join(" ")
+        }
+        Ok(Answer::State(state)) => format!("state {}", state_word(state)),
+        Ok(Answer::Free) => "free".to_string(),
+        Ok(Answer::Admitted { post, place, bits }) => {
+            format!("admitted {post} {place} {}", hex(0, bits))
+        }
+        Ok(Answer::Proceed { bits }) => format!("proceed {}", hex(0, bits)),
+        Ok(Answer::Diverted { bits }) => format!("diverted {}", hex(0, bits)),
+        Ok(Answer::Rejected) => "rejected".to_string(),
+        Ok(Answer::Cancelled) => "cancelled".to_string(),
+    }
+}
+
+fn state_word(state: State) -> &'static str {
+    match state {
+        State::NoRecord => "no-record",
+        State::OtherPost => "other-post",
+        State::Active => "active",
+        State::NotActive => "not-active",
+    }
+}

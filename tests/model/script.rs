@@ -1,0 +1,190 @@
+//! The shape of one line of a desk script. Words are parted by one space; lines are bytes.
+//! What is no such line is of another shape; README.md lists what was decided about it.
+
+use crate::hex::read_hex;
+use crate::layout::read_meaning;
+use crate::places::Call;
+use crate::profile::{Meaning, Post, Profile, MOST_POSTS, PLACES};
+use crate::records::{Identity, Record};
+
+pub const MOST_OUTPUT: usize = 300;
+const MOST_DIGITS: usize = 10;
+const MOST_HEX_DIGITS: usize = 512;
+/// SS type, home, U, N, sixteen meanings, number of posts.
+const NUMBERS_BEFORE_POSTS: usize = 21;
+
+pub enum Line {
+    /// Nothing where the numbers are no profile that keeps the rules.
+    Profile(Option<Profile>),
+    Record {
+        number: usize,
+        record: Record,
+    },
+    Post {
+        post: u32,
+        bits: usize,
+        bytes: Vec<u8>,
+    },
+    SetUp {
+        caller: Identity,
+        called: Identity,
+        identifier: u32,
+    },
+    Reject {
+        post: u32,
+        identifier: u32,
+    },
+    Cancel {
+        identifier: u32,
+    },
+    Out {
+        bytes: usize,
+    },
+    Place {
+        place: usize,
+        call: Call,
+    },
+    Unplace {
+        place: usize,
+    },
+    Dump,
+}
+
+/// Nothing if the line is of another shape.
+pub fn read_script_line(line: &[u8]) -> Option<Line> {
+    let words: Vec<&[u8]> = line.split(|byte| *byte == b' ').collect();
+    let (name, rest) = words.split_first()?;
+    match (*name, rest) {
+        (b"post", [post, bits]) => read_post(post, bits, Vec::new()),
+        (b"post", [post, bits, hex]) => read_post(post, bits, read_bytes(hex)?),
+        _ => read_numbers_line(name, &read_numbers(rest)?),
+    }
+}
+
+fn read_post(post: &[u8], bits: &[u8], bytes: Vec<u8>) -> Option<Line> {
+    Some(Line::Post {
+        post: read_number(post)?,
+        bits: read_number(bits)? as usize,
+        bytes,
+    })
+}
+
+/// All lines but `post` are a word and numbers.
+fn read_numbers_line(name: &[u8], numbers: &[u32]) -> Option<Line> {
+    match (name, numbers) {
+        (b"profile", _) => read_profile_line(numbers),
+        (b"record", [number, in_use, ssi, extension, post, active]) => Some(Line::Record {
+            number: at_most(*number, 255)? as usize,
+            record: Record {
+                in_use: at_most(*in_use, 1)? == 1,
+                ssi: *ssi,
+                extension: *extension,
+                post: at_most(*post, 255)?,
+                active: at_most(*active, 1)? == 1,
+            },
+        }),
+        (b"setup", [caller, callers, called, calleds, identifier]) => Some(Line::SetUp {
+            caller: Identity {
+                ssi: *caller,
+                extension: *callers,
+            },
+            called: Identity {
+                ssi: *called,
+                extension: *calleds,
+            },
+            identifier: *identifier,
+        }),
+        (b"reject", [post, identifier]) => Some(Line::Reject {
+            post: *post,
+            identifier: *identifier,
+        }),
+        (b"cancel", [identifier]) => Some(Line::Cancel {
+            identifier: *identifier,
+        }),
+        (b"out", [bytes]) => Some(Line::Out {
+            bytes: at_most(*bytes, MOST_OUTPUT as u32)? as usize,
+        }),
+        (b"place", [place, identifier, post]) => Some(Line::Place {
+            place: at_most(*place, PLACES - 1)? as usize,
+            call: Call {
+                identifier: at_most(*identifier, 65_535)?,
+                post: at_most(*post, 255)?,
+            },
+        }),
+        (b"unplace", [place]) => Some(Line::Unplace {
+            place: at_most(*place, PLACES - 1)? as usize,
+        }),
+        (b"dump", []) => Some(Line::Dump),
+        _ => None,
+    }
+}
+
+fn read_profile_line(numbers: &[u32]) -> Option<Line> {
+    let pairs = numbers.get(NUMBERS_BEFORE_POSTS..)?;
+    if pairs.is_empty() || pairs.len() % 2 != 0 || pairs.len() > 2 * MOST_POSTS {
+        return None;
+    }
+    Some(Line::Profile(profile_of(numbers, pairs)))
+}
+
+fn profile_of(numbers: &[u32], pairs: &[u32]) -> Option<Profile> {
+    let mut meanings = [Meaning::Reserved; 16];
+    for (range, meaning) in meanings.iter_mut().enumerate() {
+        *meaning = read_meaning(u8::try_from(numbers[4 + range]).ok()?)?;
+    }
+    let mut posts = Vec::new();
+    for pair in pairs.chunks(2) {
+        posts.push(Post {
+            reserved: pair[0],
+            ceiling: pair[1],
+        });
+    }
+    let profile = Profile {
+        ss_type: numbers[0],
+        home_extension: numbers[1],
+        meanings,
+        reason_no_record: numbers[2],
+        reason_other_post: numbers[3],
+        posts,
+    };
+    if profile.keeps_rules() && numbers[20] as usize == profile.posts.len() {
+        Some(profile)
+    } else {
+        None
+    }
+}
+
+fn at_most(number: u32, most: u32) -> Option<u32> {
+    if number <= most {
+        Some(number)
+    } else {
+        None
+    }
+}
+
+fn read_numbers(words: &[&[u8]]) -> Option<Vec<u32>> {
+    words.iter().map(|word| read_number(word)).collect()
+}
+
+/// 1 to 10 decimal digits, at most 4,294,967,295.
+fn read_number(digits: &[u8]) -> Option<u32> {
+    if digits.is_empty() || digits.len() > MOST_DIGITS {
+        return None;
+    }
+    let mut number: u64 = 0;
+    for digit in digits {
+        if !digit.is_ascii_digit() {
+            return None;
+        }
+        number = 10 * number + u64::from(digit - b'0');
+    }
+    u32::try_from(number).ok()
+}
+
+/// At least one byte: where there are none, the word isn't there either.
+fn read_bytes(hex: &[u8]) -> Option<Vec<u8>> {
+    if hex.is_empty() || hex.len() > MOST_HEX_DIGITS {
+        return None;
+    }
+    read_hex(hex)
+}

@@ -1,0 +1,162 @@
+//! The byte layouts of profile and value, and reading and writing through them.
+
+use super::Report;
+use crate::dice::Dice;
+use crate::draw;
+use crate::hex::read_hex;
+use crate::interface::{cad_read, cad_write};
+use crate::layout::{profile_bytes, read_profile, read_value, value_bytes};
+use crate::profile::sample;
+use crate::table::rows;
+use crate::value::flat;
+use std::io;
+
+const RANDOM_VALUES: usize = 5_000;
+
+/// The sample profile: header, sixteen meanings, two posts, six that aren't there.
+const SAMPLE: &[u8] = b"090000000102\
+    10010203000000000000000000000011\
+    02021E0408000000000000000000000000";
+
+/// Where the fields of some rows' values lie, each with the bytes that have to stand there.
+const FIELDS: [(usize, usize, &[u8]); 19] = [
+    (4, 0, b"02"),
+    (4, 1, b"03"),
+    (4, 2, b"02FFFFFFFFFFFF"),
+    (4, 9, b"01000000000000"),
+    (4, 16, b"02000001000000"),
+    (4, 23, b"00000000000000"),
+    (4, 121, b"01"),
+    (4, 122, b"0F"),
+    (4, 123, b"02000064000003"),
+    (4, 130, b"020000A3000003"),
+    (4, 137, b"00000000000000"),
+    (5, 107, b"01C000000000000000010000"),
+    (6, 107, b"012000000000000000000100"),
+    (9, 107, b"01AAAAAAAAAAAAAAAA000200"),
+    (10, 1, b"00010003E9000000"),
+    (13, 118, b"0200000100"),
+    (13, 123, b"01000001000000"),
+    (16, 118, b"003FFF0000"),
+    (18, 221, b"00000000000000"),
+];
+
+pub fn check(report: &mut Report) -> io::Result<()> {
+    sample_profile(report)?;
+    profile_bytes_changed(report)?;
+    fields_of_values(report)?;
+    values_to_and_from(report)?;
+    orders(report)?;
+    areas(report)
+}
+
+fn sample_profile(report: &mut Report) -> io::Result<()> {
+    let bytes = read_hex(SAMPLE).unwrap_or_default();
+    let good = profile_bytes(&sample()) == bytes && read_profile(&bytes) == Some(sample());
+    report.check("profile: the bytes of the sample profile", good)
+}
+
+/// Every byte of the sample's set to every number: a profile is read only from its own bytes.
+fn profile_bytes_changed(report: &mut Report) -> io::Result<()> {
+    let bytes = profile_bytes(&sample());
+    let (mut good, mut profiles) = (true, 0);
+    for place in 0..bytes.len() {
+        for byte in 0..=255 {
+            let mut changed = bytes.clone();
+            changed[place] = byte;
+            if let Some(profile) = read_profile(&changed) {
+                profiles += 1;
+                good &= profile.keeps_rules() && profile_bytes(&profile) == changed;
+            }
+        }
+    }
+    // SS 64, home 3 x 256, U and N 128 each, meanings 16 x 18, posts 1, reserved 4: 0 to 28 and
+    // 0 to 8, ceilings 2 to 32 and 4 to 32, rows of no post 12 x 1.
+    let expected = 64 + 768 + 256 + 288 + 1 + 29 + 31 + 9 + 29 + 12;
+    let what = format!("profile: {profiles} of 9984 with one byte changed are profiles");
+    report.check(&what, good && profiles == expected)?;
+
+    let longer = [&bytes[..], &[0]].concat();
+    let good = read_profile(&bytes[..38]).is_none() && read_profile(&longer).is_none();
+    report.check("profile: 38 and 40 bytes are none", good)
+}
+
+fn fields_of_values(report: &mut Report) -> io::Result<()> {
+    let rows = rows();
+    let mut good = true;
+    for (row, place, hex) in FIELDS {
+        let expected = read_hex(hex).unwrap_or_default();
+        let bytes = value_bytes(&rows[row - 1].value);
+        good &= bytes.len() == 228 && bytes[place..place + expected.len()] == expected[..];
+    }
+    report.check("value: fields of the table's rows at their bytes", good)
+}
+
+fn values_to_and_from(report: &mut Report) -> io::Result<()> {
+    let mut dice = Dice::new(5);
+    let mut good = true;
+    for _ in 0..RANDOM_VALUES {
+        let profile = draw::profile(&mut dice);
+        let value = flat(&draw::message(&mut dice, &profile));
+        let (profile, bytes) = (profile_bytes(&profile), value_bytes(&value));
+        good &= read_value(&bytes).as_ref() == Some(&value);
+
+        let (mut message, mut bits) = ([0xAA; 256], 0);
+        good &= cad_write(&profile, &bytes, &mut message, &mut bits) == 0;
+        let mut again = [0x55; 230];
+        good &= cad_read(&profile, &message, bits, &mut again) == 0;
+        good &= again[..228] == bytes[..] && again[228..] == [0x55; 2];
+    }
+    let what = format!("{RANDOM_VALUES} random values and profiles through their bytes");
+    report.check(&what, good)
+}
+
+/// Each call has all the faults that come after its own in the order.
+fn orders(report: &mut Report) -> io::Result<()> {
+    let profile = profile_bytes(&sample());
+    let accepted = value_bytes(&rows()[14].value);
+    let mut flagged = accepted.clone();
+    flagged[107] = 2;
+    let mut optioned = accepted.clone();
+    optioned[121] = 2;
+    let longer = [&accepted[..], &[0]].concat();
+
+    let read = |profile: &[u8], bits| cad_read(profile, &[0x25, 0xA0], bits, &mut []);
+    let good = read(&profile[..38], 0) == 1
+        && read(&profile, 0) == 3
+        && read(&profile, 12) == 13
+        && read(&profile, 11) == 14;
+    report.check("cad_read: 1, then reading, then 14", good)?;
+
+    let write = |profile: &[u8], value: &[u8]| cad_write(profile, value, &mut [], &mut 0);
+    let good = write(&[], &flagged) == 1
+        && write(&profile, &flagged) == 22
+        && write(&profile, &optioned) == 22
+        && write(&profile, &accepted[..227]) == 22
+        && write(&profile, &longer) == 22
+        && write(&profile, &accepted) == 14;
+    report.check("cad_write: 1, then 22, then 14", good)
+}
+
+fn areas(report: &mut Report) -> io::Result<()> {
+    let profile = profile_bytes(&sample());
+    let mut short = [0x55; 227];
+    let mut good = cad_read(&profile, &[0x25, 0xA0], 11, &mut short) == 14;
+    good &= short == [0x55; 227];
+    let mut long = [0x55; 228];
+    good &= cad_read(&profile, &[0x25, 0xA0], 12, &mut long) == 13;
+    good &= long == [0x55; 228];
+    report.check("cad_read: a refusal leaves the value area", good)?;
+
+    let accepted = value_bytes(&rows()[14].value);
+    let (mut message, mut bits) = ([0xAA; 3], 77);
+    let mut good = cad_write(&profile, &accepted, &mut message[..1], &mut bits) == 14;
+    good &= cad_write(&profile, &accepted[1..], &mut message, &mut bits) == 22;
+    good &= message == [0xAA; 3] && bits == 77;
+    good &= cad_write(&profile, &accepted, &mut message, &mut bits) == 0;
+    good &= message == [0x25, 0xA0, 0xAA] && bits == 11;
+    report.check(
+        "cad_write: a refusal leaves the area and the bit length",
+        good,
+    )
+}

@@ -1,0 +1,249 @@
+//! Writing, checked against the bytes of document 01's worked cases, and the two round trips.
+
+use super::Report;
+use crate::dice::Dice;
+use crate::draw;
+use crate::hex::read_hex;
+use crate::message::{meaning_of, read, Address};
+use crate::profile::{sample, Meaning, Profile};
+use crate::table::rows;
+use crate::value::{flat, valid, FlatGroup, Value};
+use crate::write::write;
+use std::io;
+
+const RANDOM_VALUES: usize = 20_000;
+/// An ACTIVATE with two lists of 15 addresses of kind 2 has 1,521 bits, and none has more.
+const MOST_BYTES: usize = 191;
+
+/// Numbers that lie just within or just outside some width.
+const EDGES: [u32; 12] = [
+    0, 1, 2, 31, 32, 127, 128, 255, 16_383, 16_384, 16_777_215, 16_777_216,
+];
+
+/// Row of the table, worked case of document 01, its bit length and its bytes.
+const PAPER: [(usize, u32, usize, &[u8]); 8] = [
+    (15, 1, 11, b"25A0"),
+    (14, 2, 25, b"25800280"),
+    (16, 3, 25, b"25FFFF80"),
+    (12, 4, 17, b"254000"),
+    (17, 5, 17, b"260000"),
+    (13, 6, 44, b"2542D0000010"),
+    (10, 7, 37, b"2508001F48"),
+    (1, 8, 68, b"245E8001F4A0007D80"),
+];
+
+pub fn check(report: &mut Report) -> io::Result<()> {
+    rows_of_the_paper(report)?;
+    rows_refused(report)?;
+    refusal_1(report)?;
+    values_written_and_read(report)?;
+    values_changed(report)
+}
+
+fn rows_of_the_paper(report: &mut Report) -> io::Result<()> {
+    let rows = rows();
+    for (row, case, length, hex) in PAPER {
+        let bytes = read_hex(hex).unwrap_or_default();
+        let mut area = [0xAA; 48];
+        let written = write(&sample(), &rows[row - 1].value, &mut area);
+        let rest_stays = area[bytes.len()..].iter().all(|byte| *byte == 0xAA);
+        let good = written == Ok(length) && area[..bytes.len()] == bytes[..] && rest_stays;
+        let what = format!("row {row}: the bytes of case {case}, {length} bits");
+        report.check(&what, good)?;
+    }
+    Ok(())
+}
+
+fn rows_refused(report: &mut Report) -> io::Result<()> {
+    for (before, row) in rows().iter().enumerate() {
+        let expected = match before + 1 {
+            20 | 22 | 23 => 14,
+            24..=37 => 22,
+            _ => continue,
+        };
+        let mut area = vec![0xAA; row.area];
+        let refused = write(&sample(), &row.value, &mut area) == Err(expected);
+        let good = refused && area.iter().all(|byte| *byte == 0xAA);
+        let what = format!("row {}: refused {expected}, area as it stood", before + 1);
+        report.check(&what, good)?;
+    }
+    Ok(())
+}
+
+/// 1 before 22 before 14, each with all that follow it true as well.
+fn refusal_1(report: &mut Report) -> io::Result<()> {
+    let mut broken = sample();
+    broken.posts.clear();
+    let not_valid = Value::default();
+    let good = write(&broken, &not_valid, &mut []) == Err(1)
+        && write(&sample(), &not_valid, &mut []) == Err(22)
+        && write(&sample(), &rows()[14].value, &mut []) == Err(14);
+    report.check("writing: 1 before 22 before 14", good)
+}
+
+fn values_written_and_read(report: &mut Report) -> io::Result<()> {
+    let mut dice = Dice::new(3);
+    let (mut back, mut touched, mut short) = (true, true, true);
+    for _ in 0..RANDOM_VALUES {
+        let profile = draw::profile(&mut dice);
+        let value = flat(&draw::message(&mut dice, &profile));
+        back &= valid(&profile, &value);
+
+        let mut area = dice.bytes(MOST_BYTES + 10);
+        let before = area.clone();
+        let length = match write(&profile, &value, &mut area) {
+            Ok(length) => length,
+            Err(_) => {
+                back = false;
+                continue;
+            }
+        };
+        back &= read(&profile, &area, length).map(|message| flat(&message)) == Ok(value.clone());
+
+        let bytes = (length + 7) / 8;
+        let spare = 8 * bytes - length;
+        touched &= area[bytes..] == before[bytes..];
+        touched &= area[bytes - 1] % (1 << spare) == 0;
+
+        let mut exact = vec![0x55; bytes];
+        short &= write(&profile, &value, &mut exact) == Ok(length) && exact == area[..bytes];
+        let mut less = before[..bytes - 1].to_vec();
+        short &= write(&profile, &value, &mut less) == Err(14) && less == before[..bytes - 1];
+    }
+    let all = format!("{RANDOM_VALUES} random values under random profiles");
+    report.check(&format!("{all}: valid, written and read back"), back)?;
+    report.check(
+        &format!("{all}: spare bits zero, no later byte touched"),
+        touched,
+    )?;
+    report.check(&format!("{all}: 14 exactly from one byte less"), short)
+}
+
+/// A valid value with one field changed is written only if it is read back as it is, and
+/// only then is it called valid.
+fn values_changed(report: &mut Report) -> io::Result<()> {
+    let mut dice = Dice::new(4);
+    let (mut good, mut written, mut refused) = (true, 0, 0);
+    for _ in 0..RANDOM_VALUES {
+        let profile = draw::profile(&mut dice);
+        let mut value = flat(&draw::message(&mut dice, &profile));
+        change(&mut dice, &mut value);
+        let mut area = [0xAA; MOST_BYTES];
+        match write(&profile, &value, &mut area) {
+            Ok(length) => {
+                written += 1;
+                let back = read(&profile, &area, length).map(|message| flat(&message));
+                good &= valid(&profile, &value) && fits_every_rule(&profile, &value);
+                good &= back == Ok(value);
+            }
+            Err(refusal) => {
+                refused += 1;
+                good &= refusal == 22 && !valid(&profile, &value) && area == [0xAA; MOST_BYTES];
+                good &= !fits_every_rule(&profile, &value);
+            }
+        }
+    }
+    let all = format!("{written} changed values written and {refused} refused with 22");
+    report.check(&all, good && written > 1000 && refused > 1000)
+}
+
+/// One field set to a number from a few that lie on an edge.
+fn change(dice: &mut Dice, value: &mut Value) {
+    let edge = dice.pick(&EDGES);
+    let group = match dice.below(2) {
+        0 => &mut value.users,
+        _ => &mut value.dispatchers,
+    };
+    let address = &mut group.addresses[match dice.below(2) {
+        0 => dice.below(3),
+        _ => dice.below(15),
+    }];
+    match dice.below(13) {
+        0 => value.pdu = dice.number(5),
+        1 => group.range = dice.pick(&[0, 1, 7, 15, 16, 255]),
+        2 => address.kind = dice.pick(&[0, 1, 2, 3, 4, 255]),
+        3 => address.ssi = edge,
+        4 => address.extension = edge,
+        5 => value.masked = !value.masked,
+        6 => value.mask ^= 1 << dice.below(64),
+        7 => value.mask = 0,
+        8 => value.result = edge,
+        9 => value.reason = edge,
+        10 => value.cause = edge,
+        11 => value.identifier = edge,
+        _ => value.option = !value.option,
+    }
+}
+
+/// Validity said a second time, as document 01's sentence has it: type, widths, 9 to 11, zeros.
+fn fits_every_rule(profile: &Profile, value: &Value) -> bool {
+    let group_of_users = value.pdu == 2 || value.pdu == 3;
+    let one_user = value.pdu == 8;
+    let group_of_dispatchers = value.pdu == 2 && value.option;
+    let with_cause = value.pdu == 10 || value.pdu == 16;
+    let one_dispatcher = with_cause && value.option;
+    let ack = value.pdu == 3;
+    let with_identifier = value.pdu == 12 || value.pdu == 15;
+
+    [2, 3, 8, 10, 12, 13, 15, 16].contains(&value.pdu)
+        && group_rule(profile, &value.users, group_of_users, one_user)
+        && group_rule(
+            profile,
+            &value.dispatchers,
+            group_of_dispatchers,
+            one_dispatcher,
+        )
+        && !(group_of_users && meaning_of(profile, value.users.range) == Meaning::NoIdentity)
+        && value.result <= u32::from(ack)
+        && value.reason <= if ack && value.result == 0 { 127 } else { 0 }
+        && (!value.masked || ack)
+        && mask_rule(profile, value)
+        && value.cause <= if with_cause { 31 } else { 0 }
+        && value.identifier <= if with_identifier { 16_383 } else { 0 }
+        && (!value.option || value.pdu == 2 || with_cause)
+}
+
+/// The rule of a group that is there, of one address alone, or of nothing.
+fn group_rule(profile: &Profile, group: &FlatGroup, whole: bool, one: bool) -> bool {
+    if group.range > if whole { 15 } else { 0 } {
+        return false;
+    }
+    let count = match meaning_of(profile, group.range) {
+        _ if !whole => usize::from(one),
+        Meaning::Reserved => return false,
+        Meaning::NoIdentity => 0,
+        Meaning::List(count) => usize::from(count),
+        Meaning::FirstAndLast => {
+            let (first, last) = (&group.addresses[0], &group.addresses[1]);
+            if (first.kind, first.extension) != (last.kind, last.extension)
+                || !(first.ssi..first.ssi + 64).contains(&last.ssi)
+            {
+                return false;
+            }
+            2
+        }
+    };
+    let (there, beyond) = group.addresses.split_at(count);
+    there.iter().all(address_rule) && beyond.iter().all(|rest| *rest == Address::default())
+}
+
+fn address_rule(address: &Address) -> bool {
+    address.ssi < 1 << 24
+        && match address.kind {
+            1 => address.extension == 0,
+            2 => address.extension < 1 << 24,
+            _ => false,
+        }
+}
+
+/// No bit of an absent mask, and none beyond the identities; asked once the group is good.
+fn mask_rule(profile: &Profile, value: &Value) -> bool {
+    if !value.masked {
+        return value.mask == 0;
+    }
+    let identities = match meaning_of(profile, value.users.range) {
+        Meaning::List(count) => u32::from(count),
+        _ => value.users.addresses[1].ssi - value.users.addresses[0].ssi + 1,
+    };
+    identities == 64 || value.mask << identities == 0
+}

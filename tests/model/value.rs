@@ -1,0 +1,234 @@
+//! The flat value: one struct with a field for all that any of the eight messages carries.
+//! What a message doesn't carry is zero, so a value is valid exactly if it is some message, flat.
+
+use crate::message::{are_range_ends, identity_count, meaning_of};
+use crate::message::{AckResult, Address, Group, Message};
+use crate::profile::{Meaning, Profile};
+
+pub const MOST_ADDRESSES: usize = 15;
+
+/// A range number and the addresses from place 0 on; the places beyond the count are zero.
+#[derive(Clone, PartialEq, Eq, Debug, Default)]
+pub struct FlatGroup {
+    pub range: u32,
+    pub addresses: [Address; MOST_ADDRESSES],
+}
+
+#[derive(Clone, PartialEq, Eq, Debug, Default)]
+pub struct Value {
+    pub pdu: u32,
+    /// INTERROGATE's one address is address 0 here, with range number 0.
+    pub users: FlatGroup,
+    pub masked: bool,
+    /// Identity i, from 0, is bit 63 - i, whatever the count.
+    pub mask: u64,
+    pub result: u32,
+    pub reason: u32,
+    pub cause: u32,
+    pub identifier: u32,
+    pub option: bool,
+    /// The one dispatcher of INTERCEPTED and DIVERTED is address 0 here, with range number 0.
+    pub dispatchers: FlatGroup,
+}
+
+/// Document 01: "A value is valid exactly if ..."
+pub fn valid(profile: &Profile, value: &Value) -> bool {
+    valid_message(profile, value).is_some()
+}
+
+/// The message that a valid value is; nothing for any other value.
+pub fn valid_message(profile: &Profile, value: &Value) -> Option<Message> {
+    let message = carried(profile, value)?;
+    // The flat form of what is carried is zero all around it: so must the value be.
+    if flat(&message) == *value {
+        Some(message)
+    } else {
+        None
+    }
+}
+
+/// A message, one that reading accepts, as a flat value.
+pub fn flat(message: &Message) -> Value {
+    let mut value = Value {
+        pdu: message.pdu_type(),
+        ..Value::default()
+    };
+    match message {
+        Message::Activate { users, dispatchers } => {
+            value.users = flat_group(users);
+            if let Some(group) = dispatchers {
+                value.option = true;
+                value.dispatchers = flat_group(group);
+            }
+        }
+        Message::ActivateAck {
+            users,
+            mask,
+            result,
+        } => {
+            value.users = flat_group(users);
+            if let Some(mask) = mask {
+                value.masked = true;
+                value.mask = flat_mask(mask);
+            }
+            match result {
+                AckResult::Accepted => value.result = 1,
+                AckResult::NotAccepted { reason } => value.reason = *reason,
+            }
+        }
+        Message::Interrogate { user } => value.users.addresses[0] = *user,
+        Message::Intercepted { cause, dispatcher } | Message::Diverted { cause, dispatcher } => {
+            value.cause = *cause;
+            if let Some(address) = dispatcher {
+                value.option = true;
+                value.dispatchers.addresses[0] = *address;
+            }
+        }
+        Message::Accept { identifier } | Message::Divert { identifier } => {
+            value.identifier = *identifier;
+        }
+        Message::Accepted => {}
+    }
+    value
+}
+
+fn flat_group(group: &Group) -> FlatGroup {
+    let mut flat = FlatGroup {
+        range: group.range,
+        ..FlatGroup::default()
+    };
+    for (place, address) in group.addresses.iter().enumerate() {
+        flat.addresses[place] = *address;
+    }
+    flat
+}
+
+fn flat_mask(mask: &[bool]) -> u64 {
+    let mut flat = 0;
+    for (identity, bit) in mask.iter().enumerate() {
+        flat |= u64::from(*bit) << (63 - identity);
+    }
+    flat
+}
+
+/// The message that the value's PDU type makes of it, whatever the fields beside it hold;
+/// nothing if the type isn't carried, a number is too wide, or reading would give 9, 10 or 11.
+fn carried(profile: &Profile, value: &Value) -> Option<Message> {
+    match value.pdu {
+        2 => Some(Message::Activate {
+            users: carried_users(profile, &value.users)?,
+            dispatchers: if value.option {
+                Some(carried_group(profile, &value.dispatchers)?)
+            } else {
+                None
+            },
+        }),
+        3 => carried_ack(profile, value),
+        8 => Some(Message::Interrogate {
+            user: carried_address(&value.users.addresses[0])?,
+        }),
+        10 => Some(Message::Intercepted {
+            cause: fitting(value.cause, 5)?,
+            dispatcher: carried_dispatcher(value)?,
+        }),
+        12 => Some(Message::Accept {
+            identifier: fitting(value.identifier, 14)?,
+        }),
+        13 => Some(Message::Accepted),
+        15 => Some(Message::Divert {
+            identifier: fitting(value.identifier, 14)?,
+        }),
+        16 => Some(Message::Diverted {
+            cause: fitting(value.cause, 5)?,
+            dispatcher: carried_dispatcher(value)?,
+        }),
+        _ => None,
+    }
+}
+
+fn carried_ack(profile: &Profile, value: &Value) -> Option<Message> {
+    let users = carried_users(profile, &value.users)?;
+    let mut mask = None;
+    if value.masked {
+        let mut bits = Vec::new();
+        for identity in 0..identity_count(profile, &users) {
+            bits.push((value.mask >> (63 - identity)) & 1 == 1);
+        }
+        mask = Some(bits);
+    }
+    let result = if fitting(value.result, 1)? == 1 {
+        AckResult::Accepted
+    } else {
+        AckResult::NotAccepted {
+            reason: fitting(value.reason, 7)?,
+        }
+    };
+    Some(Message::ActivateAck {
+        users,
+        mask,
+        result,
+    })
+}
+
+/// The dispatcher of INTERCEPTED and DIVERTED, if the option is there; nothing at all if it
+/// is there and reading would refuse it.
+fn carried_dispatcher(value: &Value) -> Option<Option<Address>> {
+    if value.option {
+        Some(Some(carried_address(&value.dispatchers.addresses[0])?))
+    } else {
+        Some(None)
+    }
+}
+
+fn carried_users(profile: &Profile, group: &FlatGroup) -> Option<Group> {
+    let range = fitting(group.range, 4)?;
+    if meaning_of(profile, range) == Meaning::NoIdentity {
+        return None;
+    }
+    carried_group(profile, group)
+}
+
+fn carried_group(profile: &Profile, group: &FlatGroup) -> Option<Group> {
+    let range = fitting(group.range, 4)?;
+    let meaning = meaning_of(profile, range);
+    let count = match meaning {
+        Meaning::Reserved => return None,
+        Meaning::NoIdentity => 0,
+        Meaning::List(count) => usize::from(count),
+        Meaning::FirstAndLast => 2,
+    };
+    let mut addresses = Vec::new();
+    for address in &group.addresses[..count] {
+        addresses.push(carried_address(address)?);
+    }
+    if meaning == Meaning::FirstAndLast && !are_range_ends(&addresses[0], &addresses[1]) {
+        return None;
+    }
+    Some(Group { range, addresses })
+}
+
+fn carried_address(address: &Address) -> Option<Address> {
+    let ssi = fitting(address.ssi, 24)?;
+    match address.kind {
+        1 => Some(Address {
+            kind: 1,
+            ssi,
+            extension: 0,
+        }),
+        2 => Some(Address {
+            kind: 2,
+            ssi,
+            extension: fitting(address.extension, 24)?,
+        }),
+        _ => None,
+    }
+}
+
+/// The number itself, if it fits the width.
+fn fitting(number: u32, width: usize) -> Option<u32> {
+    if number < 1 << width {
+        Some(number)
+    } else {
+        None
+    }
+}
