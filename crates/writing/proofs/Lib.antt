@@ -1,0 +1,5 @@
+pub mod WroteLaws
+pub mod PartLaws
+pub mod LengthLaws
+pub mod LayLaws
+pub mod RoundTrips

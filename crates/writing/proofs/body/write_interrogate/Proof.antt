@@ -1,0 +1,25 @@
+-- `writing::body::write_interrogate` meets its contract. Assumes nothing.
+use borrow.Author.Needs.{needs}
+use Rattle.message.specs.Messages.{interrogateC}
+use Rattle.writing.proofs.body.write_interrogate.Statement.{statement}
+use Rattle.writing.proofs.body.write_interrogate.Tie as tie
+
+first-requires : tie.Need-first-requires
+first-requires c κs = search needs
+
+write-address-requires : tie.Need-write-address-requires
+write-address-requires c κs = search needs
+
+same-length : tie.Need-same-length
+same-length c = search needs
+
+returns : tie.Need-returns
+unfolding interrogateC
+returns c =
+    let p1 = c .before .before .before .before in
+    let p2 = c .before .before in
+    rw (p1 .first .ensures) at (p2 .write-address .ensures)
+
+pub write-interrogate-spec : {M : Type 1} → statement M
+write-interrogate-spec =
+    tie.close (tie.spec first-requires write-address-requires same-length returns)

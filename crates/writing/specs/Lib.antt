@@ -1,0 +1,3 @@
+pub mod Wrote
+pub mod Parts
+pub mod Writing
