@@ -3,3 +3,4 @@ pub mod PartLaws
 pub mod LengthLaws
 pub mod LayLaws
 pub mod RoundTrips
+pub mod Cases
