@@ -1,13 +1,13 @@
 -- A message laid in an area: what is written from the top bit of a byte on, with its spare bits zero. Assumes nothing.
-use Prim.Native.Nat.{ℕ, _+_, _-_, _*_, _/_, _%_, _^_, _≤_, _<_}
-use mathlib.Core.Path.{_≡_, refl, sym, ap, _∙_, subst}
-use mathlib.Core.Bool.{Bool, true, false}
-use mathlib.Core.List.{List, _++_}
+use Prim.Native.Nat.{ℕ, _+_, _*_, _/_, _%_, _^_, _≤_, _<_}
+use mathlib.Core.Path.{_≡_, refl, sym, ap, _∙_}
+use mathlib.Core.Bool.{true}
+use mathlib.Core.List.{List}
 use native.Mathlib.Omega.{arith}
-use lib.ListN.{length, length-append}
+use lib.ListN.{length}
 use borrow.Author.Tests.{le-leb, lt-leb}
 use Rattle.bits.specs.Puts.{putBits, binary, spare, padOf}
-use Rattle.bits.proofs.PutLaws.{length-put, length-binary, put-append, pad-there}
+use Rattle.bits.proofs.PutLaws.{put-append, pad-there}
 use Rattle.codec.specs.Stops.{refusal, noStop}
 use Rattle.codec.specs.declared.Stop.{Stop}
 use Rattle.writing.specs.Wrote.{Room, Wrote}

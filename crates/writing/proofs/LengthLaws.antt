@@ -1,15 +1,14 @@
 -- How long a valid message is. Assumes nothing.
-use Prim.Native.Nat.{ℕ, zero, suc, _+_, _*_, _-_, _/_, _^_, _≤_}
-use mathlib.Core.Path.{_≡_, refl, sym, ap, _∙_}
+use Prim.Native.Nat.{ℕ, _+_, _*_, _-_, _/_, _^_, _≤_}
+use mathlib.Core.Path.{_≡_, refl, ap}
 use mathlib.Core.Bool.{Bool, true, false}
 use mathlib.Core.List.{List, [], _∷_, _++_}
 use native.Mathlib.Omega.{arith}
 use lib.Dec.{eqb}
 use lib.ListN.{length, length-append, length-take, take}
-use borrow.Author.Tests.{eq-eqb, ne-eqb, leb-true}
 use Rattle.bits.specs.Puts.{binary}
 use Rattle.bits.proofs.PutLaws.{length-binary}
-use Rattle.codec.specs.Codec.{Codec, both, number, pure, choose, vecBits}
+use Rattle.codec.specs.Codec.{Codec, number, pure, choose, vecBits}
 use Rattle.codec.specs.Options.{flag, option}
 use Rattle.codec.proofs.Good.{both-left, both-right}
 use Rattle.profile.specs.Rules.{meaningIn}

@@ -3,7 +3,7 @@
 --     write-read   what `read` read, `write` writes as the same bits
 --     writes       a valid value is written wherever there is room for it
 -- Assumes nothing.
-use Prim.Native.Nat.{ℕ, _+_, _*_, _/_, _%_, _≤_, _<_}
+use Prim.Native.Nat.{ℕ, _+_, _*_, _≤_}
 use mathlib.Core.Path.{_≡_, refl, sym, ap, _∙_, subst}
 use mathlib.Core.Bool.{Bool, true, false, cond}
 use mathlib.Core.List.{List, _++_}
@@ -12,16 +12,15 @@ use lib.Dec.{eqb, leb}
 use lib.ListN.{length, length-append}
 use borrow.Author.Tests.{eq-eqb, eqb-true, le-leb, leb-true}
 use Rattle.bits.specs.Fields.{bitAt}
-use Rattle.bits.specs.Puts.{putBits, binary, spare, padOf}
-use Rattle.bits.proofs.PutLaws.{length-put, length-binary, put-append, pad-there}
-use Rattle.bits.proofs.Stands.{Stands, stands-left, stands-agree, bits-join, put-stands, put-standing}
+use Rattle.bits.specs.Puts.{putBits, binary, spare}
+use Rattle.bits.proofs.PutLaws.{length-put, length-binary}
+use Rattle.bits.proofs.Stands.{Stands, stands-left, stands-agree, bits-join, put-stands}
 use Rattle.bits.proofs.RoundLaws.{binary-bits}
 use Rattle.codec.specs.Stops.{refusal, noStop}
 use Rattle.codec.specs.Codec.{Codec, Read, got, no, bind, both}
 use Rattle.codec.proofs.Good.{Agree, Found, Good, both-right, not-both}
 use Rattle.codec.proofs.RoundTrips.{read-found}
 use Rattle.profile.specs.Rules.{profileOk}
-use Rattle.profile.specs.declared.Air.{Air}
 use Rattle.profile.specs.declared.Profile.{Profile}
 use Rattle.message.specs.Messages.{messageC}
 use Rattle.message.specs.Reading.{whole, wholeOf, lengthOk, readBits, readOf}

@@ -1,7 +1,7 @@
 -- Writing a message: document 01's order, 1, then 22, then 14. The bits go from the top bit of a byte on, the spare bits of the last
 -- byte are zero, and all other bytes stay.
 use Prim.Native.Nat.{ℕ, _+_, _*_, _/_}
-use mathlib.Core.Bool.{Bool, true, false, cond}
+use mathlib.Core.Bool.{true, false, cond}
 use mathlib.Core.List.{List, _++_}
 use lib.Dec.{leb}
 use lib.ListN.{length}

@@ -1,6 +1,5 @@
 // ACTIVATE ACK: users, a mask of one bit for each identity, a result.
 ghost use mathlib.Core.Path.{_≡_};
-ghost use mathlib.Core.Bool.{Bool};
 ghost use Prim.Native.Nat.{_-_, _/_, _^_, _≤_};
 ghost use Rattle.message.specs.Groups.{spanOf};
 ghost use Rattle.message.specs.Acks.{maskedC, resultC};

@@ -1,5 +1,4 @@
 // One address.
-ghost use mathlib.Core.Path.{_≡_};
 ghost use Rattle.message.specs.Addresses.{extensionC, addressC};
 ghost use Rattle.writing.specs.Wrote.{Wrote};
 use crate::element;

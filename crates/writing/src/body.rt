@@ -1,6 +1,5 @@
 // What each message has after the first 11 bits.
 ghost use mathlib.Core.Path.{_≡_};
-ghost use mathlib.Core.Bool.{Bool};
 ghost use Prim.Native.Nat.{_≤_};
 ghost use lib.ListN.{getD};
 ghost use Rattle.message.specs.Addresses.{nobody};

@@ -1,6 +1,5 @@
 // One element in so many bits. Each answers the next position; what lies past the end of the area is not written.
-ghost use mathlib.Core.Path.{_≡_};
-ghost use mathlib.Core.Bool.{Bool, cond};
+ghost use mathlib.Core.Bool.{cond};
 ghost use Prim.Native.Nat.{_≤_};
 ghost use Rattle.bits.specs.Puts.{binary};
 ghost use Rattle.writing.specs.Wrote.{Wrote};

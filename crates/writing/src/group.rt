@@ -1,6 +1,6 @@
 // A range and its addresses.
 ghost use mathlib.Core.Path.{_≡_};
-ghost use mathlib.Core.Bool.{Bool, true};
+ghost use mathlib.Core.Bool.{true};
 ghost use Prim.Native.Nat.{min};
 ghost use Rattle.message.specs.Groups.{placesC, groupC};
 ghost use Rattle.writing.specs.Wrote.{Wrote};

@@ -5,11 +5,9 @@
 // position, whether the area holds them or not; so a first writing into no area gives the length, and 14 comes before any byte is
 // touched. The round trips with `read` are in proofs/RoundTrips.
 ghost use mathlib.Core.Path.{_≡_};
-ghost use mathlib.Core.Bool.{Bool, true};
+ghost use mathlib.Core.Bool.{true};
 ghost use Prim.Native.Nat.{_+_, _≤_};
 ghost use lib.ListN.{length};
-ghost use Rattle.message.specs.Messages.{headerC};
-ghost use Rattle.message.specs.Groups.{spanOf};
 ghost use Rattle.validity.specs.Validity.{validOf};
 ghost use Rattle.writing.specs.Wrote.{Wrote};
 ghost use Rattle.writing.specs.Writing.{bitsOf, bytesFor, layOf, layIn, refused, writeValid, writeOf, writtenOf, areaOf};

@@ -1,6 +1,4 @@
 // One optional element: an O-bit; if it is 1, the P-bit 1 and the element.
-ghost use mathlib.Core.Path.{_≡_};
-ghost use mathlib.Core.Bool.{Bool};
 ghost use Rattle.writing.specs.Wrote.{Wrote};
 ghost use Rattle.writing.specs.Parts.{dispatchersC, dispatcherC};
 use crate::address;
