@@ -1,0 +1,4 @@
+pub mod SumLaws
+pub mod SpotLaws
+pub mod HeldLaws
+pub mod PlaceLaws
