@@ -1,10 +1,11 @@
 -- The lowest number that passes a test, the lowest free place, and the place where a call waits. Assumes nothing.
-use Prim.Native.Nat.{ℕ, zero, suc, _<_, _≤_}
+use Prim.Native.Nat.{ℕ, zero, suc, _+_, _<_, _≤_}
 use mathlib.Core.Path.{_≡_, refl, sym, _∙_, ap}
 use mathlib.Core.Bool.{Bool, true, false, not, cond}
 use mathlib.Core.List.{List}
 use mathlib.Core.Logic.{⊎-elim}
 use native.Mathlib.Nat.{not-suc-le-zero, eq-or-lt-of-le, le-of-suc-le-suc}
+use native.Mathlib.Numerals.{add-one}
 use native.Mathlib.Omega.{arith}
 use lib.Dec.{eqb, ltb}
 use borrow.Author.Tests.{lt-ltb, eqb-true, eqb-false, eq-eqb, not-true, not-false}
@@ -26,12 +27,18 @@ pub record FoundAt (n : ℕ) (test : ℕ → Bool) (i : ℕ) : Type 0 where
 abbrev pub NoneBelow : ℕ → (ℕ → Bool) → Type 0
 NoneBelow n test = (j : ℕ) → j < n → test j ≡ false
 
-pub none-more : (n : ℕ) (test : ℕ → Bool) → NoneBelow n test → test n ≡ false → NoneBelow (suc n) test
+pub none-below : (test : ℕ → Bool) → NoneBelow 0 test
+none-below test j l = absurd (not-suc-le-zero l)
+
+none-more : (n : ℕ) (test : ℕ → Bool) → NoneBelow n test → test n ≡ false → NoneBelow (suc n) test
 none-more n test h e j l =
     ⊎-elim
     (λ d. rw d e)
     (λ k. h j k)
     (eq-or-lt-of-le (le-of-suc-le-suc l))
+
+pub none-turn : (n : ℕ) (test : ℕ → Bool) → NoneBelow n test → test n ≡ false → NoneBelow (n + 1) test
+none-turn n test h e = rw add-one (none-more n test h e)
 
 pub lowest-none : (n : ℕ) (test : ℕ → Bool) → NoneBelow n test → lowest n test ≡ noSpot
 unfolding lowest

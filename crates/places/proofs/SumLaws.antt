@@ -8,11 +8,22 @@ use lib.Dec.{eqb}
 use borrow.Author.Tests.{eqb-true, eqb-false, eq-eqb, ne-eqb}
 use Rattle.codec.proofs.Good.{both-true}
 use Rattle.profile.specs.Counting.{every, sum}
+use Rattle.profile.proofs.CountLaws.{sum-more}
 
 pub every-all : (n : ℕ) (test : ℕ → Bool) → ((i : ℕ) → i < n → test i ≡ true) → every n test ≡ true
 unfolding every
 every-all zero test h = refl
 every-all (suc n) test h = both-true (every n test) (test n) (every-all n test (λ i l. h i (omega arith))) (h n (omega arith))
+
+-- ---- a loop that adds up
+
+pub sum-turn : (f : ℕ → ℕ) (i total part : ℕ) → total ≡ sum i f → part ≡ f i → total + part ≡ sum (i + 1) f
+sum-turn f i total part e d = rw (e, d) (sum-more i f)
+
+pub sum-end : (f : ℕ → ℕ) (n i total : ℕ) → total ≡ sum i f → i ≡ n → total ≡ sum n f
+sum-end f n i total e d = rw d at e
+
+-- ---- sums of two functions
 
 pub sum-same : (n : ℕ) (f g : ℕ → ℕ) → ((q : ℕ) → q < n → g q ≡ f q) → sum n g ≡ sum n f
 unfolding sum

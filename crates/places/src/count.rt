@@ -90,28 +90,28 @@ fn less(a: u8, b: u8) -> u8
 }
 
 // The sum owed to all posts.
-fn owed_all(shares: Shares, list: [Place; 32]) -> usize
+fn owed_all(shares: Shares, list: [Place; 32]) -> u16
     ensures { λ r. ⌜ r ≡ owedAll shares list ⌝ }
 {
     let posts = shares.posts;
-    let mut total: usize = 0;
+    let mut total: u16 = 0;
     let mut q: u8 = 0;
     while q < posts {
-        total += owed(shares, list, q) as usize;
+        total += owed(shares, list, q) as u16;
         q += 1;
     }
     total
 }
 
 // The sum owed to all other posts.
-pub(crate) fn owed_others(shares: Shares, list: [Place; 32], post: u8) -> usize
+pub(crate) fn owed_others(shares: Shares, list: [Place; 32], post: u8) -> u16
     ensures { λ r. ⌜ r ≡ owedOthers shares list post ⌝ }
 {
     let posts = shares.posts;
-    let mut total: usize = 0;
+    let mut total: u16 = 0;
     let mut q: u8 = 0;
     while q < posts {
-        total += unless(q == post, owed(shares, list, q)) as usize;
+        total += unless(q == post, owed(shares, list, q)) as u16;
         q += 1;
     }
     total
@@ -130,5 +130,5 @@ fn unless(same: bool, n: u8) -> u8
 pub(crate) fn load(shares: Shares, list: [Place; 32]) -> usize
     ensures { λ r. ⌜ r ≡ loadOf shares list ⌝ }
 {
-    used(list) as usize + owed_all(shares, list)
+    used(list) as usize + owed_all(shares, list) as usize
 }

@@ -62,7 +62,7 @@ pub fn admits(shares: Shares, places: Places, post: u8) -> bool
     if held < share.reserved {
         return true;
     }
-    count::free(list) > count::owed_others(shares, list, post)
+    count::free(list) > count::owed_others(shares, list, post) as usize
 }
 
 // The place where the call with this identifier waits, the lowest such.

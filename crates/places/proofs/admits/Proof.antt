@@ -1,40 +1,44 @@
+-- `places::admits` meets its contract. Assumes nothing.
 use borrow.Author.Needs.{needs}
+use borrow.Author.Tests.{lt-ltb, le-ltb}
+use Rattle.codec.specs.Codec.{both}
+use Rattle.places.specs.Held.{admitsOf}
 use Rattle.places.proofs.admits.Statement.{statement}
 use Rattle.places.proofs.admits.Tie as tie
-use Rattle.places.proofs.admits.Reads as reads
-use Rattle.places.proofs.admits.Lts as lts
-use Rattle.places.proofs.count.free.Reads as free-reads
-use Rattle.places.proofs.count.held.Reads as held-reads
-use Rattle.places.proofs.count.owed_others.Reads as owed-others-reads
-use Rattle.places.proofs.count.share_of.Reads as share-of-reads
 
--- src/lib.rt:57:9
 share-of-requires : tie.Need-share-of-requires
 share-of-requires c κs = search needs
 
--- src/lib.rt:58:9
 held-requires : tie.Need-held-requires
 held-requires c κs = search needs
 
--- src/lib.rt:60:9
 returns : tie.Need-returns
-returns c = ?
+unfolding admitsOf both
+returns c =
+    let k = c .before .before in
+    rw (← (k .before .share-of .ensures), ← (k .held .ensures), le-ltb _ _ (c .if1 .taken))
 
--- src/lib.rt:63:9
 returns-2 : tie.Need-returns-2
-returns-2 c = ?
+unfolding admitsOf both
+returns-2 c =
+    let k = c .before .before .before .before in
+    rw (← (k .before .share-of .ensures), ← (k .held .ensures), lt-ltb _ _ (c .before .before .if1 .left), lt-ltb _ _ (c .if2 .taken))
 
--- src/lib.rt:65:5
 free-requires : tie.Need-free-requires
 free-requires c κs = search needs
 
--- src/lib.rt:65:25
 owed-others-requires : tie.Need-owed-others-requires
 owed-others-requires c κs = search needs
 
--- src/lib.rt:52:1
+cast-result : tie.Need-cast-result
+cast-result c = search needs
+
 returns-3 : tie.Need-returns-3
-returns-3 c = ?
+unfolding admitsOf both
+returns-3 c =
+    let f = c .before .before in
+    let k = f .before .before .before .before in
+    rw (← (k .before .share-of .ensures), ← (k .held .ensures), lt-ltb _ _ (f .before .before .if1 .left), le-ltb _ _ (f .if2 .left), ← (c .before .free .ensures), ← (c .owed-others .ensures))
 
 pub admits-spec : {M : Type 1} → statement M
 admits-spec =
@@ -46,4 +50,5 @@ admits-spec =
     returns-2
     free-requires
     owed-others-requires
+    cast-result
     returns-3)

@@ -1,44 +1,57 @@
+-- `places::places_ok` meets its contract. Assumes nothing.
+use mathlib.Core.Path.{sym, _∙_}
 use borrow.Author.Needs.{needs}
+use Rattle.codec.specs.Codec.{both}
+use Rattle.places.specs.Grounds.{placesOk}
 use Rattle.places.proofs.places_ok.Statement.{statement}
 use Rattle.places.proofs.places_ok.Tie as tie
-use Rattle.places.proofs.places_ok.Reads as reads
-use Rattle.places.proofs.places_ok.Lts as lts
-use Rattle.places.proofs.count.load.Reads as load-reads
-use Rattle.places.proofs.ground.all_alone.Reads as all-alone-reads
-use Rattle.places.proofs.ground.calls_ok.Reads as calls-ok-reads
-use Rattle.places.proofs.ground.under_ceilings.Reads as under-ceilings-reads
 
--- src/lib.rt:39:8
 calls-ok-requires : tie.Need-calls-ok-requires
 calls-ok-requires c κs = search needs
 
--- src/lib.rt:40:9
 returns : tie.Need-returns
-returns c = ?
+unfolding placesOk both
+returns c =
+    let p1 = c .before in
+    rw (sym (p1 .calls-ok .ensures) ∙ c .if1 .left)
 
--- src/lib.rt:42:8
 all-alone-requires : tie.Need-all-alone-requires
 all-alone-requires c κs = search needs
 
--- src/lib.rt:43:9
 returns-2 : tie.Need-returns-2
-returns-2 c = ?
+unfolding placesOk both
+returns-2 c =
+    let p1 = c .before .before .before in
+    let p2 = c .before .before in
+    let p3 = c .before in
+    rw (sym (p1 .calls-ok .ensures) ∙ p2 .if1 .taken, sym (p3 .all-alone .ensures) ∙ c .if2 .left)
 
--- src/lib.rt:45:8
 under-ceilings-requires : tie.Need-under-ceilings-requires
 under-ceilings-requires c κs = search needs
 
--- src/lib.rt:46:9
 returns-3 : tie.Need-returns-3
-returns-3 c = ?
+unfolding placesOk both
+returns-3 c =
+    let p1 = c .before .before .before .before .before in
+    let p2 = c .before .before .before .before in
+    let p3 = c .before .before .before in
+    let p4 = c .before .before in
+    let p5 = c .before in
+    rw (sym (p1 .calls-ok .ensures) ∙ p2 .if1 .taken, sym (p3 .all-alone .ensures) ∙ p4 .if2 .taken, sym (p5 .under-ceilings .ensures) ∙ c .if3 .left)
 
--- src/lib.rt:48:5
 load-requires : tie.Need-load-requires
 load-requires c κs = search needs
 
--- src/lib.rt:35:1
 returns-4 : tie.Need-returns-4
-returns-4 c = ?
+unfolding placesOk both
+returns-4 c =
+    let p1 = c .before .before .before .before .before .before in
+    let p2 = c .before .before .before .before .before in
+    let p3 = c .before .before .before .before in
+    let p4 = c .before .before .before in
+    let p5 = c .before .before in
+    let p6 = c .before in
+    rw (sym (p1 .calls-ok .ensures) ∙ p2 .if1 .taken, sym (p3 .all-alone .ensures) ∙ p4 .if2 .taken, sym (p5 .under-ceilings .ensures) ∙ p6 .if3 .taken, ← (c .load .ensures))
 
 pub places-ok-spec : {M : Type 1} → statement M
 places-ok-spec =

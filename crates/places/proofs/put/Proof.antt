@@ -1,24 +1,25 @@
+-- `places::put` meets its contract. Assumes nothing.
+use mathlib.Core.Path.{_≡_}
+use native.Mathlib.Omega.{arith}
+use lib.ListN.{length}
+use lib.Seq.{set-out}
 use borrow.Author.Needs.{needs}
 use Rattle.places.proofs.put.Statement.{statement}
 use Rattle.places.proofs.put.Tie as tie
-use Rattle.places.proofs.put.Reads as reads
-use Rattle.places.proofs.put.Lts as lts
 
--- src/lib.rt:116:9
 mul-next : tie.Need-mul-next
 mul-next c = search needs
 
--- src/lib.rt:116:9
 array-set-from-next : tie.Need-array-set-from-next
 array-set-from-next c = search needs
 
--- src/lib.rt:117:9
 returns : tie.Need-returns
 returns c = search needs
 
--- src/lib.rt:110:1
 returns-2 : tie.Need-returns-2
-returns-2 c = ?
+returns-2 c =
+    let n : length (c .before .args .list) ≡ 32 = c .before .good .0 .1 .0 .1 in
+    rw (set-out (c .before .args .list) (c .before .args .at) (c .before .args .p) (omega arith))
 
 pub put-spec : {M : Type 1} → statement M
 put-spec = tie.close (tie.spec mul-next array-set-from-next returns returns-2)

@@ -1,55 +1,57 @@
+-- `places::count::held` meets its contract. Assumes nothing.
+use Prim.Native.Nat.{_-_, _≤_}
+use mathlib.Core.Path.{_≡_, sym}
+use native.Mathlib.Omega.{arith}
+use lib.ListN.{length}
+use borrow.Author.Needs.{needs}
+use Rattle.places.proofs.HeldLaws.{one-few}
+use Rattle.places.proofs.SumLaws.{sum-turn, sum-end}
+use Rattle.places.specs.Held.{placeIn, one, waitsAt, heldOf}
+use Rattle.profile.proofs.CountLaws.{sum-none}
+use Rattle.profile.specs.Counting.{sum}
 use Rattle.places.proofs.count.held.Statement.{statement}
 use Rattle.places.proofs.count.held.Tie as tie
-use Rattle.places.proofs.count.held.Reads as reads
-use Rattle.places.proofs.count.held.Lts as lts
-use Rattle.places.proofs.count.one_if.Reads as one-if-reads
-use Rattle.places.proofs.count.waits_at.Reads as waits-at-reads
 
 abbrev Inv-loop : tie.InvT-loop
-Inv-loop post list count₀ i₀ count i = ?
+Inv-loop post list count₀ i₀ count i = (i ≤ 32) × ((length list ≡ 32) × ((count ≤ i) × (count ≡ sum i (λ j. one (waitsAt (placeIn list j) post)))))
 
 abbrev μ-loop : tie.MeasureT-loop
-μ-loop post list count₀ i₀ count i = ?
+μ-loop post list count₀ i₀ count i = 32 - i
 
--- src/count.rt:32:5
 loop-holds : tie.Need-loop-holds Inv-loop μ-loop
-loop-holds c = ?
+loop-holds c = (search needs, (search needs, (search needs, sym (sum-none _))))
 
--- src/count.rt:33:34
 mul-waits-at : tie.Need-mul-waits-at Inv-loop μ-loop
-mul-waits-at c = ?
+mul-waits-at c = search needs
 
--- src/count.rt:33:34
 array-copy-out-waits-at : tie.Need-array-copy-out-waits-at Inv-loop μ-loop
-array-copy-out-waits-at c = ?
+array-copy-out-waits-at c = search needs
 
--- src/count.rt:33:25
 waits-at-requires : tie.Need-waits-at-requires Inv-loop μ-loop
-waits-at-requires c κs = ?
+waits-at-requires c κs = search needs
 
--- src/count.rt:33:18
 one-if-requires : tie.Need-one-if-requires Inv-loop μ-loop
-one-if-requires c κs = ?
+one-if-requires c κs = search needs
 
--- src/count.rt:33:9
 add-count : tie.Need-add-count Inv-loop μ-loop
-add-count c = ?
+add-count c = record { fits = omega (arith, c .one-if .ensures, one-few (c .before .waits-at .result)) }
 
--- src/count.rt:34:9
 add-i : tie.Need-add-i Inv-loop μ-loop
-add-i c = ?
+add-i c = search needs
 
--- src/count.rt:32:5
 loop-less : tie.Need-loop-less Inv-loop μ-loop
-loop-less c = ?
+loop-less c = search needs
 
--- src/count.rt:32:5
 loop-again : tie.Need-loop-again Inv-loop μ-loop
-loop-again c = ?
+unfolding placeIn
+loop-again c =
+    let l = c .before .before .before .before in
+    (search needs, (search needs, (omega (arith, c .one-if .ensures, one-few (c .before .waits-at .result)),
+    sum-turn _ (l .loop .i) _ _ (l .loop .inv .1 .1 .1) (rw (c .one-if .ensures, c .before .waits-at .ensures)))))
 
--- src/count.rt:27:1
 returns : tie.Need-returns Inv-loop μ-loop
-returns c = ?
+unfolding heldOf
+returns c = sum-end _ 32 (c .before .loop .i) _ (c .before .loop .inv .1 .1 .1) (omega arith)
 
 pub held-spec : {M : Type 1} → statement M
 held-spec =

@@ -1,30 +1,29 @@
+-- `places::count::load` meets its contract. Assumes nothing.
 use borrow.Author.Needs.{needs}
+use Rattle.places.specs.Held.{loadOf}
 use Rattle.places.proofs.count.load.Statement.{statement}
 use Rattle.places.proofs.count.load.Tie as tie
-use Rattle.places.proofs.count.load.Reads as reads
-use Rattle.places.proofs.count.load.Lts as lts
-use Rattle.places.proofs.count.owed_all.Reads as owed-all-reads
-use Rattle.places.proofs.count.used.Reads as used-reads
 
--- src/count.rt:133:5
 used-requires : tie.Need-used-requires
 used-requires c κs = search needs
 
--- src/count.rt:133:5
 cast-result : tie.Need-cast-result
 cast-result c = search needs
 
--- src/count.rt:133:27
 owed-all-requires : tie.Need-owed-all-requires
 owed-all-requires c κs = search needs
 
--- src/count.rt:133:5
-add-result : tie.Need-add-result
-add-result c = ?
+cast-result-2 : tie.Need-cast-result-2
+cast-result-2 c = search needs
 
--- src/count.rt:130:1
+add-result : tie.Need-add-result
+add-result c = search needs
+
 returns : tie.Need-returns
-returns c = ?
+unfolding loadOf
+returns c = rw (c .before .used .ensures, c .owed-all .ensures)
 
 pub load-spec : {M : Type 1} → statement M
-load-spec = tie.close (tie.spec used-requires cast-result owed-all-requires add-result returns)
+load-spec =
+    tie.close
+    (tie.spec used-requires cast-result owed-all-requires cast-result-2 add-result returns)

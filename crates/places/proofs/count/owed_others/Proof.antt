@@ -1,51 +1,52 @@
+-- `places::count::owed_others` meets its contract. Assumes nothing.
+use Prim.Native.Nat.{_-_, _*_, _≤_}
+use mathlib.Core.Bool.{cond}
+use mathlib.Core.Path.{_≡_, sym}
+use native.Mathlib.Omega.{arith}
+use lib.Dec.{eqb}
+use borrow.Author.Needs.{needs}
+use Rattle.places.proofs.SumLaws.{sum-turn, sum-end}
+use Rattle.places.specs.Held.{owedOf, owedOthers}
+use Rattle.profile.proofs.CountLaws.{sum-none}
+use Rattle.profile.specs.Counting.{sum}
 use Rattle.places.proofs.count.owed_others.Statement.{statement}
 use Rattle.places.proofs.count.owed_others.Tie as tie
-use Rattle.places.proofs.count.owed_others.Reads as reads
-use Rattle.places.proofs.count.owed_others.Lts as lts
-use Rattle.places.proofs.count.owed.Reads as owed-reads
-use Rattle.places.proofs.count.unless.Reads as unless-reads
 
 abbrev Inv-loop : tie.InvT-loop
-Inv-loop shares list post posts total₀ q₀ total q = ?
+Inv-loop shares list post posts total₀ q₀ total q = (q ≤ posts) × ((total ≤ 255 * q) × (total ≡ sum q (λ p. cond (eqb p post) 0 (owedOf shares list p))))
 
 abbrev μ-loop : tie.MeasureT-loop
-μ-loop shares list post posts total₀ q₀ total q = ?
+μ-loop shares list post posts total₀ q₀ total q = posts - q
 
--- src/count.rt:113:5
 loop-holds : tie.Need-loop-holds Inv-loop μ-loop
-loop-holds c = ?
+loop-holds c = (search needs, (search needs, sym (sum-none _)))
 
--- src/count.rt:114:36
 owed-requires : tie.Need-owed-requires Inv-loop μ-loop
-owed-requires c κs = ?
+owed-requires c κs = search needs
 
--- src/count.rt:114:18
 unless-requires : tie.Need-unless-requires Inv-loop μ-loop
-unless-requires c κs = ?
+unless-requires c κs = search needs
 
--- src/count.rt:114:18
 cast-total : tie.Need-cast-total Inv-loop μ-loop
-cast-total c = ?
+cast-total c = search needs
 
--- src/count.rt:114:9
 add-total : tie.Need-add-total Inv-loop μ-loop
-add-total c = ?
+add-total c = search needs
 
--- src/count.rt:115:9
 add-q : tie.Need-add-q Inv-loop μ-loop
-add-q c = ?
+add-q c = search needs
 
--- src/count.rt:113:5
 loop-less : tie.Need-loop-less Inv-loop μ-loop
-loop-less c = ?
+loop-less c = search needs
 
--- src/count.rt:113:5
 loop-again : tie.Need-loop-again Inv-loop μ-loop
-loop-again c = ?
+loop-again c =
+    let l = c .before .before .before in
+    (search needs, (search needs, sum-turn _ (l .loop .q) _ _ (l .loop .inv .1 .1) (rw (c .unless .ensures, c .before .owed .ensures))))
 
--- src/count.rt:107:1
 returns : tie.Need-returns Inv-loop μ-loop
-returns c = ?
+unfolding owedOthers
+returns c = sum-end _ _ (c .before .loop .q) _ (c .before .loop .inv .1 .1) (omega arith)
 
 pub owed-others-spec : {M : Type 1} → statement M
 owed-others-spec =

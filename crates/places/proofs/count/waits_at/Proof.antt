@@ -1,15 +1,18 @@
+-- `places::count::waits_at` meets its contract. Assumes nothing.
+use Rattle.codec.specs.Codec.{both}
+use Rattle.places.specs.Held.{waitsAt}
 use Rattle.places.proofs.count.waits_at.Statement.{statement}
 use Rattle.places.proofs.count.waits_at.Tie as tie
-use Rattle.places.proofs.count.waits_at.Reads as reads
-use Rattle.places.proofs.count.waits_at.Lts as lts
 
--- src/count.rt:21:9
 returns : tie.Need-returns
-returns c = ?
+unfolding waitsAt both
+returns c =
+    let p1 = c .before in
+    rw (p1 .if1 .taken)
 
--- src/count.rt:17:1
 returns-2 : tie.Need-returns-2
-returns-2 c = ?
+unfolding waitsAt both
+returns-2 c = rw (c .if1 .left)
 
 pub waits-at-spec : {M : Type 1} → statement M
 waits-at-spec = tie.close (tie.spec returns returns-2)

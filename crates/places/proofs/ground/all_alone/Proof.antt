@@ -1,42 +1,47 @@
+-- `places::ground::all_alone` meets its contract. Assumes nothing.
+use Prim.Native.Nat.{_-_, _≤_}
+use mathlib.Core.Bool.{true}
+use mathlib.Core.Path.{_≡_, sym, _∙_}
+use native.Mathlib.Omega.{arith}
+use borrow.Author.Needs.{needs}
+use Rattle.places.specs.Grounds.{aloneAt}
+use Rattle.profile.proofs.CountLaws.{every-none, every-more, every-not, every-end}
+use Rattle.profile.specs.Counting.{every}
 use Rattle.places.proofs.ground.all_alone.Statement.{statement}
 use Rattle.places.proofs.ground.all_alone.Tie as tie
-use Rattle.places.proofs.ground.all_alone.Reads as reads
-use Rattle.places.proofs.ground.all_alone.Lts as lts
-use Rattle.places.proofs.ground.alone_at.Reads as alone-at-reads
 
 abbrev Inv-loop : tie.InvT-loop
-Inv-loop list i₀ i = ?
+Inv-loop list i₀ i = (i ≤ 32) × (every i (λ j. aloneAt list j) ≡ true)
 
 abbrev μ-loop : tie.MeasureT-loop
-μ-loop list i₀ i = ?
+μ-loop list i₀ i = 32 - i
 
--- src/ground.rt:43:5
 loop-holds : tie.Need-loop-holds Inv-loop μ-loop
-loop-holds c = ?
+loop-holds c = (search needs, every-none _)
 
--- src/ground.rt:44:13
 alone-at-requires : tie.Need-alone-at-requires Inv-loop μ-loop
-alone-at-requires c κs = ?
+alone-at-requires c κs = search needs
 
--- src/ground.rt:45:9
 add-i : tie.Need-add-i Inv-loop μ-loop
-add-i c = ?
+add-i c = search needs
 
--- src/ground.rt:43:5
 loop-less : tie.Need-loop-less Inv-loop μ-loop
-loop-less c = ?
+loop-less c = search needs
 
--- src/ground.rt:43:5
 loop-again : tie.Need-loop-again Inv-loop μ-loop
-loop-again c = ?
+loop-again c =
+    let k = c .before in
+    let l = k .before .before in
+    (search needs, every-more _ _ (l .loop .inv .1) (sym (k .alone-at .ensures) ∙ c .if1 .taken))
 
--- src/ground.rt:47:13
 returns : tie.Need-returns Inv-loop μ-loop
-returns c = ?
+returns c =
+    let k = c .before in
+    let l = k .before .before in
+    sym (every-not _ _ (l .loop .i) (search needs) (sym (k .alone-at .ensures) ∙ c .if1 .left))
 
--- src/ground.rt:39:1
 returns-2 : tie.Need-returns-2 Inv-loop μ-loop
-returns-2 c = ?
+returns-2 c = every-end _ (c .before .loop .i) _ (c .before .loop .inv .1) (omega arith)
 
 pub all-alone-spec : {M : Type 1} → statement M
 all-alone-spec =

@@ -1,50 +1,59 @@
+-- `places::ground::calls_ok` meets its contract. Assumes nothing.
+use Prim.Native.Nat.{_-_, _≤_}
+use mathlib.Core.Bool.{true}
+use mathlib.Core.Path.{_≡_, sym, _∙_}
+use native.Mathlib.Omega.{arith}
+use lib.ListN.{length}
+use borrow.Author.Needs.{needs}
+use Rattle.places.specs.Grounds.{callOk}
+use Rattle.places.specs.Held.{placeIn}
+use Rattle.profile.proofs.CountLaws.{every-none, every-more, every-not, every-end}
+use Rattle.profile.specs.Counting.{every}
 use Rattle.places.proofs.ground.calls_ok.Statement.{statement}
 use Rattle.places.proofs.ground.calls_ok.Tie as tie
-use Rattle.places.proofs.ground.calls_ok.Reads as reads
-use Rattle.places.proofs.ground.calls_ok.Lts as lts
-use Rattle.places.proofs.ground.call_ok.Reads as call-ok-reads
 
 abbrev Inv-loop : tie.InvT-loop
-Inv-loop posts list i₀ i = ?
+Inv-loop posts list i₀ i = (i ≤ 32) × ((length list ≡ 32) × (every i (λ j. callOk posts (placeIn list j)) ≡ true))
 
 abbrev μ-loop : tie.MeasureT-loop
-μ-loop posts list i₀ i = ?
+μ-loop posts list i₀ i = 32 - i
 
--- src/ground.rt:16:5
 loop-holds : tie.Need-loop-holds Inv-loop μ-loop
-loop-holds c = ?
+unfolding placeIn
+loop-holds c = (search needs, (search needs, every-none _))
 
--- src/ground.rt:17:17
 mul-p : tie.Need-mul-p Inv-loop μ-loop
-mul-p c = ?
+mul-p c = search needs
 
--- src/ground.rt:17:17
 array-copy-out-p : tie.Need-array-copy-out-p Inv-loop μ-loop
-array-copy-out-p c = ?
+array-copy-out-p c = search needs
 
--- src/ground.rt:18:9
 add-i : tie.Need-add-i Inv-loop μ-loop
-add-i c = ?
+add-i c = search needs
 
--- src/ground.rt:19:12
 call-ok-requires : tie.Need-call-ok-requires Inv-loop μ-loop
-call-ok-requires c κs = ?
+call-ok-requires c κs = search needs
 
--- src/ground.rt:16:5
 loop-less : tie.Need-loop-less Inv-loop μ-loop
-loop-less c = ?
+loop-less c = search needs
 
--- src/ground.rt:16:5
 loop-again : tie.Need-loop-again Inv-loop μ-loop
-loop-again c = ?
+unfolding placeIn
+loop-again c =
+    let k = c .before in
+    let l = k .before .before .before in
+    (search needs, (search needs, every-more _ _ (l .loop .inv .1 .1) (sym (k .call-ok .ensures) ∙ c .if1 .taken)))
 
--- src/ground.rt:20:13
 returns : tie.Need-returns Inv-loop μ-loop
-returns c = ?
+unfolding placeIn
+returns c =
+    let k = c .before in
+    let l = k .before .before .before in
+    sym (every-not _ _ (l .loop .i) (search needs) (sym (k .call-ok .ensures) ∙ c .if1 .left))
 
--- src/ground.rt:12:1
 returns-2 : tie.Need-returns-2 Inv-loop μ-loop
-returns-2 c = ?
+unfolding placeIn
+returns-2 c = every-end _ (c .before .loop .i) _ (c .before .loop .inv .1 .1) (omega arith)
 
 pub calls-ok-spec : {M : Type 1} → statement M
 calls-ok-spec =

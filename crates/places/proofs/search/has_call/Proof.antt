@@ -1,20 +1,22 @@
+-- `places::search::has_call` meets its contract. Assumes nothing.
 use borrow.Author.Needs.{needs}
+use Rattle.codec.specs.Codec.{both}
+use Rattle.places.specs.Spots.{hasCall}
 use Rattle.places.proofs.search.has_call.Statement.{statement}
 use Rattle.places.proofs.search.has_call.Tie as tie
-use Rattle.places.proofs.search.has_call.Reads as reads
-use Rattle.places.proofs.search.has_call.Lts as lts
 
--- src/search.rt:47:16
 cast-result : tie.Need-cast-result
 cast-result c = search needs
 
--- src/search.rt:47:9
 returns : tie.Need-returns
-returns c = ?
+unfolding hasCall both
+returns c =
+    let p1 = c .before in
+    rw (p1 .if1 .taken)
 
--- src/search.rt:43:1
 returns-2 : tie.Need-returns-2
-returns-2 c = ?
+unfolding hasCall both
+returns-2 c = rw (c .if1 .left)
 
 pub has-call-spec : {M : Type 1} → statement M
 has-call-spec = tie.close (tie.spec cast-result returns returns-2)

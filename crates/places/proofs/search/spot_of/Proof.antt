@@ -1,20 +1,20 @@
+-- `places::search::spot_of` meets its contract. Assumes nothing.
 use borrow.Author.Needs.{needs}
+use borrow.Author.Tests.{lt-ltb, le-ltb}
+use Rattle.places.specs.Spots.{spotOf}
 use Rattle.places.proofs.search.spot_of.Statement.{statement}
 use Rattle.places.proofs.search.spot_of.Tie as tie
-use Rattle.places.proofs.search.spot_of.Reads as reads
-use Rattle.places.proofs.search.spot_of.Lts as lts
 
--- src/search.rt:59:20
 cast-t3 : tie.Need-cast-t3
 cast-t3 c = search needs
 
--- src/search.rt:57:9
 returns : tie.Need-returns
-returns c = ?
+unfolding spotOf
+returns c = rw (lt-ltb _ _ (c .if1 .taken))
 
--- src/search.rt:53:1
 returns-2 : tie.Need-returns-2
-returns-2 c = ?
+unfolding spotOf
+returns-2 c = rw (le-ltb _ _ (c .if1 .left))
 
 pub spot-of-spec : {M : Type 1} → statement M
 spot-of-spec = tie.close (tie.spec cast-t3 returns returns-2)
