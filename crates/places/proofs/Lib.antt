@@ -2,3 +2,4 @@ pub mod SumLaws
 pub mod SpotLaws
 pub mod HeldLaws
 pub mod PlaceLaws
+pub mod Cases

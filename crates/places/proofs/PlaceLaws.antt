@@ -280,8 +280,8 @@ module _ (shares : Shares) (e : sharesOk shares ≡ true) where
   unfolding loadOf owedAll owedOf
   none-load =
       let o =
-              sum-same (shares .posts) (λ q. shareIn (shares .share) q .reserved) (λ q. shareIn (shares .share) q .reserved - heldOf noPlaces q)
-              (λ q d. omega (arith, none-held q))
+      sum-same (shares .posts) (λ q. shareIn (shares .share) q .reserved) (λ q. shareIn (shares .share) q .reserved - heldOf noPlaces q)
+      (λ q d. omega (arith, none-held q))
       in
       omega (arith, shares-fit, none-used, o)
 

@@ -1,6 +1,6 @@
 -- The lowest number that passes a test, the lowest free place, and the place where a call waits. Assumes nothing.
 use Prim.Native.Nat.{ℕ, zero, suc, _+_, _<_, _≤_}
-use mathlib.Core.Path.{_≡_, refl, sym, _∙_, ap}
+use mathlib.Core.Path.{_≡_, refl, sym, _∙_, ap, subst}
 use mathlib.Core.Bool.{Bool, true, false, not, cond}
 use mathlib.Core.List.{List}
 use mathlib.Core.Logic.{⊎-elim}
@@ -12,7 +12,7 @@ use borrow.Author.Tests.{lt-ltb, eqb-true, eqb-false, eq-eqb, not-true, not-fals
 use Rattle.codec.specs.Codec.{both}
 use Rattle.codec.proofs.Good.{both-true, both-left, both-right, not-both}
 use Rattle.places.specs.Held.{noPlace, placeIn}
-use Rattle.places.specs.Spots.{noSpot, spotAt, lowest, hasCall, placeOf, lowestFree, numberIn, spotOf}
+use Rattle.places.specs.Spots.{noSpot, spotAt, lowestFrom, lowest, hasCall, placeOf, lowestFree, numberIn, spotOf}
 use Rattle.places.specs.declared.Place.{Place}
 use Rattle.places.specs.declared.Spot.{Spot}
 
@@ -40,47 +40,75 @@ none-more n test h e j l =
 pub none-turn : (n : ℕ) (test : ℕ → Bool) → NoneBelow n test → test n ≡ false → NoneBelow (n + 1) test
 none-turn n test h e = rw add-one (none-more n test h e)
 
+-- from i on: i itself or a higher one
+
+from-none : (n i : ℕ) (test : ℕ → Bool) → ((j : ℕ) → i ≤ j → j < i + n → test j ≡ false) → lowestFrom n i test ≡ noSpot
+unfolding lowestFrom
+from-none zero i test h = refl
+from-none (suc n) i test h = rw (h i (omega arith) (omega arith)) (from-none n (suc i) test (λ j k l. h j (omega arith) (omega arith)))
+
+from-found : (n i k : ℕ) (test : ℕ → Bool) → i ≤ k → k < i + n → test k ≡ true → ((j : ℕ) → i ≤ j → j < k → test j ≡ false)
+    → lowestFrom n i test ≡ spotAt k
+unfolding lowestFrom
+from-found zero i k test l h e b = absurd (omega arith)
+from-found (suc n) i k test l h e b =
+    ⊎-elim
+    (λ d. rw (subst (λ (x : ℕ). test x ≡ true) (sym d) e) (ap (λ (x : ℕ). spotAt x) d))
+    (λ m. rw (b i (omega arith) m) (from-found n (suc i) k test m (omega arith) e (λ j p q. b j (omega arith) q)))
+    (eq-or-lt-of-le l)
+
+from-no : (n i : ℕ) (test : ℕ → Bool) → lowestFrom n i test .found ≡ false → (j : ℕ) → i ≤ j → j < i + n → test j ≡ false
+unfolding lowestFrom
+from-no zero i test e j k l = absurd (omega arith)
+from-no (suc n) i test e j k l = go (test i) refl e (λ f m. from-no n (suc i) test f j m (omega arith))
+  where
+    go : (b : Bool) → test i ≡ b → cond b (spotAt i) (lowestFrom n (suc i) test) .found ≡ false
+        → (lowestFrom n (suc i) test .found ≡ false → suc i ≤ j → test j ≡ false) → test j ≡ false
+    go true t f ih = not-both (sym f)
+    go false t f ih = ⊎-elim (λ d. subst (λ (x : ℕ). test x ≡ false) d t) (λ m. ih f m) (eq-or-lt-of-le k)
+
+record FoundFrom (n i : ℕ) (test : ℕ → Bool) (k : ℕ) : Type 0 where
+  pub low : i ≤ k
+  pub high : k < i + n
+  pub yes : test k ≡ true
+  pub none : (j : ℕ) → i ≤ j → j < k → test j ≡ false
+
+from-at : (n i : ℕ) (test : ℕ → Bool) → lowestFrom n i test .found ≡ true → FoundFrom n i test (lowestFrom n i test .place)
+unfolding lowestFrom
+from-at zero i test e = not-both e
+from-at (suc n) i test e = go (test i) refl e (λ f. from-at n (suc i) test f)
+  where
+    go : (b : Bool) → test i ≡ b → cond b (spotAt i) (lowestFrom n (suc i) test) .found ≡ true
+        → (lowestFrom n (suc i) test .found ≡ true → FoundFrom n (suc i) test (lowestFrom n (suc i) test .place))
+        → FoundFrom (suc n) i test (cond b (spotAt i) (lowestFrom n (suc i) test) .place)
+    go true t f ih = record { low = omega arith; high = omega arith; yes = t; none = λ j k l. absurd (omega arith) }
+    go false t f ih =
+        let w = ih f in
+        let a = w .low in
+        let z = w .high in
+        record {
+          low = omega arith;
+          high = omega arith;
+          yes = w .yes;
+          none = λ j k l. ⊎-elim (λ d. subst (λ (x : ℕ). test x ≡ false) d t) (λ m. w .none j m l) (eq-or-lt-of-le k);
+        }
+
 pub lowest-none : (n : ℕ) (test : ℕ → Bool) → NoneBelow n test → lowest n test ≡ noSpot
-unfolding lowest
-lowest-none zero test h = refl
-lowest-none (suc n) test h = rw (lowest-none n test (λ j l. h j (omega arith)), h n (omega arith))
+lowest-none n test h = from-none n 0 test (λ j k l. h j (omega arith))
 
 pub lowest-found : (n i : ℕ) (test : ℕ → Bool) → FoundAt n test i → lowest n test ≡ spotAt i
-unfolding lowest
-lowest-found zero i test f = absurd (not-suc-le-zero (f .inside))
-lowest-found (suc n) i test f =
-    ⊎-elim
-    (λ d. rw (lowest-none n test (λ j l. f .before j (omega arith)), ← d, f .passes))
-    (λ k. rw (lowest-found n i test (record { inside = k; passes = f .passes; before = f .before })))
-    (eq-or-lt-of-le (le-of-suc-le-suc (f .inside)))
+lowest-found n i test f =
+    let h = f .inside in
+    from-found n 0 i test (omega arith) (omega arith) (f .passes) (λ j k l. f .before j l)
 
 pub lowest-no : (n : ℕ) (test : ℕ → Bool) → lowest n test .found ≡ false → NoneBelow n test
-unfolding lowest
-lowest-no zero test e = λ j l. absurd (not-suc-le-zero l)
-lowest-no (suc n) test e = go (lowest n test .found) refl (test n) refl e (λ k. lowest-no n test k)
-  where
-    go : (b : Bool) → lowest n test .found ≡ b → (t : Bool) → test n ≡ t
-        → cond (lowest n test .found) (lowest n test) (cond (test n) (spotAt n) noSpot) .found ≡ false
-        → (lowest n test .found ≡ false → NoneBelow n test) → NoneBelow (suc n) test
-    go true f t k h ih = not-both (sym (rw f at h) ∙ f)
-    go false f true k h ih = not-both (sym (rw (f, k) at h))
-    go false f false k h ih = none-more n test (ih f) k
+lowest-no n test e j l = from-no n 0 test e j (omega arith) (omega arith)
 
 pub lowest-at : (n : ℕ) (test : ℕ → Bool) → lowest n test .found ≡ true → FoundAt n test (lowest n test .place)
-unfolding lowest
-lowest-at zero test e = not-both e
-lowest-at (suc n) test e = go (lowest n test .found) refl (test n) refl e (λ k. lowest-at n test k)
-  where
-    go : (b : Bool) → lowest n test .found ≡ b → (t : Bool) → test n ≡ t
-        → cond (lowest n test .found) (lowest n test) (cond (test n) (spotAt n) noSpot) .found ≡ true
-        → (lowest n test .found ≡ true → FoundAt n test (lowest n test .place))
-        → FoundAt (suc n) test (cond (lowest n test .found) (lowest n test) (cond (test n) (spotAt n) noSpot) .place)
-    go true f t k h ih =
-        let w = ih f in
-        let l = w .inside in
-        rw f (record { inside = omega arith; passes = w .passes; before = w .before })
-    go false f true k h ih = rw (f, k) (record { inside = omega arith; passes = k; before = lowest-no n test f })
-    go false f false k h ih = not-both (rw (f, k) at h)
+lowest-at n test e =
+    let w = from-at n 0 test e in
+    let h = w .high in
+    record { inside = omega arith; passes = w .yes; before = λ j l. w .none j (omega arith) l }
 
 -- ---- the number of a spot, as a search yields it, and back
 

@@ -15,10 +15,13 @@ noSpot = record { found = false; place = 0 }
 abbrev pub spotAt : ℕ → Spot
 spotAt i = record { found = true; place = i }
 
--- the lowest of the first n numbers that passes a test
-unfoldable pub lowest : ℕ → (ℕ → Bool) → Spot
-lowest zero test = noSpot
-lowest (suc n) test = cond (lowest n test .found) (lowest n test) (cond (test n) (spotAt n) noSpot)
+-- the lowest of the n numbers from i on that passes a test, and the lowest of the first n
+unfoldable pub lowestFrom : ℕ → ℕ → (ℕ → Bool) → Spot
+lowestFrom zero i test = noSpot
+lowestFrom (suc n) i test = cond (test i) (spotAt i) (lowestFrom n (suc i) test)
+
+abbrev pub lowest : ℕ → (ℕ → Bool) → Spot
+lowest n test = lowestFrom n 0 test
 
 -- a call with this identifier waits here
 unfoldable pub hasCall : Place → ℕ → Bool

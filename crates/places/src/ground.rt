@@ -4,8 +4,8 @@ ghost use Prim.Native.Nat.{_<_};
 ghost use Rattle.profile.specs.Counting.{every};
 ghost use Rattle.places.specs.Held.{placeIn};
 ghost use Rattle.places.specs.Grounds.{callOk, apart, aloneAt, underCeiling};
-use crate::count;
 use crate::Place;
+use crate::count;
 use profile::Shares;
 
 // Every waiting call has an identifier of 14 bits and a post below the number of posts.

@@ -114,11 +114,7 @@ fn put(list: [Place; 32], at: u8, p: Place) -> Places
     if i < Shares::PLACES {
         let mut next = list;
         next[i] = p;
-        return Places {
-            place: next,
-        };
+        return Places { place: next };
     }
-    Places {
-        place: list,
-    }
+    Places { place: list }
 }

@@ -45,9 +45,16 @@ loop-less c = search needs
 loop-again : tie.Need-loop-again Inv-loop μ-loop
 unfolding placeIn
 loop-again c =
-    let l = c .before .before .before .before in
-    (search needs, (search needs, (omega (arith, c .one-if .ensures, one-few (c .before .waits-at .result)),
-    sum-turn _ (l .loop .i) _ _ (l .loop .inv .1 .1 .1) (rw (c .one-if .ensures, c .before .waits-at .ensures)))))
+    let l = c .before .before .before .before in (
+      search needs,
+      (
+        search needs,
+        (
+          omega (arith, c .one-if .ensures, one-few (c .before .waits-at .result)),
+          sum-turn _ (l .loop .i) _ _ (l .loop .inv .1 .1 .1) (rw (c .one-if .ensures, c .before .waits-at .ensures)),
+        ),
+      ),
+    )
 
 returns : tie.Need-returns Inv-loop μ-loop
 unfolding heldOf

@@ -44,9 +44,16 @@ loop-less c = search needs
 loop-again : tie.Need-loop-again Inv-loop μ-loop
 unfolding placeIn
 loop-again c =
-    let l = c .before .before .before in
-    (search needs, (search needs, (omega (arith, c .one-if .ensures, one-few (getD (l .before .args .t1) (l .loop .i) noPlace .used)),
-    sum-turn _ (l .loop .i) _ _ (l .loop .inv .1 .1 .1) (c .one-if .ensures))))
+    let l = c .before .before .before in (
+      search needs,
+      (
+        search needs,
+        (
+          omega (arith, c .one-if .ensures, one-few (getD (l .before .args .t1) (l .loop .i) noPlace .used)),
+          sum-turn _ (l .loop .i) _ _ (l .loop .inv .1 .1 .1) (c .one-if .ensures),
+        ),
+      ),
+    )
 
 returns : tie.Need-returns Inv-loop μ-loop
 unfolding usedOf
