@@ -163,10 +163,10 @@ oddShares =
     record {
       posts = 2;
       share =
-        record { reserved = 2; ceiling = 30 }
-        ∷ record { reserved = 4; ceiling = 8 }
-        ∷ record { reserved = 200; ceiling = 0 }
-        ∷ noShare ∷ noShare ∷ noShare ∷ noShare ∷ noShare ∷ [];
+          record { reserved = 2; ceiling = 30 }
+          ∷ record { reserved = 4; ceiling = 8 }
+          ∷ record { reserved = 200; ceiling = 0 }
+          ∷ noShare ∷ noShare ∷ noShare ∷ noShare ∷ noShare ∷ [];
     }
 
 pub odd-right : placesOk oddShares (two 28 0) ∷ admitsOf oddShares (two 27 0) 0 ∷ admitsOf oddShares (two 28 0) 0 ∷ [] ≡ true ∷ true ∷ false ∷ []

@@ -59,6 +59,9 @@ pub past-free : (l : List Place) (i : ℕ) → length l ≤ i → placeIn l i �
 unfolding placeIn
 past-free l i h = List·getD-eq-default l noPlace h
 
+pub set-nowhere : (l : List Place) (i : ℕ) (p : Place) → length l ≡ 32 → 32 ≤ i → set l i p ≡ l
+set-nowhere l i p n h = set-out l i p (omega arith)
+
 -- a call waits in one of the 32
 pub waiting-inside : (l : List Place) → length l ≡ 32 → (i : ℕ) → placeIn l i .used ≡ true → i < 32
 waiting-inside l n i u =

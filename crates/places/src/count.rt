@@ -41,11 +41,11 @@ fn used(list: [Place; 32]) -> u8
     ensures { λ r. ⌜ r ≡ usedOf list ⌝ }
 {
     let mut count: u8 = 0;
-    let mut i: usize = 0;
-    while i < Shares::PLACES {
-        let p = list[i];
+    let mut at: usize = 0;
+    while at < Shares::PLACES {
+        let p = list[at];
         count += one_if(p.used);
-        i += 1;
+        at += 1;
     }
     count
 }

@@ -45,16 +45,11 @@ loop-less c = search needs
 loop-again : tie.Need-loop-again Inv-loop μ-loop
 unfolding placeIn
 loop-again c =
-    let l = c .before .before .before .before in (
-      search needs,
-      (
-        search needs,
-        (
-          omega (arith, c .one-if .ensures, one-few (c .before .waits-at .result)),
-          sum-turn _ (l .loop .i) _ _ (l .loop .inv .1 .1 .1) (rw (c .one-if .ensures, c .before .waits-at .ensures)),
-        ),
-      ),
-    )
+    let k = c .before in
+    let l = k .before .before .before in
+    let few = one-few (k .waits-at .result) in
+    let next = sum-turn _ (l .loop .i) _ (c .one-if .result) (l .loop .inv .1 .1 .1) (rw (c .one-if .ensures, k .waits-at .ensures)) in
+    (search needs, (search needs, (omega (arith, c .one-if .ensures, few), next)))
 
 returns : tie.Need-returns Inv-loop μ-loop
 unfolding heldOf

@@ -13,10 +13,10 @@ use Rattle.places.proofs.count.used.Statement.{statement}
 use Rattle.places.proofs.count.used.Tie as tie
 
 abbrev Inv-loop : tie.InvT-loop
-Inv-loop list count₀ i₀ count i = (i ≤ 32) × ((length list ≡ 32) × ((count ≤ i) × (count ≡ sum i (λ j. one (placeIn list j .used)))))
+Inv-loop list count₀ at₀ count at = (at ≤ 32) × ((length list ≡ 32) × ((count ≤ at) × (count ≡ sum at (λ i. one (placeIn list i .used)))))
 
 abbrev μ-loop : tie.MeasureT-loop
-μ-loop list count₀ i₀ count i = 32 - i
+μ-loop list count₀ at₀ count at = 32 - at
 
 loop-holds : tie.Need-loop-holds Inv-loop μ-loop
 loop-holds c = (search needs, (search needs, (search needs, sym (sum-none _))))
@@ -33,10 +33,10 @@ one-if-requires c κs = search needs
 add-count : tie.Need-add-count Inv-loop μ-loop
 add-count c =
     let l = c .before .before .before in
-    record { fits = omega (arith, c .one-if .ensures, one-few (getD (l .before .args .t1) (l .loop .i) noPlace .used)) }
+    record { fits = omega (arith, c .one-if .ensures, one-few (getD (l .before .args .t1) (l .loop .at) noPlace .used)) }
 
-add-i : tie.Need-add-i Inv-loop μ-loop
-add-i c = search needs
+add-at : tie.Need-add-at Inv-loop μ-loop
+add-at c = search needs
 
 loop-less : tie.Need-loop-less Inv-loop μ-loop
 loop-less c = search needs
@@ -44,20 +44,14 @@ loop-less c = search needs
 loop-again : tie.Need-loop-again Inv-loop μ-loop
 unfolding placeIn
 loop-again c =
-    let l = c .before .before .before in (
-      search needs,
-      (
-        search needs,
-        (
-          omega (arith, c .one-if .ensures, one-few (getD (l .before .args .t1) (l .loop .i) noPlace .used)),
-          sum-turn _ (l .loop .i) _ _ (l .loop .inv .1 .1 .1) (c .one-if .ensures),
-        ),
-      ),
-    )
+    let l = c .before .before .before in
+    let few = one-few (getD (l .before .args .t1) (l .loop .at) noPlace .used) in
+    let next = sum-turn _ (l .loop .at) _ (c .one-if .result) (l .loop .inv .1 .1 .1) (c .one-if .ensures) in
+    (search needs, (search needs, (omega (arith, c .one-if .ensures, few), next)))
 
 returns : tie.Need-returns Inv-loop μ-loop
 unfolding usedOf
-returns c = sum-end _ 32 (c .before .loop .i) _ (c .before .loop .inv .1 .1 .1) (omega arith)
+returns c = sum-end _ 32 (c .before .loop .at) _ (c .before .loop .inv .1 .1 .1) (omega arith)
 
 pub used-spec : {M : Type 1} → statement M
 used-spec =
@@ -70,7 +64,7 @@ used-spec =
     array-copy-out-p
     one-if-requires
     add-count
-    add-i
+    add-at
     loop-less
     loop-again
     returns)
