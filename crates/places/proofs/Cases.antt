@@ -10,7 +10,6 @@ use Rattle.codec.specs.Codec.{both}
 use Rattle.profile.specs.Counting.{every, sum}
 use Rattle.profile.specs.Rules.{noShare, shareIn}
 use Rattle.profile.specs.Sample.{sample, sampleShare}
-use Rattle.profile.specs.declared.Share.{Share}
 use Rattle.profile.specs.declared.Shares.{Shares}
 use Rattle.places.specs.Held.{noPlace, placeIn, noPlaces, waitsAt, heldOf, usedOf, freeOf, owedOf, owedAll, owedOthers, loadOf, admitsOf}
 use Rattle.places.specs.Grounds.{callOk, apart, aloneAt, underCeiling, placesOk}

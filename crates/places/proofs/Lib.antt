@@ -2,4 +2,5 @@ pub mod SumLaws
 pub mod SpotLaws
 pub mod HeldLaws
 pub mod PlaceLaws
+pub mod CallLaws
 pub mod Cases

@@ -1,26 +1,25 @@
 -- The laws that demand 3 rests on: taking and clearing a place keep the desk's places good, an admitted call has a place, and a post below
 -- its reserved number is admitted. Assumes nothing.
 use Prim.Native.Nat.{ℕ, _+_, _-_, _^_, _≤_, _<_}
-use mathlib.Core.Path.{_≡_, refl, sym, _∙_, ap}
+use mathlib.Core.Path.{_≡_, refl, sym, _∙_}
 use mathlib.Core.Bool.{Bool, true, false, not, cond, _||_}
 use mathlib.Core.List.{List}
 use mathlib.Core.Logic.{_⊎_, inl, inr, ⊎-elim}
 use native.Mathlib.Omega.{arith}
 use lib.Dec.{eqb, leb, ltb}
 use lib.ListN.{length, set}
-use borrow.Author.Tests.{eq-eqb, ne-eqb, eqb-true, ltb-true, lt-ltb, leb-true, le-leb}
+use borrow.Author.Tests.{eq-eqb, eqb-true, ltb-true, lt-ltb, leb-true, le-leb}
 use Rattle.codec.specs.Codec.{both}
 use Rattle.codec.proofs.Good.{both-true, both-left, both-right, not-both}
 use Rattle.profile.specs.Counting.{every, sum}
 use Rattle.profile.specs.Rules.{shareOk, shareIn, sharesOk}
-use Rattle.profile.specs.declared.Share.{Share}
 use Rattle.profile.specs.declared.Shares.{Shares}
 use Rattle.profile.proofs.CountLaws.{every-at}
 use Rattle.places.specs.Held.{noPlace, placeIn, noPlaces, one, waitsAt, heldOf, usedOf, freeOf, owedOf, owedAll, owedOthers, loadOf, admitsOf}
 use Rattle.places.specs.Grounds.{callOk, apart, aloneAt, underCeiling, placesOk}
 use Rattle.places.specs.Spots.{spotAt, placeOf, lowestFree, takeOf, clearOf}
 use Rattle.places.specs.declared.Place.{Place}
-use Rattle.places.proofs.SumLaws.{every-all, sum-same, sum-bump, sum-without, sum-part, sum-zero, sum-swap}
+use Rattle.places.proofs.SumLaws.{every-all, sum-same, sum-bump, sum-without}
 use Rattle.places.proofs.SpotLaws.{lowest-free-exactly, none-free-exactly, no-place-exactly}
 use Rattle.places.proofs.HeldLaws.{call, one-few, set-by, waits-not, waits-other, waiting-inside, used-all, used-clear, held-take-own, held-take-other, all-take, held-clear, all-clear, none-at, none-held, none-used, all-held}
 
@@ -105,6 +104,20 @@ module _ (shares : Shares) (l : List Place) where
       either true k f = inl (ltb-true _ _ k)
       either false k f = inr (ltb-true _ _ f)
 
+  pub rule-admits : (p : ℕ) → heldOf l p < shareIn (shares .share) p .ceiling
+      → (heldOf l p < shareIn (shares .share) p .reserved) ⊎ (owedOthers shares l p < freeOf l) → admitsOf shares l p ≡ true
+  unfolding admitsOf
+  rule-admits p c r =
+      both-true _ _ (lt-ltb _ _ c)
+      (⊎-elim
+      (λ k. rw (lt-ltb (heldOf l p) (shareIn (shares .share) p .reserved) k))
+      (λ k. rw (lt-ltb (owedOthers shares l p) (freeOf l) k) (or-true (ltb (heldOf l p) (shareIn (shares .share) p .reserved))))
+      r)
+    where
+      or-true : (b : Bool) → (b || true) ≡ true
+      or-true true = refl
+      or-true false = refl
+
   -- what all are owed is what the others are owed, and the post's own part
   owed-parts : (p : ℕ) → p < shares .posts → owedOthers shares l p + owedOf shares l p ≡ owedAll shares l
   unfolding owedOthers owedAll
@@ -128,14 +141,13 @@ module _ (shares : Shares) (l : List Place) where
 
   -- a post below its reserved number is admitted
   pub reserved-admitted : sharesOk shares ≡ true → (p : ℕ) → p < shares .posts → heldOf l p < shareIn (shares .share) p .reserved → admitsOf shares l p ≡ true
-  unfolding sharesOk shareOk admitsOf
+  unfolding sharesOk shareOk
   reserved-admitted e p h k =
       let a = both-right (leb (shares .posts) 8) _ (both-right (leb 1 (shares .posts)) _ e) in
       let s : shareOk (shareIn (shares .share) p) ≡ true = every-at (shares .posts) _ (both-left _ _ a) p h in
       let c = both-right (leb (shareIn (shares .share) p .ceiling) 32) _ (both-right (leb 1 (shareIn (shares .share) p .ceiling)) _ s) in
       let m = leb-true (shareIn (shares .share) p .reserved) (shareIn (shares .share) p .ceiling) c in
-      let below : heldOf l p < shareIn (shares .share) p .ceiling = omega arith in
-      both-true _ _ (lt-ltb _ _ below) (rw (lt-ltb _ _ k))
+      rule-admits p (omega arith) (inl k)
 
 -- ---- a call takes a place
 
@@ -188,20 +200,26 @@ module _ (shares : Shares) (l : List Place) (n : length l ≡ 32) where
         (λ f u v z. none j s u z)
         (λ f. w .alone j k s t))
 
-  -- an admitted call at the lowest free place
+  -- an admitted call at any free place, and at the lowest
+  pub take-keeps-at : (i identifier post : ℕ) → placesOk shares l ≡ true → identifier < 2 ^ 14 → placeOf l identifier .found ≡ false
+      → post < shares .posts → admitsOf shares l post ≡ true → i < 32 → placeIn l i .used ≡ false
+      → placesOk shares (takeOf l i identifier post) ≡ true
+  take-keeps-at i identifier post e small none p a h free =
+      let w = passes shares l e in
+      passed shares (takeOf l i identifier post)
+      (record {
+        calls = take-calls i identifier post h free a p w small;
+        alone = take-alone i identifier post h free a p w (no-place-exactly l identifier none);
+        under = take-under i identifier post h free a p w;
+        load = take-load i identifier post h free a p w;
+      })
+
   pub take-keeps : (i identifier post : ℕ) → placesOk shares l ≡ true → identifier < 2 ^ 14 → placeOf l identifier .found ≡ false
       → post < shares .posts → admitsOf shares l post ≡ true → lowestFree l ≡ spotAt i
       → placesOk shares (takeOf l i identifier post) ≡ true
   take-keeps i identifier post e small none p a at =
-      let w = passes shares l e in
       let f = lowest-free-exactly l i at in
-      passed shares (takeOf l i identifier post)
-      (record {
-        calls = take-calls i identifier post (f .inside) (f .free) a p w small;
-        alone = take-alone i identifier post (f .inside) (f .free) a p w (no-place-exactly l identifier none);
-        under = take-under i identifier post (f .inside) (f .free) a p w;
-        load = take-load i identifier post (f .inside) (f .free) a p w;
-      })
+      take-keeps-at i identifier post e small none p a (f .inside) (f .free)
 
   -- ---- a place is freed
 

@@ -7,11 +7,10 @@ use mathlib.Core.Logic.{⊎-elim}
 use native.Mathlib.Nat.{not-suc-le-zero, eq-or-lt-of-le, le-of-suc-le-suc}
 use native.Mathlib.Numerals.{add-one}
 use native.Mathlib.Omega.{arith}
-use lib.Dec.{eqb, ltb}
-use borrow.Author.Tests.{lt-ltb, eqb-true, eqb-false, eq-eqb, not-true, not-false}
-use Rattle.codec.specs.Codec.{both}
+use lib.Dec.{ltb}
+use borrow.Author.Tests.{lt-ltb, eqb-true, eq-eqb, not-true, not-false}
 use Rattle.codec.proofs.Good.{both-true, both-left, both-right, not-both}
-use Rattle.places.specs.Held.{noPlace, placeIn}
+use Rattle.places.specs.Held.{placeIn}
 use Rattle.places.specs.Spots.{noSpot, spotAt, lowestFrom, lowest, hasCall, placeOf, lowestFree, numberIn, spotOf}
 use Rattle.places.specs.declared.Place.{Place}
 use Rattle.places.specs.declared.Spot.{Spot}
@@ -93,6 +92,14 @@ from-at (suc n) i test e = go (test i) refl e (λ f. from-at n (suc i) test f)
           none = λ j k l. ⊎-elim (λ d. subst (λ (x : ℕ). test x ≡ false) d t) (λ m. w .none j m l) (eq-or-lt-of-le k);
         }
 
+from-same : (n i : ℕ) (s t : ℕ → Bool) → ((j : ℕ) → j < i + n → s j ≡ t j) → lowestFrom n i s ≡ lowestFrom n i t
+unfolding lowestFrom
+from-same zero i s t e = refl
+from-same (suc n) i s t e = rw (e i (omega arith), from-same n (suc i) s t (λ j l. e j (omega arith)))
+
+pub lowest-same : (n : ℕ) (s t : ℕ → Bool) → ((j : ℕ) → j < n → s j ≡ t j) → lowest n s ≡ lowest n t
+lowest-same n s t e = from-same n 0 s t (λ j l. e j (omega arith))
+
 pub lowest-none : (n : ℕ) (test : ℕ → Bool) → NoneBelow n test → lowest n test ≡ noSpot
 lowest-none n test h = from-none n 0 test (λ j k l. h j (omega arith))
 
@@ -110,6 +117,13 @@ lowest-at n test e =
     let h = w .high in
     record { inside = omega arith; passes = w .yes; before = λ j l. w .none j (omega arith) l }
 
+-- a spot that is found is that of its number; none is always the same
+pub spot-found : (s : Spot) → s .found ≡ true → s ≡ spotAt (s .place)
+spot-found s e = ap (λ (b : Bool). record { found = b; place = s .place }) e
+
+pub lowest-nothing : (n : ℕ) (test : ℕ → Bool) → lowest n test .found ≡ false → lowest n test ≡ noSpot
+lowest-nothing n test e = lowest-none n test (lowest-no n test e)
+
 -- ---- the number of a spot, as a search yields it, and back
 
 pub spot-back : (test : ℕ → Bool) → spotOf (numberIn (lowest 32 test)) ≡ lowest 32 test
@@ -120,7 +134,7 @@ spot-back test = go (lowest 32 test .found) refl
     go true e =
         let w = lowest-at 32 test e in
         rw (e, lt-ltb (lowest 32 test .place) 32 (w .inside))
-    go false e = rw (lowest-none 32 test (lowest-no 32 test e))
+    go false e = rw (lowest-nothing 32 test e)
 
 pub number-found : (i : ℕ) (test : ℕ → Bool) → i < 32 → NoneBelow i test → test i ≡ true → i ≡ numberIn (lowest 32 test)
 number-found i test l h e = rw (lowest-found 32 i test (record { inside = l; passes = e; before = h }))
@@ -132,12 +146,12 @@ number-none i test d h = rw (lowest-none 32 test (λ j l. h j (omega arith)))
 
 module _ (l : List Place) where
   -- place i is free, and every lower one is used
-  pub record LowestFree (i : ℕ) : Type 0 where
+  pub record FreeFirst (i : ℕ) : Type 0 where
     pub inside : i < 32
     pub free : placeIn l i .used ≡ false
     pub lower : (j : ℕ) → j < i → placeIn l j .used ≡ true
 
-  pub lowest-free-exactly : (i : ℕ) → lowestFree l ≡ spotAt i → LowestFree i
+  pub lowest-free-exactly : (i : ℕ) → lowestFree l ≡ spotAt i → FreeFirst i
   unfolding lowestFree
   lowest-free-exactly i e =
       let w = lowest-at 32 (λ i. not (placeIn l i .used)) (ap (λ (s : Spot). s .found) e) in

@@ -63,9 +63,6 @@ sum-without n p f l =
     let z : cond (eqb p p) 0 (f p) ≡ 0 = rw (eq-eqb p p refl) in
     omega (arith, e, z)
 
-pub sum-part : (n p : ℕ) (f : ℕ → ℕ) → p < n → f p ≤ sum n f
-sum-part n p f l = omega (arith, sum-without n p f l)
-
 -- of ones and zeros
 pub sum-few : (n : ℕ) (f : ℕ → ℕ) → ((q : ℕ) → f q ≤ 1) → sum n f ≤ n
 unfolding sum

@@ -7,7 +7,6 @@ use lib.Dec.{eqb, leb, ltb}
 use Rattle.codec.specs.Codec.{both}
 use Rattle.profile.specs.Counting.{every}
 use Rattle.profile.specs.Rules.{shareIn}
-use Rattle.profile.specs.declared.Share.{Share}
 use Rattle.profile.specs.declared.Shares.{Shares}
 use Rattle.places.specs.Held.{placeIn, heldOf, loadOf}
 use Rattle.places.specs.declared.Place.{Place}

@@ -1,6 +1,6 @@
 // Held, free and owed, counted from the places.
 ghost use mathlib.Core.Path.{_≡_};
-ghost use mathlib.Core.Bool.{Bool, cond};
+ghost use mathlib.Core.Bool.{cond};
 ghost use Prim.Native.Nat.{_-_};
 ghost use Rattle.profile.specs.Rules.{shareIn};
 ghost use Rattle.places.specs.Held.{one, waitsAt, heldOf, usedOf, freeOf, owedOf, owedAll, owedOthers, loadOf};

@@ -107,6 +107,7 @@ pub fn clear(places: Places, at: u8) -> Places
     put(list, at, nothing)
 }
 
+// One place overwritten; there is none from number 32 on.
 fn put(list: [Place; 32], at: u8, p: Place) -> Places
     ensures { λ r. ⌜ r ≡ record { place = set list at p } ⌝ }
 {
