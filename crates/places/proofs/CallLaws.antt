@@ -47,7 +47,7 @@ module _ (l : List Place) (n : length l ≡ 32) (i identifier post : ℕ) (h : i
       (record {
         inside = h;
         passes = rw (set-here l i (call identifier post) (omega arith)) (own identifier);
-        before = λ j k. rw (set-there l i j (call identifier post) (λ d. omega arith)) (lowest-no 32 (λ j. hasCall (placeIn l j) identifier) none j (omega arith));
+        before = λ j k. rw (set-there l i j (call identifier post) (λ d. omega arith)) (lowest-no 32 _ none j (omega arith));
       })
     where
       own : (a : ℕ) → eqb a a ≡ true
@@ -98,7 +98,9 @@ module _ (l : List Place) (i : ℕ) where
     -- so where that place is cleared, it waits nowhere
     pub place-clear-own : (identifier : ℕ) → placeOf l identifier ≡ spotAt i → placeOf (clearOf l i) identifier .found ≡ false
     unfolding placeOf
-    place-clear-own identifier e = ap (λ (s : Spot). s .found) (lowest-none 32 (λ j. hasCall (placeIn (clearOf l i) j) identifier) (λ j k. clear-has j identifier ∙ go j k (eqb j i) refl))
+    place-clear-own identifier e =
+        ap (λ (s : Spot). s .found)
+        (lowest-none 32 (λ j. hasCall (placeIn (clearOf l i) j) identifier) (λ j k. clear-has j identifier ∙ go j k (eqb j i) refl))
       where
         first : WaitsFirst l identifier i
         first = place-of-exactly l identifier i e

@@ -97,7 +97,9 @@ module _ (shares : Shares) (l : List Place) where
       → (heldOf l p < shareIn (shares .share) p .ceiling) × ((heldOf l p < shareIn (shares .share) p .reserved) ⊎ (owedOthers shares l p < freeOf l))
   unfolding admitsOf
   admits-rule p e =
-      (ltb-true _ _ (both-left _ _ e), either (ltb (heldOf l p) (shareIn (shares .share) p .reserved)) refl (both-right (ltb (heldOf l p) (shareIn (shares .share) p .ceiling)) _ e))
+      let c = both-left (ltb (heldOf l p) (shareIn (shares .share) p .ceiling)) _ e in
+      let r = both-right (ltb (heldOf l p) (shareIn (shares .share) p .ceiling)) _ e in
+      (ltb-true _ _ c, either (ltb (heldOf l p) (shareIn (shares .share) p .reserved)) refl r)
     where
       either : (b : Bool) → ltb (heldOf l p) (shareIn (shares .share) p .reserved) ≡ b → (b || ltb (owedOthers shares l p) (freeOf l)) ≡ true
           → (heldOf l p < shareIn (shares .share) p .reserved) ⊎ (owedOthers shares l p < freeOf l)
@@ -294,14 +296,14 @@ module _ (shares : Shares) (e : sharesOk shares ≡ true) where
       let a = both-right (leb (shares .posts) 8) _ (both-right (leb 1 (shares .posts)) _ e) in
       leb-true _ _ (both-right (every (shares .posts) (λ p. shareOk (shareIn (shares .share) p))) _ a)
 
+  none-owed : owedAll shares noPlaces ≡ sum (shares .posts) (λ p. shareIn (shares .share) p .reserved)
+  unfolding owedAll owedOf
+  none-owed =
+      sum-same (shares .posts) (λ p. shareIn (shares .share) p .reserved) (λ p. owedOf shares noPlaces p) (λ p h. omega (arith, none-held p))
+
   none-load : loadOf shares noPlaces ≤ 32
-  unfolding loadOf owedAll owedOf
-  none-load =
-      let o =
-      sum-same (shares .posts) (λ q. shareIn (shares .share) q .reserved) (λ q. shareIn (shares .share) q .reserved - heldOf noPlaces q)
-      (λ q d. omega (arith, none-held q))
-      in
-      omega (arith, shares-fit, none-used, o)
+  unfolding loadOf
+  none-load = omega (arith, shares-fit, none-used, none-owed)
 
   pub none-waiting-ok : placesOk shares noPlaces ≡ true
   none-waiting-ok =
