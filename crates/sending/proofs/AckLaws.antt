@@ -1,0 +1,154 @@
+-- What the desk sends can be sent: its ACKs, of a valid request, and the messages that say nothing but their type. Assumes nothing.
+use Prim.Native.Nat.{ℕ, zero, suc, _+_, _*_, _≤_, _<_}
+use mathlib.Core.Path.{_≡_, refl, sym, ap, _∙_}
+use mathlib.Core.Bool.{Bool, true, false, cond}
+use mathlib.Core.List.{List, [], _∷_, _++_}
+use native.Mathlib.Omega.{arith}
+use lib.Dec.{eqb, ltb, leb}
+use lib.ListN.{length, length-append}
+use Rattle.bits.proofs.PutLaws.{length-binary}
+use borrow.Author.Tests.{lt-ltb, eq-eqb, ne-eqb, leb-true}
+use Rattle.codec.specs.Codec.{Codec, both, number, pure, choose}
+use Rattle.codec.specs.Options.{flag}
+use Rattle.codec.proofs.Good.{both-true, both-left, both-right}
+use Rattle.profile.specs.Rules.{airOk, profileOk}
+use Rattle.profile.specs.declared.Air.{Air}
+use Rattle.profile.specs.declared.Profile.{Profile}
+use Rattle.message.specs.Addresses.{nobody, isNobody}
+use Rattle.message.specs.Groups.{groupC, spanOf, nobodies, areNobody, oneGroup, isOneGroup}
+use Rattle.message.specs.Acks.{maskC, maskedC, resultC}
+use Rattle.message.specs.Values.{ackV, plainV, plainFits, interceptedFits, callFits, acceptedFits}
+use Rattle.message.specs.Messages.{ackC, interceptedC, acceptedC, bodyC, isKnown, isCarried, headerC, messageC}
+use Rattle.message.proofs.ValueLaws.{ack-fits}
+use Rattle.message.specs.declared.Group.{Group}
+use Rattle.message.specs.declared.Value.{Value}
+use Rattle.validity.specs.Validity.{validOf}
+use Rattle.writing.specs.Writing.{bitsOf, bytesFor}
+use Rattle.writing.proofs.LengthLaws.{ack-bytes-most}
+use Rattle.records.specs.declared.Sorted.{Sorted}
+use Rattle.sending.specs.Acks.{isThere, maskAt, resultOf, reasonOf, severalIn, ackOf, ackIf, acksOf}
+use Rattle.sending.proofs.SentLaws.{Sends, AllSend}
+
+-- ---- what a profile that passes says of its numbers
+
+module _ (p : Profile) (passes : profileOk p ≡ true) where
+  air-ok : airOk (p .air) ≡ true
+  unfolding profileOk
+  air-ok = both-left _ _ passes
+
+  ss-most : p .air .ss ≤ 63
+  unfolding airOk
+  ss-most = leb-true _ _ (both-left _ _ air-ok)
+
+  unknown-most : p .air .unknown ≤ 127
+  unfolding airOk
+  unknown-most = leb-true _ _ (both-left _ _ (both-right _ _ (both-right _ _ air-ok)))
+
+  other-most : p .air .other ≤ 127
+  unfolding airOk
+  other-most = leb-true _ _ (both-left _ _ (both-right _ _ (both-right _ _ (both-right _ _ air-ok))))
+
+-- ---- the header
+
+header-valid : (ss t : ℕ) → ss ≤ 63 → t < 32 → isKnown t ≡ true → isCarried t ≡ true → headerC ss .ok (ss, t) ≡ true
+unfolding headerC number
+header-valid ss t h k known carried =
+    both-true _ _ (both-true _ _ (both-true _ _ (both-true _ _ (lt-ltb ss 64 (omega arith)) (lt-ltb t 32 k)) (eq-eqb ss ss refl)) known) carried
+
+known-3 : isKnown 3 ≡ true
+unfolding isKnown both
+known-3 = refl
+
+carried-3 : isCarried 3 ≡ true
+unfolding isCarried
+carried-3 = refl
+
+-- ---- the ACKs
+
+-- the result and the reason of a class
+result-valid : (p : Profile) → profileOk p ≡ true → (class : ℕ) → resultC .ok (resultOf class, reasonOf (p .air) class) ≡ true
+unfolding resultC resultOf reasonOf number both
+result-valid p passes zero = refl
+result-valid p passes (suc zero) = lt-ltb (p .air .unknown) 128 (omega (arith, unknown-most p passes))
+result-valid p passes (suc (suc c)) =
+    let two : suc (suc c) ≡ 0 → ⊥ = λ z. omega arith in
+    let three : suc (suc c) ≡ 1 → ⊥ = λ z. omega arith in
+    rw (ne-eqb (suc (suc c)) 0 two, ne-eqb (suc (suc c)) 1 three) (lt-ltb (p .air .other) 128 (omega (arith, other-most p passes)))
+
+masked-valid : (n : ℕ) (b : Bool) (m : ℕ) → maskC n .ok m ≡ true → maskedC n .ok (b, cond b m 0) ≡ true
+unfolding maskedC flag number both
+masked-valid n true m e = e
+masked-valid n false m e = refl
+
+ack-pdu-is : (users : Group) (b : Bool) (m r w : ℕ) → ackV users b m r w .pdu ≡ 3
+unfolding ackV
+ack-pdu-is users b m r w = refl
+
+ack-valid : (p : Profile) → profileOk p ≡ true → (users : Group) → groupC (p .air) false .ok users ≡ true → (b : Bool) (m : ℕ) → maskC (spanOf (p .air) users) .ok m ≡ true
+    → (class : ℕ) → validOf (p .air) (ackV users b (cond b m 0) (resultOf class) (reasonOf (p .air) class)) ≡ true
+unfolding validOf messageC bodyC ackC ackV
+ack-valid p passes users g b m e class =
+    both-true true _ refl
+    (both-true _ _ (header-valid (p .air .ss) 3 (ss-most p passes) (omega arith) known-3 carried-3)
+    (both-true _ _ (ack-fits users b (cond b m 0) (resultOf class) (reasonOf (p .air) class))
+    (both-true _ _ g (both-true _ _ (masked-valid (spanOf (p .air) users) b m e) (result-valid p passes class)))))
+
+-- ---- what is sent of a request
+
+-- a group that was read, and masks of its identities
+pub record Request (p : Profile) (users : Group) (s : Sorted) : Type 0 where
+  pub valid : groupC (p .air) false .ok users ≡ true
+  pub masks : (class : ℕ) → maskC (spanOf (p .air) users) .ok (maskAt s class) ≡ true
+
+module _ (p : Profile) (passes : profileOk p ≡ true) (users : Group) (s : Sorted) (r : Request p users s) where
+  ack-sends : (class : ℕ) → Sends p (ackOf (p .air) users s class)
+  unfolding ackOf
+  ack-sends class =
+      let ok = ack-valid p passes users (r .valid) (severalIn (s .some)) (maskAt s class) (r .masks class) class in
+      record { valid = ok; short = omega (arith, ack-bytes-most (p .air) _ ok (ack-pdu-is _ _ _ _ _)) }
+
+  ack-if-sends : (class : ℕ) (b : Bool) (vs : List Value) → AllSend p vs → AllSend p (cond b (ackOf (p .air) users s class ∷ []) [] ++ vs)
+  ack-if-sends class true vs all = (ack-sends class, all)
+  ack-if-sends class false vs all = all
+
+  ack-if-few : (class : ℕ) (b : Bool) (vs : List Value) (n : ℕ) → length vs ≤ n → length (cond b (ackOf (p .air) users s class ∷ []) [] ++ vs) ≤ n + 1
+  ack-if-few class true vs n h = omega arith
+  ack-if-few class false vs n h = omega arith
+
+  last-sends : (b : Bool) → AllSend p (cond b (ackOf (p .air) users s 2 ∷ []) [])
+  last-sends true = (ack-sends 2, tt)
+  last-sends false = tt
+
+  last-few : (b : Bool) → length (cond b (ackOf (p .air) users s 2 ∷ []) []) ≤ 1
+  last-few true = omega arith
+  last-few false = omega arith
+
+  pub acks-send : AllSend p (acksOf (p .air) users s)
+  unfolding acksOf
+  acks-send = ack-if-sends 0 (isThere s 0) _ (ack-if-sends 1 (isThere s 1) _ (last-sends (isThere s 2)))
+
+  -- at most three
+  pub acks-few : length (acksOf (p .air) users s) ≤ 3
+  unfolding acksOf
+  acks-few = ack-if-few 0 (isThere s 0) _ 2 (ack-if-few 1 (isThere s 1) _ 1 (last-few (isThere s 2)))
+
+-- ---- INTERCEPTED, ACCEPTED, DIVERTED
+
+plain-sends : (p : Profile) → profileOk p ≡ true → (t : ℕ) → t < 32 → isKnown t ≡ true → isCarried t ≡ true → bodyC (p .air) t .ok (plainV t nobody 0 0 false nobody) ≡ true
+    → length (bitsOf (p .air) (plainV t nobody 0 0 false nobody)) ≤ 100 → Sends p (plainV t nobody 0 0 false nobody)
+unfolding validOf messageC plainV
+plain-sends p passes t h known carried body short =
+    record { valid = both-true true _ refl (both-true _ _ (header-valid (p .air .ss) t (ss-most p passes) h known carried) body); short = omega arith }
+
+module _ (p : Profile) (passes : profileOk p ≡ true) where
+  pub intercepted-sends : Sends p (plainV 10 nobody 0 0 false nobody)
+  unfolding isKnown isCarried both bodyC interceptedC interceptedFits plainFits plainV oneGroup isOneGroup nobodies areNobody isNobody flag number bitsOf messageC headerC
+  intercepted-sends = plain-sends p passes 10 (omega arith) refl refl refl (simp (length-append, length-binary) (omega arith))
+
+  pub accepted-sends : Sends p (plainV 13 nobody 0 0 false nobody)
+  unfolding isKnown isCarried both bodyC acceptedC acceptedFits callFits plainFits plainV oneGroup isOneGroup nobodies areNobody isNobody number bitsOf messageC headerC
+  accepted-sends = plain-sends p passes 13 (omega arith) refl refl refl (simp (length-append, length-binary) (omega arith))
+
+  pub diverted-sends : Sends p (plainV 16 nobody 0 0 false nobody)
+  unfolding isKnown isCarried both bodyC interceptedC interceptedFits plainFits plainV oneGroup isOneGroup nobodies areNobody isNobody flag number bitsOf messageC headerC
+  diverted-sends = plain-sends p passes 16 (omega arith) refl refl refl (simp (length-append, length-binary) (omega arith))

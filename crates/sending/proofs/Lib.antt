@@ -1,0 +1,3 @@
+pub mod SendLaws
+pub mod SentLaws
+pub mod AckLaws
