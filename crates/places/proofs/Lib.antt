@@ -1,0 +1,6 @@
+pub mod SumLaws
+pub mod SpotLaws
+pub mod HeldLaws
+pub mod PlaceLaws
+pub mod CallLaws
+pub mod Cases

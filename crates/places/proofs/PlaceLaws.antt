@@ -1,0 +1,321 @@
+-- The laws that demand 3 rests on: taking and clearing a place keep the desk's places good, an admitted call has a place, and a post below
+-- its reserved number is admitted. Assumes nothing.
+use Prim.Native.Nat.{ℕ, _+_, _-_, _^_, _≤_, _<_}
+use mathlib.Core.Path.{_≡_, refl, sym, _∙_}
+use mathlib.Core.Bool.{Bool, true, false, not, cond, _||_}
+use mathlib.Core.List.{List}
+use mathlib.Core.Logic.{_⊎_, inl, inr, ⊎-elim}
+use native.Mathlib.Omega.{arith}
+use lib.Dec.{eqb, leb, ltb}
+use lib.ListN.{length, set}
+use borrow.Author.Tests.{eq-eqb, eqb-true, ltb-true, lt-ltb, leb-true, le-leb}
+use Rattle.codec.specs.Codec.{both}
+use Rattle.codec.proofs.Good.{both-true, both-left, both-right, not-both}
+use Rattle.profile.specs.Counting.{every, sum}
+use Rattle.profile.specs.Rules.{shareOk, shareIn, sharesOk}
+use Rattle.profile.specs.declared.Shares.{Shares}
+use Rattle.profile.proofs.CountLaws.{every-at}
+use Rattle.places.specs.Held.{noPlace, placeIn, noPlaces, one, waitsAt, heldOf, usedOf, freeOf, owedOf, owedAll, owedOthers, loadOf, admitsOf}
+use Rattle.places.specs.Grounds.{callOk, apart, aloneAt, underCeiling, placesOk}
+use Rattle.places.specs.Spots.{spotAt, placeOf, lowestFree, takeOf, clearOf}
+use Rattle.places.specs.declared.Place.{Place}
+use Rattle.places.proofs.SumLaws.{every-all, sum-same, sum-bump, sum-without}
+use Rattle.places.proofs.SpotLaws.{lowest-free-exactly, none-free-exactly, no-place-exactly}
+use Rattle.places.proofs.HeldLaws.{call, one-few, set-by, waits-not, waits-other, waiting-inside, used-all, used-clear, held-take-own, held-take-other, all-take, held-clear, all-clear, none-at, none-held, none-used, all-held}
+
+-- ---- the tests, as facts
+
+call-ok : (posts : ℕ) (p : Place) → (p .used ≡ true → (p .identifier < 2 ^ 14) × (p .post < posts)) → callOk posts p ≡ true
+unfolding callOk
+call-ok posts p h = go (p .used) refl
+  where
+    go : (b : Bool) → p .used ≡ b → cond b (both (ltb (p .identifier) (2 ^ 14)) (ltb (p .post) posts)) true ≡ true
+    go true e = let w = h e in both-true _ _ (lt-ltb _ _ (w .0)) (lt-ltb _ _ (w .1))
+    go false e = refl
+
+call-fact : (posts : ℕ) (p : Place) → callOk posts p ≡ true → p .used ≡ true → (p .identifier < 2 ^ 14) × (p .post < posts)
+unfolding callOk
+call-fact posts p e u =
+    let k : both (ltb (p .identifier) (2 ^ 14)) (ltb (p .post) posts) ≡ true = rw u at e in
+    (ltb-true _ _ (both-left _ _ k), ltb-true _ _ (both-right (ltb (p .identifier) (2 ^ 14)) _ k))
+
+abbrev Differ : Place → Place → Type 0
+Differ p q = p .used ≡ true → q .used ≡ true → p .identifier ≡ q .identifier → ⊥
+
+apart-ok : (p q : Place) → Differ p q → apart p q ≡ true
+unfolding apart both
+apart-ok p q h = go (p .used) refl (q .used) refl (eqb (p .identifier) (q .identifier)) refl
+  where
+    go : (b : Bool) → p .used ≡ b → (d : Bool) → q .used ≡ d → (t : Bool) → eqb (p .identifier) (q .identifier) ≡ t → not (both b (both d t)) ≡ true
+    go true e true f true k = absurd (h e f (eqb-true _ _ k))
+    go true e true f false k = refl
+    go true e false f t k = refl
+    go false e d f t k = refl
+
+apart-fact : (p q : Place) → apart p q ≡ true → Differ p q
+unfolding apart both
+apart-fact p q e u v d = not-both (rw (u, v, eq-eqb _ _ d) at e)
+
+-- what `placesOk` says, as facts
+pub record Passes (shares : Shares) (l : List Place) : Type 0 where
+  pub calls : (i : ℕ) → i < 32 → placeIn l i .used ≡ true → (placeIn l i .identifier < 2 ^ 14) × (placeIn l i .post < shares .posts)
+  pub alone : (i j : ℕ) → i < 32 → j < i → placeIn l i .used ≡ true → placeIn l j .used ≡ true → placeIn l i .identifier ≡ placeIn l j .identifier → ⊥
+  pub under : (p : ℕ) → p < shares .posts → heldOf l p ≤ shareIn (shares .share) p .ceiling
+  pub load : loadOf shares l ≤ 32
+
+module _ (shares : Shares) (l : List Place) where
+  abbrev ok-calls : Bool
+  ok-calls = every 32 (λ i. callOk (shares .posts) (placeIn l i))
+
+  abbrev ok-alone : Bool
+  ok-alone = every 32 (λ i. aloneAt l i)
+
+  abbrev ok-under : Bool
+  ok-under = every (shares .posts) (λ p. underCeiling shares l p)
+
+  pub passes : placesOk shares l ≡ true → Passes shares l
+  unfolding placesOk aloneAt underCeiling
+  passes e =
+      let a = both-right ok-calls _ e in
+      let b = both-right ok-alone _ a in
+      record {
+        calls = λ i h. call-fact (shares .posts) (placeIn l i) (every-at 32 _ (both-left ok-calls _ e) i h);
+        alone = λ i j h k. apart-fact (placeIn l i) (placeIn l j) (every-at i _ (every-at 32 _ (both-left ok-alone _ a) i h) j k);
+        under = λ p h. leb-true _ _ (every-at (shares .posts) _ (both-left ok-under _ b) p h);
+        load = leb-true _ _ (both-right ok-under _ b);
+      }
+
+  pub passed : Passes shares l → placesOk shares l ≡ true
+  unfolding placesOk aloneAt underCeiling
+  passed w =
+      both-true _ _ (every-all 32 _ (λ i h. call-ok (shares .posts) (placeIn l i) (w .calls i h)))
+      (both-true _ _ (every-all 32 _ (λ i h. every-all i _ (λ j k. apart-ok (placeIn l i) (placeIn l j) (w .alone i j h k))))
+      (both-true _ _ (every-all (shares .posts) _ (λ p h. le-leb _ _ (w .under p h))) (le-leb _ _ (w .load))))
+
+  -- the places rule, as orders
+  pub admits-rule : (p : ℕ) → admitsOf shares l p ≡ true
+      → (heldOf l p < shareIn (shares .share) p .ceiling) × ((heldOf l p < shareIn (shares .share) p .reserved) ⊎ (owedOthers shares l p < freeOf l))
+  unfolding admitsOf
+  admits-rule p e =
+      let c = both-left (ltb (heldOf l p) (shareIn (shares .share) p .ceiling)) _ e in
+      let r = both-right (ltb (heldOf l p) (shareIn (shares .share) p .ceiling)) _ e in
+      (ltb-true _ _ c, either (ltb (heldOf l p) (shareIn (shares .share) p .reserved)) refl r)
+    where
+      either : (b : Bool) → ltb (heldOf l p) (shareIn (shares .share) p .reserved) ≡ b → (b || ltb (owedOthers shares l p) (freeOf l)) ≡ true
+          → (heldOf l p < shareIn (shares .share) p .reserved) ⊎ (owedOthers shares l p < freeOf l)
+      either true k f = inl (ltb-true _ _ k)
+      either false k f = inr (ltb-true _ _ f)
+
+  pub rule-admits : (p : ℕ) → heldOf l p < shareIn (shares .share) p .ceiling
+      → (heldOf l p < shareIn (shares .share) p .reserved) ⊎ (owedOthers shares l p < freeOf l) → admitsOf shares l p ≡ true
+  unfolding admitsOf
+  rule-admits p c r =
+      both-true _ _ (lt-ltb _ _ c)
+      (⊎-elim
+      (λ k. rw (lt-ltb (heldOf l p) (shareIn (shares .share) p .reserved) k))
+      (λ k. rw (lt-ltb (owedOthers shares l p) (freeOf l) k) (or-true (ltb (heldOf l p) (shareIn (shares .share) p .reserved))))
+      r)
+    where
+      or-true : (b : Bool) → (b || true) ≡ true
+      or-true true = refl
+      or-true false = refl
+
+  -- what all are owed is what the others are owed, and the post's own part
+  owed-parts : (p : ℕ) → p < shares .posts → owedOthers shares l p + owedOf shares l p ≡ owedAll shares l
+  unfolding owedOthers owedAll
+  owed-parts p h = sum-without (shares .posts) p (λ q. owedOf shares l q) h
+
+  -- an admitted call leaves no more than 31 waiting
+  admitted-room : (p : ℕ) → p < shares .posts → Passes shares l → admitsOf shares l p ≡ true → usedOf l < 32
+  unfolding loadOf owedOf freeOf
+  admitted-room p h w a =
+      ⊎-elim
+      (λ k. omega (arith, w .load, owed-parts p h))
+      (λ k. omega (arith, k))
+      (admits-rule p a .1)
+
+  pub admitted-has-place : (p : ℕ) → p < shares .posts → placesOk shares l ≡ true → admitsOf shares l p ≡ true → lowestFree l .found ≡ true
+  admitted-has-place p h e a = go (lowestFree l .found) refl
+    where
+      go : (b : Bool) → lowestFree l .found ≡ b → b ≡ true
+      go true f = refl
+      go false f = absurd (let k = admitted-room p h (passes e) a in omega (arith, used-all l (none-free-exactly l f)))
+
+  -- a post below its reserved number is admitted
+  pub reserved-admitted : sharesOk shares ≡ true → (p : ℕ) → p < shares .posts → heldOf l p < shareIn (shares .share) p .reserved → admitsOf shares l p ≡ true
+  unfolding sharesOk shareOk
+  reserved-admitted e p h k =
+      let a = both-right (leb (shares .posts) 8) _ (both-right (leb 1 (shares .posts)) _ e) in
+      let s : shareOk (shareIn (shares .share) p) ≡ true = every-at (shares .posts) _ (both-left _ _ a) p h in
+      let c = both-right (leb (shareIn (shares .share) p .ceiling) 32) _ (both-right (leb 1 (shareIn (shares .share) p .ceiling)) _ s) in
+      let m = leb-true (shareIn (shares .share) p .reserved) (shareIn (shares .share) p .ceiling) c in
+      rule-admits p (omega arith) (inl k)
+
+-- ---- a call takes a place
+
+module _ (shares : Shares) (l : List Place) (n : length l ≡ 32) where
+  module _ (i identifier post : ℕ) (h : i < 32) (free : placeIn l i .used ≡ false) (a : admitsOf shares l post ≡ true) (p : post < shares .posts) (w : Passes shares l) where
+    take-under : (q : ℕ) → q < shares .posts → heldOf (takeOf l i identifier post) q ≤ shareIn (shares .share) q .ceiling
+    take-under q k = go (eqb q post) refl
+      where
+        go : (b : Bool) → eqb q post ≡ b → heldOf (takeOf l i identifier post) q ≤ shareIn (shares .share) q .ceiling
+        go true e =
+            let d = eqb-true q post e in
+            let c = admits-rule shares l post a .0 in
+            rw (d, held-take-own l n i h free identifier post) (omega arith)
+        go false e = rw (held-take-other l n i h free identifier post q (λ d. not-both (sym e ∙ eq-eqb q post d))) (w .under q k)
+
+    take-owed : owedAll shares (takeOf l i identifier post) + owedOf shares l post ≡ owedAll shares l + owedOf shares (takeOf l i identifier post) post
+    unfolding owedAll owedOf
+    take-owed =
+        sum-bump (shares .posts) post (λ q. owedOf shares l q) (λ q. owedOf shares (takeOf l i identifier post) q) p
+        (λ q d. rw (held-take-other l n i h free identifier post q d))
+
+    take-load : loadOf shares (takeOf l i identifier post) ≤ 32
+    unfolding loadOf owedOf freeOf
+    take-load =
+        let o = held-take-own l n i h free identifier post in
+        let u = all-take l n i h free identifier post in
+        ⊎-elim
+        (λ k. omega (arith, k, o, u, take-owed, w .load))
+        (λ k. omega (arith, k, o, u, take-owed, w .load, owed-parts shares l post p))
+        (admits-rule shares l post a .1)
+
+    take-calls : identifier < 2 ^ 14 → (j : ℕ) → j < 32 → placeIn (takeOf l i identifier post) j .used ≡ true
+        → (placeIn (takeOf l i identifier post) j .identifier < 2 ^ 14) × (placeIn (takeOf l i identifier post) j .post < shares .posts)
+    unfolding takeOf
+    take-calls small j k =
+        set-by l i (call identifier post) (omega arith)
+        (λ (q : Place). q .used ≡ true → (q .identifier < 2 ^ 14) × (q .post < shares .posts)) j
+        (λ d u. (small, p))
+        (λ d. w .calls j k)
+
+    take-alone : ((j : ℕ) → j < 32 → placeIn l j .used ≡ true → placeIn l j .identifier ≡ identifier → ⊥)
+        → (j k : ℕ) → j < 32 → k < j → Differ (placeIn (takeOf l i identifier post) j) (placeIn (takeOf l i identifier post) k)
+    unfolding takeOf
+    take-alone none j k s t =
+        set-by l i (call identifier post) (omega arith) (λ (q : Place). Differ q (placeIn (set l i (call identifier post)) k)) j
+        (λ d. set-by l i (call identifier post) (omega arith) (λ (q : Place). Differ (call identifier post) q) k
+        (λ f. absurd (omega arith))
+        (λ f u v z. none k (omega arith) v (sym z)))
+        (λ d. set-by l i (call identifier post) (omega arith) (λ (q : Place). Differ (placeIn l j) q) k
+        (λ f u v z. none j s u z)
+        (λ f. w .alone j k s t))
+
+  -- an admitted call at any free place, and at the lowest
+  pub take-keeps-at : (i identifier post : ℕ) → placesOk shares l ≡ true → identifier < 2 ^ 14 → placeOf l identifier .found ≡ false
+      → post < shares .posts → admitsOf shares l post ≡ true → i < 32 → placeIn l i .used ≡ false
+      → placesOk shares (takeOf l i identifier post) ≡ true
+  take-keeps-at i identifier post e small none p a h free =
+      let w = passes shares l e in
+      passed shares (takeOf l i identifier post)
+      (record {
+        calls = take-calls i identifier post h free a p w small;
+        alone = take-alone i identifier post h free a p w (no-place-exactly l identifier none);
+        under = take-under i identifier post h free a p w;
+        load = take-load i identifier post h free a p w;
+      })
+
+  pub take-keeps : (i identifier post : ℕ) → placesOk shares l ≡ true → identifier < 2 ^ 14 → placeOf l identifier .found ≡ false
+      → post < shares .posts → admitsOf shares l post ≡ true → lowestFree l ≡ spotAt i
+      → placesOk shares (takeOf l i identifier post) ≡ true
+  take-keeps i identifier post e small none p a at =
+      let f = lowest-free-exactly l i at in
+      take-keeps-at i identifier post e small none p a (f .inside) (f .free)
+
+  -- ---- a place is freed
+
+  -- a fact of the place at j afterwards
+  clear-by : (i : ℕ) (P : Place → Type 0) (j : ℕ) → P noPlace → P (placeIn l j) → P (placeIn (clearOf l i) j)
+  clear-by i P j f g = rw (used-clear l i j) (go (eqb j i))
+    where
+      go : (b : Bool) → P (cond b noPlace (placeIn l j))
+      go true = f
+      go false = g
+
+  module _ (i : ℕ) (w : Passes shares l) where
+    clear-calls : (j : ℕ) → j < 32 → placeIn (clearOf l i) j .used ≡ true
+        → (placeIn (clearOf l i) j .identifier < 2 ^ 14) × (placeIn (clearOf l i) j .post < shares .posts)
+    clear-calls j k =
+        clear-by i (λ (q : Place). q .used ≡ true → (q .identifier < 2 ^ 14) × (q .post < shares .posts)) j (λ u. not-both u) (w .calls j k)
+
+    clear-alone : (j k : ℕ) → j < 32 → k < j → Differ (placeIn (clearOf l i) j) (placeIn (clearOf l i) k)
+    clear-alone j k s t =
+        clear-by i (λ (q : Place). Differ q (placeIn (clearOf l i) k)) j (λ u v z. not-both u)
+        (clear-by i (λ (q : Place). Differ (placeIn l j) q) k (λ u v z. not-both v) (w .alone j k s t))
+
+    clear-under : (q : ℕ) → q < shares .posts → heldOf (clearOf l i) q ≤ shareIn (shares .share) q .ceiling
+    clear-under q k = omega (arith, held-clear l n i q, w .under q k)
+
+    clear-other : (q : ℕ) → (q ≡ placeIn l i .post → ⊥) → heldOf (clearOf l i) q ≡ heldOf l q
+    clear-other q d =
+        let z : one (waitsAt (placeIn l i) q) ≡ 0 = rw (waits-other (placeIn l i) q d) in
+        omega (arith, held-clear l n i q, z)
+
+    clear-nothing : placeIn l i .used ≡ false → (q : ℕ) → heldOf (clearOf l i) q ≡ heldOf l q
+    clear-nothing u q =
+        let z : one (waitsAt (placeIn l i) q) ≡ 0 = rw (waits-not (placeIn l i) q u) in
+        omega (arith, held-clear l n i q, z)
+
+    -- a waiting call ends: its post is owed at most one more, the others as much as before
+    clear-load-used : placeIn l i .used ≡ true → i < 32 → loadOf shares (clearOf l i) ≤ 32
+    unfolding loadOf owedAll owedOf
+    clear-load-used u h =
+        let c = w .calls i h u .1 in
+        let o = sum-bump (shares .posts) (placeIn l i .post) (λ q. owedOf shares l q) (λ q. owedOf shares (clearOf l i) q) c (λ q d. rw (clear-other q d)) in
+        let z : one (placeIn l i .used) ≡ 1 = rw u in
+        let m = one-few (waitsAt (placeIn l i) (placeIn l i .post)) in
+        omega (arith, w .load, all-clear l n i, held-clear l n i (placeIn l i .post), o, z, m)
+
+    clear-load-free : placeIn l i .used ≡ false → loadOf shares (clearOf l i) ≤ 32
+    unfolding loadOf owedAll owedOf
+    clear-load-free u =
+        let o = sum-same (shares .posts) (λ q. owedOf shares l q) (λ q. owedOf shares (clearOf l i) q) (λ q d. rw (clear-nothing u q)) in
+        omega (arith, w .load, all-clear l n i, o)
+
+    clear-load : loadOf shares (clearOf l i) ≤ 32
+    clear-load = go (placeIn l i .used) refl
+      where
+        go : (b : Bool) → placeIn l i .used ≡ b → loadOf shares (clearOf l i) ≤ 32
+        go true u = clear-load-used u (waiting-inside l n i u)
+        go false u = clear-load-free u
+
+  -- any place cleared, also a free one and one that is not there
+  pub clear-keeps : (i : ℕ) → placesOk shares l ≡ true → placesOk shares (clearOf l i) ≡ true
+  clear-keeps i e =
+      let w = passes shares l e in
+      passed shares (clearOf l i)
+      (record { calls = clear-calls i w; alone = clear-alone i w; under = clear-under i w; load = clear-load i w })
+
+-- ---- an opened desk
+
+module _ (shares : Shares) (e : sharesOk shares ≡ true) where
+  shares-fit : sum (shares .posts) (λ p. shareIn (shares .share) p .reserved) ≤ 32
+  unfolding sharesOk
+  shares-fit =
+      let a = both-right (leb (shares .posts) 8) _ (both-right (leb 1 (shares .posts)) _ e) in
+      leb-true _ _ (both-right (every (shares .posts) (λ p. shareOk (shareIn (shares .share) p))) _ a)
+
+  none-owed : owedAll shares noPlaces ≡ sum (shares .posts) (λ p. shareIn (shares .share) p .reserved)
+  unfolding owedAll owedOf
+  none-owed =
+      sum-same (shares .posts) (λ p. shareIn (shares .share) p .reserved) (λ p. owedOf shares noPlaces p) (λ p h. omega (arith, none-held p))
+
+  none-load : loadOf shares noPlaces ≤ 32
+  unfolding loadOf
+  none-load = omega (arith, shares-fit, none-used, none-owed)
+
+  pub none-waiting-ok : placesOk shares noPlaces ≡ true
+  none-waiting-ok =
+      passed shares noPlaces
+      (record {
+        calls = λ i h u. not-both (rw (none-at i) at u);
+        alone = λ i j h k u. not-both (rw (none-at i) at u);
+        under = λ p h. rw (none-held p) (omega arith);
+        load = none-load;
+      })
+
+-- ---- on a desk that passes, all held is the sum of what its posts hold
+
+pub used-is-held : (shares : Shares) (l : List Place) → placesOk shares l ≡ true → usedOf l ≡ sum (shares .posts) (λ q. heldOf l q)
+used-is-held shares l e = let w = passes shares l e in all-held l (shares .posts) (λ i h u. w .calls i h u .1)

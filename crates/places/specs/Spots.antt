@@ -1,0 +1,50 @@
+-- Where a call waits, which place is taken next, and what taking and clearing a place do: document 01, "User records and waiting calls".
+use Prim.Native.Nat.{ℕ, zero, suc}
+use mathlib.Core.Bool.{Bool, true, false, not, cond}
+use mathlib.Core.List.{List}
+use lib.Dec.{eqb, ltb}
+use lib.ListN.{set}
+use Rattle.codec.specs.Codec.{both}
+use Rattle.places.specs.Held.{noPlace, placeIn}
+use Rattle.places.specs.declared.Place.{Place}
+use Rattle.places.specs.declared.Spot.{Spot}
+
+abbrev pub noSpot : Spot
+noSpot = record { found = false; place = 0 }
+
+abbrev pub spotAt : ℕ → Spot
+spotAt i = record { found = true; place = i }
+
+-- the lowest of the n numbers from i on that passes a test, and the lowest of the first n
+unfoldable pub lowestFrom : ℕ → ℕ → (ℕ → Bool) → Spot
+lowestFrom zero i test = noSpot
+lowestFrom (suc n) i test = cond (test i) (spotAt i) (lowestFrom n (suc i) test)
+
+abbrev pub lowest : ℕ → (ℕ → Bool) → Spot
+lowest n test = lowestFrom n 0 test
+
+-- a call with this identifier waits here
+unfoldable pub hasCall : Place → ℕ → Bool
+hasCall p identifier = both (p .used) (eqb (p .identifier) identifier)
+
+-- the place where the call with this identifier waits
+unfoldable pub placeOf : List Place → ℕ → Spot
+placeOf places identifier = lowest 32 (λ i. hasCall (placeIn places i) identifier)
+
+-- the lowest free place
+unfoldable pub lowestFree : List Place → Spot
+lowestFree places = lowest 32 (λ i. not (placeIn places i .used))
+
+-- the number of the place, or 32, and back
+abbrev pub numberIn : Spot → ℕ
+numberIn s = cond (s .found) (s .place) 32
+
+unfoldable pub spotOf : ℕ → Spot
+spotOf n = cond (ltb n 32) (spotAt n) noSpot
+
+-- a place taken is overwritten whole, one that is freed becomes all zero; there is no place from number 32 on
+unfoldable pub takeOf : List Place → ℕ → ℕ → ℕ → List Place
+takeOf places at identifier post = set places at (record { used = true; identifier = identifier; post = post })
+
+unfoldable pub clearOf : List Place → ℕ → List Place
+clearOf places at = set places at noPlace

@@ -1,0 +1,104 @@
+// The grounds of refusal 1 that lie in the places, one function each.
+ghost use mathlib.Core.Path.{_≡_};
+ghost use Prim.Native.Nat.{_<_};
+ghost use Rattle.profile.specs.Counting.{every};
+ghost use Rattle.places.specs.Held.{placeIn};
+ghost use Rattle.places.specs.Grounds.{callOk, apart, aloneAt, underCeiling};
+use crate::Place;
+use crate::count;
+use profile::Shares;
+
+// Every waiting call has an identifier of 14 bits and a post below the number of posts.
+pub(crate) fn calls_ok(posts: u8, list: [Place; 32]) -> bool
+    ensures { λ r. ⌜ r ≡ every 32 (λ i. callOk posts (placeIn list i)) ⌝ }
+{
+    let mut i: usize = 0;
+    while i < Shares::PLACES {
+        let p = list[i];
+        i += 1;
+        if call_ok(posts, p) {} else {
+            return false;
+        }
+    }
+    true
+}
+
+fn call_ok(posts: u8, p: Place) -> bool
+    ensures { λ r. ⌜ r ≡ callOk posts p ⌝ }
+{
+    if p.used {} else {
+        return true;
+    }
+    if p.identifier < 0x4000 {
+        return p.post < posts;
+    }
+    false
+}
+
+// No two waiting calls have one identifier.
+pub(crate) fn all_alone(list: [Place; 32]) -> bool
+    ensures { λ r. ⌜ r ≡ every 32 (λ i. aloneAt list i) ⌝ }
+{
+    let mut i: usize = 0;
+    while i < Shares::PLACES {
+        let alone = alone_at(list, i);
+        i += 1;
+        if alone {} else {
+            return false;
+        }
+    }
+    true
+}
+
+// No lower place has the identifier of place i.
+fn alone_at(list: [Place; 32], i: usize) -> bool
+    requires { ⌜ i < 32 ⌝ }
+    ensures { λ r. ⌜ r ≡ aloneAt list i ⌝ }
+{
+    let p = list[i];
+    let mut j: usize = 0;
+    while j < i {
+        let q = list[j];
+        j += 1;
+        if apart(p, q) {} else {
+            return false;
+        }
+    }
+    true
+}
+
+fn apart(p: Place, q: Place) -> bool
+    ensures { λ r. ⌜ r ≡ apart p q ⌝ }
+{
+    if p.used {} else {
+        return true;
+    }
+    if q.used {} else {
+        return true;
+    }
+    p.identifier != q.identifier
+}
+
+// No post is over its ceiling.
+pub(crate) fn under_ceilings(shares: Shares, list: [Place; 32]) -> bool
+    ensures { λ r. ⌜ r ≡ every (shares .posts) (λ p. underCeiling shares list p) ⌝ }
+{
+    let posts = shares.posts;
+    let mut p: u8 = 0;
+    while p < posts {
+        let under = under_ceiling(shares, list, p);
+        p += 1;
+        if under {} else {
+            return false;
+        }
+    }
+    true
+}
+
+fn under_ceiling(shares: Shares, list: [Place; 32], post: u8) -> bool
+    ensures { λ r. ⌜ r ≡ underCeiling shares list post ⌝ }
+{
+    let rows = shares.share;
+    let share = count::share_of(rows, post);
+    count::held(list, post) <= share.ceiling
+}
