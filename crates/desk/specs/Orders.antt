@@ -5,7 +5,7 @@ use mathlib.Core.Bool.{Bool, true, false, not, cond}
 use mathlib.Core.List.{List, [], _∷_}
 use lib.Dec.{eqb, ltb}
 use lib.ListN.{take}
-use Rattle.codec.specs.Stops.{refusal}
+use Rattle.codec.specs.Stops.{refusal, noStop}
 use Rattle.codec.specs.Codec.{Read, got, no, both}
 use Rattle.codec.specs.declared.Stop.{Stop}
 use Rattle.profile.specs.Rules.{meaningIn}
@@ -28,6 +28,7 @@ use Rattle.desk.specs.Desks.{deskOk}
 use Rattle.desk.specs.declared.Answer.{Answer}
 use Rattle.desk.specs.declared.Answer.the-variants as answer
 use Rattle.desk.specs.declared.Desk.{Desk}
+use Rattle.desk.specs.declared.ending.Ending.{Ending}
 use Rattle.desk.specs.declared.Event.{Event}
 use Rattle.desk.specs.declared.Event.the-variants as event
 
@@ -82,16 +83,16 @@ endAnswer d post identifier ended =
     (unless (not (eqb (placeIn (placesOf d) (placeOf (placesOf d) identifier .place) .post) post)) 20 ended)
 
 -- ACCEPT, DIVERT: 14, 19, 20
-unfoldable pub decideAnswer : Desk → ℕ → ℕ → Value → Answer → Answer
-decideAnswer d room post v ended = unless (ltb room 300) 14 (endAnswer d post (v .identifier) ended)
+unfoldable pub decideAnswer : Desk → ℕ → ℕ → ℕ → Answer → Answer
+decideAnswer d room post identifier ended = unless (ltb room 300) 14 (endAnswer d post identifier ended)
 
 -- by the type; 8 for those that posts don't send
 unfoldable pub sentAnswer : Desk → List Record → ℕ → ℕ → ℕ → Value → Answer
 sentAnswer d rows n room post v =
     cond (eqb (v .pdu) 2) (activateAnswer d rows n room v)
     (cond (eqb (v .pdu) 8) (interrogateAnswer d rows n post v)
-    (cond (eqb (v .pdu) 12) (decideAnswer d room post v answer.Proceed)
-    (cond (eqb (v .pdu) 15) (decideAnswer d room post v answer.Diverted) (answer.Refused (refusal 8)))))
+    (cond (eqb (v .pdu) 12) (decideAnswer d room post (v .identifier) answer.Proceed)
+    (cond (eqb (v .pdu) 15) (decideAnswer d room post (v .identifier) answer.Diverted) (answer.Refused (refusal 8)))))
 
 abbrev pub readAnswer : Read Value → (Value → Answer) → Answer
 readAnswer (got v n) after = after v
@@ -115,19 +116,21 @@ partyOk x = both (ltb (x .ssi) (2 ^ 24)) (ltb (x .extension) (2 ^ 24))
 unfoldable pub setUpOk : Identity → Identity → ℕ → Bool
 setUpOk caller called identifier = both (identifierOk identifier) (both (partyOk caller) (partyOk called))
 
--- neither party is restricted: free; else the places rule for the post
-unfoldable pub placeAnswer : Desk → Party → Answer
-placeAnswer d party =
-    cond (party .found)
-    (unless (not (admitsOf (d .profile .shares) (placesOf d) (party .post))) 18 (answer.Admitted (party .post) (lowestFree (placesOf d) .place)))
-    answer.Free
+-- the places rule for the post: 18, or the lowest free place
+unfoldable pub admitAnswer : Desk → ℕ → Answer
+admitAnswer d post =
+    unless (not (admitsOf (d .profile .shares) (placesOf d) post)) 18 (answer.Admitted post (lowestFree (placesOf d) .place))
+
+-- neither party is restricted: free
+abbrev pub partyAnswer : Desk → Party → Answer
+partyAnswer d party = cond (party .found) (admitAnswer d (party .post)) answer.Free
 
 unfoldable pub setUpAnswer : Desk → List Record → ℕ → ℕ → Identity → Identity → ℕ → Answer
 setUpAnswer d rows n room caller called identifier =
     unless (not (setUpOk caller called identifier)) 16
     (unless (ltb room 300) 14
     (unless (not (recordsOk rows n (postsOf d))) 15
-    (unless (placeOf (placesOf d) identifier .found) 17 (placeAnswer d (restrictedOf (take n rows) (caller ∷ called ∷ []))))))
+    (unless (placeOf (placesOf d) identifier .found) 17 (partyAnswer d (restrictedOf (take n rows) (caller ∷ called ∷ []))))))
 
 -- ---- reject: 2, 16, 19, 20; cancel: 16, 19
 
@@ -149,3 +152,14 @@ eventAnswer d rows n l room (event.Cancel identifier) = cancelAnswer d identifie
 
 unfoldable pub answerOf : Desk → List Record → ℕ → List ℕ → ℕ → Event → Answer
 answerOf d rows n l room e = unless (not (deskOk d)) 1 (eventAnswer d rows n l room e)
+
+-- ---- the same, as the code has it
+
+-- the place of a call that waits at the post, or 19 or 20
+unfoldable pub endingOf : Desk → ℕ → ℕ → Ending
+endingOf d post identifier =
+    cond (placeOf (placesOf d) identifier .found)
+    (cond (eqb (placeIn (placesOf d) (placeOf (placesOf d) identifier .place) .post) post)
+    (record { found = true; stop = noStop; place = placeOf (placesOf d) identifier .place })
+    (record { found = false; stop = refusal 20; place = 0 }))
+    (record { found = false; stop = refusal 19; place = 0 })

@@ -1,11 +1,12 @@
 -- What each call does, once it is answered: the answer decides it. A refusal does nothing.
 use Prim.Native.Nat.{ℕ}
-use mathlib.Core.Bool.{Bool, false}
+use mathlib.Core.Bool.{Bool, true, false, cond}
 use mathlib.Core.List.{List, [], _∷_}
 use lib.ListN.{take, length}
 use Rattle.codec.specs.Codec.{Read, got, no}
 use Rattle.profile.specs.declared.Profile.{Profile}
 use Rattle.message.specs.Addresses.{nobody}
+use Rattle.message.specs.Groups.{noGroup}
 use Rattle.message.specs.Values.{plainV, noValue}
 use Rattle.message.specs.Reading.{readOf}
 use Rattle.message.specs.declared.Group.{Group}
@@ -14,10 +15,10 @@ use Rattle.places.specs.Spots.{placeOf, lowestFree, takeOf, clearOf}
 use Rattle.places.specs.declared.Place.{Place}
 use Rattle.records.specs.Identities.{identitiesOf}
 use Rattle.records.specs.Outcomes.{outcomesOf, sortedOf}
-use Rattle.records.specs.Marks.{marksOf, noMarks}
-use Rattle.records.specs.declared.Marks.{Marks}
+use Rattle.records.specs.Marking.{marksOf, noMarks}
 use Rattle.records.specs.declared.Record.{Record}
-use Rattle.sending.specs.Sending.{layAll, laidOf}
+use Rattle.sending.specs.Sending.{layAll, noLaid, laidOf}
+use Rattle.sending.specs.declared.Laid.{Laid}
 use Rattle.sending.specs.Acks.{acksOf}
 use Rattle.desk.specs.Orders.{placesOf, answerOf}
 use Rattle.desk.specs.declared.Answer.{Answer}
@@ -35,19 +36,20 @@ pub data Effect : Type 0 where
   begins : ℕ → ℕ → Effect  -- a call with this identifier waits at this post from now on
   ends : ℕ → Effect  -- the call with this identifier waits no more
 
--- the message that an event brings; noValue where it brings none
+-- the message that was read
 abbrev pub valueBy : Read Value → Value
 valueBy (got v n) = v
 valueBy (no s) = noValue
 
-unfoldable pub valueOf : Profile → List ℕ → Event → Value
-valueOf p l (event.Message post bits) = valueBy (readOf p l bits)
-valueOf p l (event.SetUp caller called identifier) = noValue
-valueOf p l (event.Reject post identifier) = noValue
-valueOf p l (event.Cancel identifier) = noValue
+-- the users that it names
+abbrev pub usersOf : Profile → List ℕ → Event → Group
+usersOf p l (event.Message post bits) = valueBy (readOf p l bits) .users
+usersOf p l (event.SetUp caller called identifier) = noGroup
+usersOf p l (event.Reject post identifier) = noGroup
+usersOf p l (event.Cancel identifier) = noGroup
 
 -- the call that an event speaks of
-unfoldable pub identifierOf : Profile → List ℕ → Event → ℕ
+abbrev pub identifierOf : Profile → List ℕ → Event → ℕ
 identifierOf p l (event.Message post bits) = valueBy (readOf p l bits) .identifier
 identifierOf p l (event.SetUp caller called identifier) = identifier
 identifierOf p l (event.Reject post identifier) = identifier
@@ -77,17 +79,65 @@ placesAfter places (ends identifier) = clearOf places (placeOf places identifier
 unfoldable pub deskAfter : Desk → Effect → Desk
 deskAfter d x = record { profile = d .profile; places = record { place = placesAfter (placesOf d) x } }
 
--- ---- the messages
+-- ---- every answer but that of an ACTIVATE
 
--- cause 0, no option; nothing at all
-abbrev pub interceptedMessage : Value
-interceptedMessage = plainV 10 nobody 0 0 false nobody
+-- the message that goes with it: INTERCEPTED with cause 0, ACCEPTED, DIVERTED with cause 0, none with an option
+abbrev pub messagesBy : Answer → List Value
+messagesBy (answer.Refused s) = []
+messagesBy answer.Acks = []
+messagesBy (answer.State k) = []
+messagesBy answer.Free = []
+messagesBy (answer.Admitted post place) = plainV 10 nobody 0 0 false nobody ∷ []
+messagesBy answer.Proceed = plainV 13 nobody 0 0 false nobody ∷ []
+messagesBy answer.Diverted = plainV 16 nobody 0 0 false nobody ∷ []
+messagesBy answer.Rejected = []
+messagesBy answer.Cancelled = []
 
-abbrev pub acceptedMessage : Value
-acceptedMessage = plainV 13 nobody 0 0 false nobody
+unfoldable pub plainStep : Desk → ℕ → Answer → Step
+plainStep d identifier a =
+    record { answer = a; laid = laidOf (d .profile .air) (messagesBy a); desk = deskAfter d (effectBy identifier a); marks = noMarks }
 
-abbrev pub divertedMessage : Value
-divertedMessage = plainV 16 nobody 0 0 false nobody
+unfoldable pub plainArea : Desk → List ℕ → Answer → List ℕ
+plainArea d area a = layAll (d .profile .air) area (messagesBy a)
+
+-- ---- an ACTIVATE that is carried out: its ACKs, and the marks of the accepted ones
+
+unfoldable pub acksFor : Desk → List Record → ℕ → Group → List Value
+acksFor d rows post users = acksOf (d .profile .air) users (sortedOf (outcomesOf (d .profile .air) users rows post))
+
+unfoldable pub acksStep : Desk → List Record → ℕ → Group → Step
+acksStep d rows post users =
+    record {
+      answer = answer.Acks;
+      laid = laidOf (d .profile .air) (acksFor d rows post users);
+      desk = d;
+      marks = marksOf rows post (identitiesOf (d .profile .air) users);
+    }
+
+unfoldable pub acksArea : Desk → List Record → ℕ → Group → List ℕ → List ℕ
+acksArea d rows post users area = layAll (d .profile .air) area (acksFor d rows post users)
+
+-- ---- what follows from an answer
+
+abbrev pub isAcks : Answer → Bool
+isAcks (answer.Refused s) = false
+isAcks answer.Acks = true
+isAcks (answer.State k) = false
+isAcks answer.Free = false
+isAcks (answer.Admitted post place) = false
+isAcks answer.Proceed = false
+isAcks answer.Diverted = false
+isAcks answer.Rejected = false
+isAcks answer.Cancelled = false
+
+-- to a call from a post, of these users and this identifier
+unfoldable pub stepBy : Desk → List Record → ℕ → Group → ℕ → Answer → Step
+stepBy d rows post users identifier a = cond (isAcks a) (acksStep d rows post users) (plainStep d identifier a)
+
+unfoldable pub areaBy : Desk → List Record → ℕ → Group → List ℕ → Answer → List ℕ
+areaBy d rows post users area a = cond (isAcks a) (acksArea d rows post users area) (plainArea d area a)
+
+-- ---- every call
 
 abbrev pub postOf : Event → ℕ
 postOf (event.Message post bits) = post
@@ -95,48 +145,19 @@ postOf (event.SetUp caller called identifier) = 0
 postOf (event.Reject post identifier) = post
 postOf (event.Cancel identifier) = 0
 
-module _ (d : Desk) (rs : List Record) (post : ℕ) (users : Group) where
-  abbrev pub messagesBy : Answer → List Value
-  messagesBy (answer.Refused s) = []
-  messagesBy answer.Acks = acksOf (d .profile .air) users (sortedOf (outcomesOf (d .profile .air) users rs post))
-  messagesBy (answer.State k) = []
-  messagesBy answer.Free = []
-  messagesBy (answer.Admitted p i) = interceptedMessage ∷ []
-  messagesBy answer.Proceed = acceptedMessage ∷ []
-  messagesBy answer.Diverted = divertedMessage ∷ []
-  messagesBy answer.Rejected = []
-  messagesBy answer.Cancelled = []
-
-  -- ---- the marks that are set
-
-  abbrev pub marksBy : Answer → Marks
-  marksBy (answer.Refused s) = noMarks
-  marksBy answer.Acks = marksOf rs post (identitiesOf (d .profile .air) users)
-  marksBy (answer.State k) = noMarks
-  marksBy answer.Free = noMarks
-  marksBy (answer.Admitted p i) = noMarks
-  marksBy answer.Proceed = noMarks
-  marksBy answer.Diverted = noMarks
-  marksBy answer.Rejected = noMarks
-  marksBy answer.Cancelled = noMarks
-
--- ---- the whole
-
--- what follows from the answer a
-unfoldable pub stepBy : Desk → List Record → ℕ → List ℕ → Event → Answer → Step
-stepBy d rows n l e a =
-    record {
-      answer = a;
-      laid = laidOf (d .profile .air) (messagesBy d (take n rows) (postOf e) (valueOf (d .profile) l e .users) a);
-      desk = deskAfter d (effectOf (d .profile) l e a);
-      marks = marksBy d (take n rows) (postOf e) (valueOf (d .profile) l e .users) a;
-    }
-
 unfoldable pub stepOf : Desk → List Record → ℕ → List ℕ → List ℕ → Event → Step
-stepOf d rows n l area e = stepBy d rows n l e (answerOf d rows n l (length area) e)
-
-unfoldable pub areaBy : Desk → List Record → ℕ → List ℕ → List ℕ → Event → Answer → List ℕ
-areaBy d rows n l area e a = layAll (d .profile .air) area (messagesBy d (take n rows) (postOf e) (valueOf (d .profile) l e .users) a)
+stepOf d rows n l area e =
+    stepBy d (take n rows) (postOf e) (usersOf (d .profile) l e) (identifierOf (d .profile) l e) (answerOf d rows n l (length area) e)
 
 unfoldable pub areaAfter : Desk → List Record → ℕ → List ℕ → List ℕ → Event → List ℕ
-areaAfter d rows n l area e = areaBy d rows n l area e (answerOf d rows n l (length area) e)
+areaAfter d rows n l area e = areaBy d (take n rows) (postOf e) (usersOf (d .profile) l e) area (answerOf d rows n l (length area) e)
+
+-- ---- the same, as the code has it
+
+-- an answer that changes nothing
+unfoldable pub keeps : Desk → Answer → Step
+keeps d a = record { answer = a; laid = noLaid; desk = d; marks = noMarks }
+
+-- an answer that frees a place
+unfoldable pub endedStep : Desk → ℕ → Answer → Laid → Step
+endedStep d place a x = record { answer = a; laid = x; desk = record { profile = d .profile; places = record { place = clearOf (placesOf d) place } }; marks = noMarks }

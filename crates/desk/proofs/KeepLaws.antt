@@ -1,0 +1,32 @@
+-- Answers that change nothing. Assumes nothing.
+use Prim.Native.Nat.{ℕ}
+use mathlib.Core.Path.{_≡_, refl, sym, ap, _∙_}
+use mathlib.Core.List.{List}
+use Rattle.codec.specs.declared.Stop.{Stop}
+use Rattle.sending.specs.Sending.{layFrom, layAll, laidFrom, laidOf}
+use Rattle.desk.specs.Steps.{plainStep, plainArea, deskAfter, keeps}
+use Rattle.desk.specs.declared.Answer.{Answer}
+use Rattle.desk.specs.declared.Answer.the-variants as answer
+use Rattle.desk.specs.declared.Desk.{Desk}
+use Rattle.desk.specs.declared.Step.{Step}
+
+module _ (d : Desk) (identifier : ℕ) where
+  pub refused-step : (s : Stop) → plainStep d identifier (answer.Refused s) ≡ keeps d (answer.Refused s)
+  unfolding plainStep keeps laidOf laidFrom deskAfter
+  refused-step s = refl
+
+  pub state-step : (k : ℕ) → plainStep d identifier (answer.State k) ≡ keeps d (answer.State k)
+  unfolding plainStep keeps laidOf laidFrom deskAfter
+  state-step k = refl
+
+  pub free-step : plainStep d identifier answer.Free ≡ keeps d answer.Free
+  unfolding plainStep keeps laidOf laidFrom deskAfter
+  free-step = refl
+
+  -- a refusal, of whatever call
+  pub refused-plain : (area : List ℕ) (a : Answer) (s t : Stop) (r : Step) → r ≡ keeps d (answer.Refused s) → s ≡ t → a ≡ answer.Refused t
+      → (r ≡ plainStep d identifier a) × (area ≡ plainArea d area a)
+  unfolding plainArea layAll layFrom
+  refused-plain area a s t r e z q =
+      (e ∙ ap (λ (x : Stop). keeps d (answer.Refused x)) z ∙ sym (refused-step t) ∙ ap (λ (x : Answer). plainStep d identifier x) (sym q),
+      ap (λ (x : Answer). plainArea d area x) (sym q))
