@@ -1,5 +1,108 @@
-// stand-in
+// The user records, by value (document 01, "User records and waiting calls"): the record of an identity, and what a call learns from
+// the records. ACTIVATE gets the masks of its outcomes and which records to mark, INTERROGATE a state, set-up the restricted party's post.
+//
+// `rows` has room for 128 records; the first `count` are lent, and the others are never looked at. Every function takes every input,
+// also records that refusal 15 would name. The files go from small to large: identities, search, outcome, mark.
+ghost use mathlib.Core.Path.{_≡_};
+ghost use mathlib.Core.List.{List, [], _∷_};
+ghost use lib.ListN.{take};
+ghost use Rattle.records.specs.Identities.{identityOf, identitiesOf};
+ghost use Rattle.records.specs.Records.{recordsOk, stateOf, restrictedOf};
+ghost use Rattle.records.specs.Outcomes.{outcomesOf, sortedOf};
+ghost use Rattle.records.specs.Marking.{marksOf, noMarks};
+use message::Address;
+use message::Group;
+use profile::Air;
+
+mod identities;
+mod mark;
+mod outcome;
+mod search;
+
+// `active` is the mark. A record that is not in use is never looked at.
+pub struct Record {
+    pub in_use: bool,
+    pub ssi: u32,
+    pub extension: u32,
+    pub post: u8,
+    pub active: bool,
+}
+
+pub struct Identity {
+    pub ssi: u32,
+    pub extension: u32,
+}
+
+// The post of the first restricted party; where none is, `found` is false and the post 0.
+pub struct Party {
+    pub found: bool,
+    pub post: u8,
+}
+
+// Of each outcome, 0 accepted, 1 failure U, 2 failure N: whether an identity has it, and the mask of those that do. Identity i,
+// from 0, is bit 63 − i. Where U = N both failures are 1.
 pub struct Sorted {
     pub some: [bool; 3],
     pub mask: [u64; 3],
+}
+
+// Which records are marked.
+pub struct Marks {
+    pub at: [bool; 128],
+}
+
+// The ground of refusal 15 does not hold: at most 128 are lent, and each in use has a post below `posts` and numbers of 24 bits.
+pub fn records_ok(rows: [Record; 128], count: usize, posts: u8) -> bool
+    ensures { λ r. ⌜ r ≡ recordsOk rows count posts ⌝ }
+{
+    if count > 128 {
+        return false;
+    }
+    search::all_ok(rows, count, posts)
+}
+
+// What INTERROGATE from a post answers: 0 no record, 1 another post's, 2 active, 3 not active.
+pub fn state_of(air: Air, rows: [Record; 128], count: usize, post: u8, address: Address) -> u8
+    ensures { λ r. ⌜ r ≡ stateOf (take count rows) post (identityOf air address) ⌝ }
+{
+    search::state(rows, count, post, identities::identity_of(air, address))
+}
+
+// The post that a call is for: the caller's if the caller's record restricts it, else the called party's, if that does.
+pub fn restricted(rows: [Record; 128], count: usize, caller: Identity, called: Identity) -> Party
+    ensures { λ r. ⌜ r ≡ restrictedOf (take count rows) (caller ∷ called ∷ []) ⌝ }
+{
+    search::first_restricted(rows, count, [caller, called])
+}
+
+// The outcomes of the group's identities for ACTIVATE from a post, sorted.
+pub fn sorted_of(air: Air, group: Group, rows: [Record; 128], count: usize, post: u8) -> Sorted
+    ensures { λ r. ⌜ r ≡ sortedOf (outcomesOf air group (take count rows) post) ⌝ }
+{
+    let outcomes = outcome::outcomes_of(air, group, rows, count, post);
+    let n = outcomes.count;
+    let list = outcomes.list;
+    outcome::sort(list, n)
+}
+
+// The records that ACTIVATE from a post marks: those of the accepted identities.
+pub fn marks_of(air: Air, group: Group, rows: [Record; 128], count: usize, post: u8) -> Marks
+    ensures { λ r. ⌜ r ≡ marksOf (take count rows) post (identitiesOf air group) ⌝ }
+{
+    let n = identities::count_of(air, group);
+    let mut marks = no_marks();
+    let mut i: usize = 0;
+    while i < n {
+        let id = identities::identity_at(air, group, i);
+        marks = mark::with_mark(marks, mark::accepted(rows, count, post, id));
+        i += 1;
+    }
+    marks
+}
+
+// None is marked.
+pub fn no_marks() -> Marks
+    ensures { λ r. ⌜ r ≡ noMarks ⌝ }
+{
+    Marks { at: [false; 128] }
 }

@@ -1,0 +1,4 @@
+pub mod IdentityLaws
+pub mod RecordLaws
+pub mod OutcomeLaws
+pub mod MarkLaws

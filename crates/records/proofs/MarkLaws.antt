@@ -1,0 +1,78 @@
+-- The walk over the identities that marks records, and what it leaves. Assumes nothing.
+use Prim.Native.Nat.{ℕ, zero, suc, _+_, _-_, _<_, _≤_}
+use mathlib.Core.Path.{_≡_, refl, sym, ap, _∙_}
+use mathlib.Core.Bool.{Bool, true, false, cond, _||_}
+use mathlib.Core.List.{List, [], _∷_}
+use mathlib.Core.Logic.{⊎-elim}
+use native.Mathlib.Numerals.{add-one}
+use native.Mathlib.Omega.{arith}
+use lib.Dec.{eqb}
+use lib.ListN.{length, getD, set, drop, length-set, length-replicate, getD-replicate, drop-of-length-le}
+use lib.Seq.{drop-cons, set-out, getD-set-same, getD-set-other}
+use borrow.Author.Tests.{eq-eqb, ne-eqb}
+use Rattle.bits.proofs.SetLaws.{eq-or}
+use Rattle.profile.specs.declared.Air.{Air}
+use Rattle.message.specs.declared.Group.{Group}
+use Rattle.records.specs.declared.Record.{Record}
+use Rattle.records.specs.declared.Identity.{Identity}
+use Rattle.records.specs.declared.Marks.{Marks}
+use Rattle.records.specs.declared.search.Found.{Found}
+use Rattle.records.specs.declared.search.Found.the-variants as found
+use Rattle.records.specs.Identities.{noIdentity, identityAt, countOf, identitiesOf}
+use Rattle.records.specs.Records.{rowOf, recordOf}
+use Rattle.records.specs.Marking.{acceptedOf, unmarked, noMarks, withBy, withMark, markAll, marksOf}
+use Rattle.records.proofs.IdentityLaws.{length-identities, identities-at}
+
+-- ---- the accepted record of an identity
+
+module _ (f : Found) (rows : List Record) (id : Identity) (v : f ≡ recordOf rows id) where
+  pub acc-none : (post : ℕ) → f ≡ found.Nobody → found.Nobody ≡ acceptedOf rows post id
+  unfolding acceptedOf
+  acc-none post e = rw (← v, e)
+
+  module _ (i : ℕ) (r : Record) (w : r ≡ rowOf rows i) (post : ℕ) (e : f ≡ found.At i) where
+    pub acc-yes : r .post ≡ post → found.At i ≡ acceptedOf rows post id
+    unfolding acceptedOf
+    acc-yes h = rw (← v, e, ← w, eq-eqb (r .post) post h)
+
+    pub acc-no : (r .post ≡ post → ⊥) → found.Nobody ≡ acceptedOf rows post id
+    unfolding acceptedOf
+    acc-no h = rw (← v, e, ← w, ne-eqb (r .post) post h)
+
+-- ---- one more mark
+
+pub no-place : (at : List Bool) (i : ℕ) → length at ≤ i → at ≡ set at i true
+no-place at i h = sym (set-out at i true h)
+
+pub with-none : (ms : Marks) (f : Found) → f ≡ found.Nobody → ms ≡ withMark ms f
+unfolding withMark
+with-none ms f e = rw e
+
+pub with-at : (ms r : Marks) (f : Found) (i : ℕ) → f ≡ found.At i → r .at ≡ set (ms .at) i true → r ≡ withMark ms f
+unfolding withMark
+with-at ms r f i e h = rw (e, ← h)
+
+-- ---- the walk: what is left at identity i
+
+unfoldable pub marksLeft : Air → Group → List Record → ℕ → Marks → ℕ → Marks
+marksLeft air g rows post ms i = markAll rows post ms (drop i (identitiesOf air g))
+
+pub marks-start : (air : Air) (g : Group) (rows : List Record) (post : ℕ) (ms : Marks) → ms ≡ noMarks → marksOf rows post (identitiesOf air g) ≡ marksLeft air g rows post ms 0
+unfolding marksOf marksLeft
+marks-start air g rows post ms e = rw e
+
+module _ (x : Marks) (air : Air) (g : Group) (rows : List Record) (post : ℕ) (ms : Marks) (i : ℕ) (v : x ≡ marksLeft air g rows post ms i) (n : ℕ) (m : n ≡ countOf air g) where
+  pub marks-more : (id : Identity) (f : Found) (next : Marks) → i < n → id ≡ identityAt air g i → f ≡ acceptedOf rows post id → next ≡ withMark ms f
+      → x ≡ marksLeft air g rows post next (i + 1)
+  unfolding markAll marksLeft
+  marks-more id f next h d e w =
+      let k : i < countOf air g = omega arith in
+      let l : i < length (identitiesOf air g) = rw (length-identities air g) k in
+      let z : f ≡ acceptedOf rows post (getD (identitiesOf air g) i noIdentity) = e ∙ rw d (rw (identities-at air g i k) refl) in
+      v ∙ rw (add-one, w, z, drop-cons (identitiesOf air g) i noIdentity l)
+
+  pub marks-end : n ≤ i → ms ≡ x
+  unfolding markAll marksLeft
+  marks-end h =
+      let l : length (identitiesOf air g) ≤ i = rw (length-identities air g) (omega arith) in
+      sym (v ∙ rw (drop-of-length-le (identitiesOf air g) l))

@@ -1,0 +1,4 @@
+pub mod Identities
+pub mod Records
+pub mod Outcomes
+pub mod Marking
