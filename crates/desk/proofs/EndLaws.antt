@@ -16,7 +16,7 @@ use Rattle.desk.specs.Steps.{Effect, ends, effectBy, messagesBy, deskAft
 use Rattle.desk.specs.declared.Answer.{Answer}
 use Rattle.desk.specs.declared.Answer.the-variants as answer
 use Rattle.desk.specs.declared.Desk.{Desk}
-use Rattle.desk.specs.declared.Step.{Step}
+use Rattle.desk.specs.declared.Stepped.{Stepped}
 use Rattle.desk.specs.declared.ending.Ending.{Ending}
 
 module _ (d : Desk) (post identifier : ℕ) (a : Answer) where

@@ -8,7 +8,7 @@ use Rattle.desk.specs.Steps.{plainStep, plainArea, deskAfter, keeps}
 use Rattle.desk.specs.declared.Answer.{Answer}
 use Rattle.desk.specs.declared.Answer.the-variants as answer
 use Rattle.desk.specs.declared.Desk.{Desk}
-use Rattle.desk.specs.declared.Step.{Step}
+use Rattle.desk.specs.declared.Stepped.{Stepped}
 
 module _ (d : Desk) (identifier : ℕ) where
   pub refused-step : (s : Stop) → plainStep d identifier (answer.Refused s) ≡ keeps d (answer.Refused s)
@@ -24,9 +24,10 @@ module _ (d : Desk) (identifier : ℕ) where
   free-step = refl
 
   -- a refusal, of whatever call
-  pub refused-plain : (area : List ℕ) (a : Answer) (s t : Stop) (r : Step) → r ≡ keeps d (answer.Refused s) → s ≡ t → a ≡ answer.Refused t
+  pub refused-plain : (area : List ℕ) (a : Answer) (s t : Stop) (r : Stepped) → r ≡ keeps d (answer.Refused s) → s ≡ t → a ≡ answer.Refused t
       → (r ≡ plainStep d identifier a) × (area ≡ plainArea d area a)
   unfolding plainArea layAll layFrom
-  refused-plain area a s t r e z q =
-      (e ∙ ap (λ (x : Stop). keeps d (answer.Refused x)) z ∙ sym (refused-step t) ∙ ap (λ (x : Answer). plainStep d identifier x) (sym q),
-      ap (λ (x : Answer). plainArea d area x) (sym q))
+  refused-plain area a s t r e z q = (
+    e ∙ ap (λ (x : Stop). keeps d (answer.Refused x)) z ∙ sym (refused-step t) ∙ ap (λ (x : Answer). plainStep d identifier x) (sym q),
+    ap (λ (x : Answer). plainArea d area x) (sym q),
+  )

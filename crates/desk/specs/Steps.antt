@@ -26,7 +26,7 @@ use Rattle.desk.specs.declared.Answer.the-variants as answer
 use Rattle.desk.specs.declared.Desk.{Desk}
 use Rattle.desk.specs.declared.Event.{Event}
 use Rattle.desk.specs.declared.Event.the-variants as event
-use Rattle.desk.specs.declared.Step.{Step}
+use Rattle.desk.specs.declared.Stepped.{Stepped}
 
 -- ---- the desk afterwards
 
@@ -93,7 +93,7 @@ messagesBy answer.Diverted = plainV 16 nobody 0 0 false nobody ∷ []
 messagesBy answer.Rejected = []
 messagesBy answer.Cancelled = []
 
-unfoldable pub plainStep : Desk → ℕ → Answer → Step
+unfoldable pub plainStep : Desk → ℕ → Answer → Stepped
 plainStep d identifier a =
     record { answer = a; laid = laidOf (d .profile .air) (messagesBy a); desk = deskAfter d (effectBy identifier a); marks = noMarks }
 
@@ -105,7 +105,7 @@ plainArea d area a = layAll (d .profile .air) area (messagesBy a)
 unfoldable pub acksFor : Desk → List Record → ℕ → Group → List Value
 acksFor d rows post users = acksOf (d .profile .air) users (sortedOf (outcomesOf (d .profile .air) users rows post))
 
-unfoldable pub acksStep : Desk → List Record → ℕ → Group → Step
+unfoldable pub acksStep : Desk → List Record → ℕ → Group → Stepped
 acksStep d rows post users =
     record {
       answer = answer.Acks;
@@ -131,7 +131,7 @@ isAcks answer.Rejected = false
 isAcks answer.Cancelled = false
 
 -- to a call from a post, of these users and this identifier
-unfoldable pub stepBy : Desk → List Record → ℕ → Group → ℕ → Answer → Step
+unfoldable pub stepBy : Desk → List Record → ℕ → Group → ℕ → Answer → Stepped
 stepBy d rows post users identifier a = cond (isAcks a) (acksStep d rows post users) (plainStep d identifier a)
 
 unfoldable pub areaBy : Desk → List Record → ℕ → Group → List ℕ → Answer → List ℕ
@@ -145,7 +145,7 @@ postOf (event.SetUp caller called identifier) = 0
 postOf (event.Reject post identifier) = post
 postOf (event.Cancel identifier) = 0
 
-unfoldable pub stepOf : Desk → List Record → ℕ → List ℕ → List ℕ → Event → Step
+unfoldable pub stepOf : Desk → List Record → ℕ → List ℕ → List ℕ → Event → Stepped
 stepOf d rows n l area e =
     stepBy d (take n rows) (postOf e) (usersOf (d .profile) l e) (identifierOf (d .profile) l e) (answerOf d rows n l (length area) e)
 
@@ -155,9 +155,9 @@ areaAfter d rows n l area e = areaBy d (take n rows) (postOf e) (usersOf (d .pro
 -- ---- the same, as the code has it
 
 -- an answer that changes nothing
-unfoldable pub keeps : Desk → Answer → Step
+unfoldable pub keeps : Desk → Answer → Stepped
 keeps d a = record { answer = a; laid = noLaid; desk = d; marks = noMarks }
 
 -- an answer that frees a place
-unfoldable pub endedStep : Desk → ℕ → Answer → Laid → Step
+unfoldable pub endedStep : Desk → ℕ → Answer → Laid → Stepped
 endedStep d place a x = record { answer = a; laid = x; desk = record { profile = d .profile; places = record { place = clearOf (placesOf d) place } }; marks = noMarks }

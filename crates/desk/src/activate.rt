@@ -10,7 +10,7 @@ ghost use Rattle.desk.specs.Orders.{someoneBy, namesDispatchers, activat
 ghost use Rattle.desk.specs.Steps.{acksStep, acksArea, stepBy, areaBy};
 use crate::Answer;
 use crate::Desk;
-use crate::Step;
+use crate::Stepped;
 use crate::kept;
 use message::Group;
 use message::Value;
@@ -26,7 +26,7 @@ pub(crate) fn activate(
     post: u8,
     value: Value,
     out: &mut [u8],
-) -> Step
+) -> Stepped
     requires { ⌜ (profileOk (desk .profile) ≡ true) × ((validOf (desk .profile .air) value ≡ true) × (value .pdu ≡ 2)) ⌝ }
     ensures { λ r. ⌜ (r ≡ stepBy desk (take count rows) post (value .users) (value .identifier) (activateAnswer desk rows count (length (now (out .entry))) value))
         × (now (out .exit) ≡ areaBy desk (take count rows) post (value .users) (now (out .entry)) (activateAnswer desk rows count (length (now (out .entry))) value)) ⌝ }
@@ -55,7 +55,7 @@ fn acks(
     post: u8,
     users: Group,
     out: &mut [u8],
-) -> Step
+) -> Stepped
     requires { ⌜ (profileOk (desk .profile) ≡ true) × ((groupC (desk .profile .air) false .ok users ≡ true) × (300 ≤ length (now out))) ⌝ }
     ensures { λ r. ⌜ (r ≡ acksStep desk (take count rows) post users)
         × (now (out .exit) ≡ acksArea desk (take count rows) post users (now (out .entry))) ⌝ }
@@ -65,7 +65,7 @@ fn acks(
     let sorted = records::sorted_of(air, users, rows, count, post);
     let laid = sending::send_acks(profile, users, sorted, out);
     let marks = records::marks_of(air, users, rows, count, post);
-    Step {
+    Stepped {
         answer: Answer::Acks,
         laid: laid,
         desk: desk,

@@ -11,7 +11,7 @@ ghost use Rattle.desk.specs.Steps.{plainStep, plainArea, endedStep};
 ghost use Rattle.desk.specs.declared.Answer.the-variants as answer;
 use crate::Answer;
 use crate::Desk;
-use crate::Step;
+use crate::Stepped;
 use crate::kept;
 use codec::Stop;
 use places::Place;
@@ -25,7 +25,7 @@ pub struct Ending {
     pub place: u8,
 }
 
-pub(crate) fn accept(desk: Desk, post: u8, identifier: u32, out: &mut [u8]) -> Step
+pub(crate) fn accept(desk: Desk, post: u8, identifier: u32, out: &mut [u8]) -> Stepped
     requires { ⌜ profileOk (desk .profile) ≡ true ⌝ }
     ensures { λ r. ⌜ (r ≡ plainStep desk identifier (decideAnswer desk (length (now (out .entry))) post identifier answer.Proceed))
         × (now (out .exit) ≡ plainArea desk (now (out .entry)) (decideAnswer desk (length (now (out .entry))) post identifier answer.Proceed)) ⌝ }
@@ -44,7 +44,7 @@ pub(crate) fn accept(desk: Desk, post: u8, identifier: u32, out: &mut [u8]) -> S
     kept::refused(desk, s)
 }
 
-pub(crate) fn divert(desk: Desk, post: u8, identifier: u32, out: &mut [u8]) -> Step
+pub(crate) fn divert(desk: Desk, post: u8, identifier: u32, out: &mut [u8]) -> Stepped
     requires { ⌜ profileOk (desk .profile) ≡ true ⌝ }
     ensures { λ r. ⌜ (r ≡ plainStep desk identifier (decideAnswer desk (length (now (out .entry))) post identifier answer.Diverted))
         × (now (out .exit) ≡ plainArea desk (now (out .entry)) (decideAnswer desk (length (now (out .entry))) post identifier answer.Diverted)) ⌝ }
@@ -63,7 +63,7 @@ pub(crate) fn divert(desk: Desk, post: u8, identifier: u32, out: &mut [u8]) -> S
     kept::refused(desk, s)
 }
 
-pub(crate) fn reject(desk: Desk, post: u64, identifier: u32) -> Step
+pub(crate) fn reject(desk: Desk, post: u64, identifier: u32) -> Stepped
     ensures { λ r. ⌜ r ≡ plainStep desk identifier (rejectAnswer desk post identifier) ⌝ }
 {
     let profile = desk.profile;
@@ -82,7 +82,7 @@ pub(crate) fn reject(desk: Desk, post: u64, identifier: u32) -> Step
     kept::refused(desk, s)
 }
 
-pub(crate) fn cancel(desk: Desk, identifier: u32) -> Step
+pub(crate) fn cancel(desk: Desk, identifier: u32) -> Stepped
     ensures { λ r. ⌜ r ≡ plainStep desk identifier (cancelAnswer desk identifier) ⌝ }
 {
     if identifier >= 0x4000 {
@@ -138,13 +138,13 @@ fn post_at(list: [Place; 32], at: u8) -> u8
 }
 
 // The call in the place waits no more.
-fn ended(desk: Desk, place: u8, answer: Answer, laid: Laid) -> Step
+fn ended(desk: Desk, place: u8, answer: Answer, laid: Laid) -> Stepped
     ensures { λ r. ⌜ r ≡ endedStep desk place answer laid ⌝ }
 {
     let profile = desk.profile;
     let places = desk.places;
     let next = places::clear(places, place);
-    Step {
+    Stepped {
         answer: answer,
         laid: laid,
         desk: Desk {

@@ -4,13 +4,13 @@ ghost use Rattle.desk.specs.Steps.{keeps};
 ghost use Rattle.desk.specs.declared.Answer.the-variants as answer;
 use crate::Answer;
 use crate::Desk;
-use crate::Step;
+use crate::Stepped;
 use codec::Stop;
 
-pub(crate) fn keeps(desk: Desk, answer: Answer) -> Step
+pub(crate) fn keeps(desk: Desk, answer: Answer) -> Stepped
     ensures { λ r. ⌜ r ≡ keeps desk answer ⌝ }
 {
-    Step {
+    Stepped {
         answer: answer,
         laid: sending::no_laid(),
         desk: desk,
@@ -18,7 +18,7 @@ pub(crate) fn keeps(desk: Desk, answer: Answer) -> Step
     }
 }
 
-pub(crate) fn refused(desk: Desk, stop: Stop) -> Step
+pub(crate) fn refused(desk: Desk, stop: Stop) -> Stepped
     ensures { λ r. ⌜ r ≡ keeps desk (answer.Refused stop) ⌝ }
 {
     keeps(desk, Answer::Refused(stop))

@@ -3,7 +3,7 @@
 // `step` takes the desk, the records and an event, and answers the step: the answer, the messages laid in the output area, the desk
 // afterwards and the records whose mark is set. It equals `stepOf`, and the area afterwards `areaAfter`, for every input (specs/Orders
 // has each call's order of refusals, specs/Steps what follows from an answer). The files: ending (how a waiting call ends), setup,
-// message (a post's message by its type), activate.
+// posted (a post's message by its type), activate.
 ghost use mathlib.Core.Path.{_≡_};
 ghost use Rattle.places.specs.Held.{noPlaces};
 ghost use Rattle.desk.specs.Desks.{openOf, deskOk};
@@ -20,7 +20,7 @@ use sending::Laid;
 mod activate;
 mod ending;
 mod kept;
-mod message;
+mod posted;
 mod setup;
 
 pub struct Desk {
@@ -68,7 +68,7 @@ pub enum Answer {
     Cancelled,
 }
 
-pub struct Step {
+pub struct Stepped {
     pub answer: Answer,
     pub laid: Laid,
     pub desk: Desk,
@@ -104,14 +104,14 @@ pub fn step(
     message: &[u8],
     out: &mut [u8],
     event: Event,
-) -> Step
+) -> Stepped
     ensures { λ r. ⌜ (r ≡ stepOf desk rows count (now (message .entry)) (now (out .entry)) event)
         × (now (out .exit) ≡ areaAfter desk rows count (now (message .entry)) (now (out .entry)) event) ⌝ }
 {
     if desk_ok(desk) {
         return match event {
             Event::Message { post, bits } => {
-                message::post_message(desk, rows, count, message, out, post, bits)
+                posted::post_message(desk, rows, count, message, out, post, bits)
             }
             Event::SetUp {
                 caller,

@@ -8,7 +8,7 @@ ghost use Rattle.desk.specs.Orders.{partyOk, setUpOk, admitAnswer, setUp
 ghost use Rattle.desk.specs.Steps.{plainStep, plainArea};
 use crate::Answer;
 use crate::Desk;
-use crate::Step;
+use crate::Stepped;
 use crate::kept;
 use records::Identity;
 use records::Record;
@@ -21,7 +21,7 @@ pub(crate) fn set_up(
     caller: Identity,
     called: Identity,
     identifier: u32,
-) -> Step
+) -> Stepped
     requires { ⌜ profileOk (desk .profile) ≡ true ⌝ }
     ensures { λ r. ⌜ (r ≡ plainStep desk identifier (setUpAnswer desk rows count (length (now (out .entry))) caller called identifier))
         × (now (out .exit) ≡ plainArea desk (now (out .entry)) (setUpAnswer desk rows count (length (now (out .entry))) caller called identifier)) ⌝ }
@@ -50,7 +50,7 @@ pub(crate) fn set_up(
 }
 
 // The places rule for the post, and the lowest free place.
-fn admit(desk: Desk, post: u8, identifier: u32, out: &mut [u8]) -> Step
+fn admit(desk: Desk, post: u8, identifier: u32, out: &mut [u8]) -> Stepped
     requires { ⌜ (profileOk (desk .profile) ≡ true) × ((identifier < 2 ^ 14) × (300 ≤ length (now out))) ⌝ }
     ensures { λ r. ⌜ (r ≡ plainStep desk identifier (admitAnswer desk post))
         × (now (out .exit) ≡ plainArea desk (now (out .entry)) (admitAnswer desk post)) ⌝ }
@@ -65,7 +65,7 @@ fn admit(desk: Desk, post: u8, identifier: u32, out: &mut [u8]) -> Step
     let intercepted = message::plain_value(10, message::NOBODY, 0, 0, false, message::NOBODY);
     let laid = sending::send(profile, sending::no_laid(), intercepted, out);
     let next = places::take(places, at.place, identifier as u16, post);
-    Step {
+    Stepped {
         answer: Answer::Admitted {
             post: post,
             place: at.place,

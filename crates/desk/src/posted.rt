@@ -10,7 +10,7 @@ ghost use Rattle.desk.specs.Orders.{interrogateAnswer, sentAnswer, messa
 ghost use Rattle.desk.specs.Steps.{valueBy, plainStep, stepBy, areaBy};
 use crate::Answer;
 use crate::Desk;
-use crate::Step;
+use crate::Stepped;
 use crate::activate;
 use crate::ending;
 use crate::kept;
@@ -26,7 +26,7 @@ pub(crate) fn post_message(
     out: &mut [u8],
     post: u64,
     bits: u64,
-) -> Step
+) -> Stepped
     requires { ⌜ profileOk (desk .profile) ≡ true ⌝ }
     ensures { λ r. ⌜ (r ≡ stepBy desk (take count rows) post (valueBy (readOf (desk .profile) (now (message .entry)) bits) .users) (valueBy (readOf (desk .profile) (now (message .entry)) bits) .identifier) (messageAnswer desk rows count (now (message .entry)) (length (now (out .entry))) post bits))
         × (now (out .exit) ≡ areaBy desk (take count rows) post (valueBy (readOf (desk .profile) (now (message .entry)) bits) .users) (now (out .entry)) (messageAnswer desk rows count (now (message .entry)) (length (now (out .entry))) post bits)) ⌝ }
@@ -53,7 +53,7 @@ fn sent(
     out: &mut [u8],
     post: u8,
     value: Value,
-) -> Step
+) -> Stepped
     requires { ⌜ (profileOk (desk .profile) ≡ true) × (validOf (desk .profile .air) value ≡ true) ⌝ }
     ensures { λ r. ⌜ (r ≡ stepBy desk (take count rows) post (value .users) (value .identifier) (sentAnswer desk rows count (length (now (out .entry))) post value))
         × (now (out .exit) ≡ areaBy desk (take count rows) post (value .users) (now (out .entry)) (sentAnswer desk rows count (length (now (out .entry))) post value)) ⌝ }
@@ -74,7 +74,7 @@ fn sent(
     kept::refused(desk, codec::refuse(8))
 }
 
-fn interrogate(desk: Desk, rows: [Record; 128], count: usize, post: u8, value: Value) -> Step
+fn interrogate(desk: Desk, rows: [Record; 128], count: usize, post: u8, value: Value) -> Stepped
     ensures { λ r. ⌜ r ≡ plainStep desk (value .identifier) (interrogateAnswer desk rows count post value) ⌝ }
 {
     let profile = desk.profile;
