@@ -1,4 +1,6 @@
 pub mod IdentityLaws
 pub mod RecordLaws
 pub mod OutcomeLaws
+pub mod MaskLaws
 pub mod MarkLaws
+pub mod Cases

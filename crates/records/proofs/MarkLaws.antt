@@ -20,7 +20,7 @@ use Rattle.records.specs.declared.search.Found.{Found}
 use Rattle.records.specs.declared.search.Found.the-variants as found
 use Rattle.records.specs.Identities.{noIdentity, identityAt, countOf, identitiesOf}
 use Rattle.records.specs.Records.{rowOf, recordOf}
-use Rattle.records.specs.Marking.{acceptedOf, unmarked, noMarks, withBy, withMark, markAll, marksOf}
+use Rattle.records.specs.Marking.{acceptedOf, unmarked, noMarks, withBy, withMark, markAll, marksOf, isAt, wanted}
 use Rattle.records.proofs.IdentityLaws.{length-identities, identities-at}
 
 -- ---- the accepted record of an identity
@@ -76,3 +76,38 @@ module _ (x : Marks) (air : Air) (g : Group) (rows : List Record) (post : ℕ) (
   marks-end h =
       let l : length (identitiesOf air g) ≤ i = rw (length-identities air g) (omega arith) in
       sym (v ∙ rw (drop-of-length-le (identitiesOf air g) l))
+
+-- ---- marks-at: record j's mark is wanted exactly if it is the accepted record of one of the identities
+
+or-assoc : (a b c : Bool) → (a || b) || c ≡ a || (b || c)
+or-assoc true b c = refl
+or-assoc false b c = refl
+
+or-false : (a : Bool) → a ≡ a || false
+or-false true = refl
+or-false false = refl
+
+or-true : (a : Bool) → true ≡ a || true
+or-true true = refl
+or-true false = refl
+
+one-at : (at : List Bool) (f : Found) (j : ℕ) → j < length at → getD (withBy at f) j false ≡ getD at j false || isAt j f
+one-at at found.Nobody j h = or-false (getD at j false)
+one-at at (found.At i) j h =
+    ⊎-elim (λ e. rw (eq-eqb i j e, e) (getD-set-same at j true false h ∙ or-true (getD at j false)))
+    (λ n. rw (ne-eqb i j n, getD-set-other at i j true false (λ e. n (sym e))) (or-false (getD at j false))) (eq-or i j)
+
+one-length : (at : List Bool) (f : Found) → length (withBy at f) ≡ length at
+one-length at found.Nobody = refl
+one-length at (found.At i) = length-set at i true
+
+all-at : (rows : List Record) (post : ℕ) (ms : Marks) (ids : List Identity) (j : ℕ) → j < length (ms .at) → getD (markAll rows post ms ids .at) j false ≡ getD (ms .at) j false || wanted rows post ids j
+unfolding markAll withMark wanted
+all-at rows post ms [] j h = or-false (getD (ms .at) j false)
+all-at rows post ms (id ∷ ids) j h =
+    all-at rows post (withMark ms (acceptedOf rows post id)) ids j (rw (one-length (ms .at) (acceptedOf rows post id)) h)
+    ∙ rw (one-at (ms .at) (acceptedOf rows post id) j h) (or-assoc (getD (ms .at) j false) (isAt j (acceptedOf rows post id)) (wanted rows post ids j))
+
+pub marks-at : (rows : List Record) (post : ℕ) (ids : List Identity) (j : ℕ) → j < 128 → getD (marksOf rows post ids .at) j false ≡ wanted rows post ids j
+unfolding marksOf noMarks unmarked
+marks-at rows post ids j h = all-at rows post noMarks ids j (rw (length-replicate 128 false) h) ∙ rw (getD-replicate 128 j false false h) refl

@@ -72,7 +72,7 @@ map-at f (x ∷ l) zero z d h = refl
 map-at f (x ∷ l) (suc i) z d h = map-at f l i z d (le-of-suc-le-suc h)
 
 module _ (air : Air) (g : Group) (rows : List Record) (post : ℕ) where
-  outcomes-count : length (outcomesOf air g rows post) ≡ countOf air g
+  pub outcomes-count : length (outcomesOf air g rows post) ≡ countOf air g
   unfolding outcomesOf
   outcomes-count = length-map (identitiesOf air g) _ ∙ length-identities air g
 

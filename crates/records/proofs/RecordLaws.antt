@@ -147,3 +147,70 @@ module _ (x : Party) (rows : List Record) (ids : List Identity) (k : ℕ) (v : x
       pub party-here : (p : Party) → p ≡ partyOf r → b ≡ true → p ≡ x
       unfolding partyLeft restrictedOf
       party-here p q s = q ∙ sym (v ∙ rw (drop-cons ids k d h) (rw (turn ∙ e, ← a, sym c ∙ s) refl))
+
+-- ---- record-lowest: the search finds the lowest-numbered record in use that has the identity
+
+-- a record that is in use, and its two numbers are the identity's
+pub is-it : (r : Record) (id : Identity) → is r id ≡ true → (r .in_use ≡ true) × ((r .ssi ≡ id .ssi) × (r .extension ≡ id .extension))
+unfolding is
+is-it r id e =
+    let f = both-right (r .in_use) _ e in
+    (both-left _ _ e, (eqb-true (r .ssi) (id .ssi) (both-left _ _ f), eqb-true (r .extension) (id .extension) (both-right (eqb (r .ssi) (id .ssi)) _ f)))
+
+not-noRecord : (id : Identity) → is noRecord id ≡ false
+unfolding is both
+not-noRecord id = refl
+
+-- what an answer says: none has the identity; or record i has it and no lower one does
+abbrev pub Lowest : List Record → Identity → Found → Type 0
+Lowest rows id found.Nobody = (j : ℕ) → is (rowOf rows j) id ≡ false
+Lowest rows id (found.At i) = (i < length rows) × ((is (rowOf rows i) id ≡ true) × ((j : ℕ) → j < i → is (rowOf rows j) id ≡ false))
+
+-- the same where the first record is number k
+abbrev LowestFrom : ℕ → List Record → Identity → Found → Type 0
+LowestFrom k rows id found.Nobody = (j : ℕ) → is (rowOf rows j) id ≡ false
+LowestFrom k rows id (found.At i) =
+    (k ≤ i) × ((i < k + length rows) × ((is (rowOf rows (i - k)) id ≡ true) × ((j : ℕ) → j < i - k → is (rowOf rows j) id ≡ false)))
+
+module _ (r : Record) (rows : List Record) (id : Identity) (no : is r id ≡ false) where
+  none-before : (n : ℕ) → ((j : ℕ) → j < n → is (rowOf rows j) id ≡ false) → (j : ℕ) → j < suc n → is (rowOf (r ∷ rows) j) id ≡ false
+  unfolding rowOf
+  none-before n f zero h = no
+  none-before n f (suc j) h = f j (omega arith)
+
+  none-at : ((j : ℕ) → is (rowOf rows j) id ≡ false) → (j : ℕ) → is (rowOf (r ∷ rows) j) id ≡ false
+  unfolding rowOf
+  none-at f zero = no
+  none-at f (suc j) = f j
+
+  one-more : (k : ℕ) (f : Found) → LowestFrom (suc k) rows id f → LowestFrom k (r ∷ rows) id f
+  unfolding rowOf
+  one-more k found.Nobody l = none-at l
+  one-more k (found.At i) l =
+      let le : suc k ≤ i = l .0 in
+      let lt : i < suc k + length rows = l .1 .0 in
+      let s : i - k ≡ suc (i - suc k) = omega arith in
+      let below : (j : ℕ) → j < suc (i - suc k) → is (rowOf (r ∷ rows) j) id ≡ false = none-before (i - suc k) (l .1 .1 .1) in
+      (omega arith, (omega arith, (rw s (l .1 .1 .0), λ j h. below j (omega arith))))
+
+lowest-from : (k : ℕ) (rows : List Record) (id : Identity) → LowestFrom k rows id (recordFrom k rows id)
+unfolding recordFrom rowOf
+lowest-from k [] id = λ j. not-noRecord id
+lowest-from k (r ∷ rows) id = go (is r id) refl (lowest-from (suc k) rows id)
+  where
+    go : (b : Bool) → is r id ≡ b → LowestFrom (suc k) rows id (recordFrom (suc k) rows id) → LowestFrom k (r ∷ rows) id (cond b (found.At k) (recordFrom (suc k) rows id))
+    go true e l =
+        let z : k - k ≡ 0 = omega arith in
+        (omega arith, (omega arith, (rw z e, λ j h. absurd (omega arith))))
+    go false e l = one-more r rows id e k (recordFrom (suc k) rows id) l
+
+lowest-is : (rows : List Record) (id : Identity) (f : Found) → LowestFrom 0 rows id f → Lowest rows id f
+lowest-is rows id found.Nobody l = l
+lowest-is rows id (found.At i) l =
+    let z : i - 0 ≡ i = omega arith in
+    let lt : i < 0 + length rows = l .1 .0 in
+    (omega arith, (rw z at (l .1 .1 .0), λ j h. l .1 .1 .1 j (rw z h)))
+
+pub record-lowest : (rows : List Record) (id : Identity) → Lowest rows id (recordOf rows id)
+unfolding recordOf
+record-lowest rows id = lowest-is rows id (recordFrom 0 rows id) (lowest-from 0 rows id)

@@ -1,6 +1,6 @@
 -- Which records ACTIVATE marks: those of the accepted identities. What a mark becomes is not said here.
 use Prim.Native.Nat.{ℕ}
-use mathlib.Core.Bool.{Bool, true, false, cond}
+use mathlib.Core.Bool.{Bool, true, false, cond, _||_}
 use mathlib.Core.List.{List, [], _∷_}
 use lib.Dec.{eqb}
 use lib.ListN.{set, replicate}
@@ -40,3 +40,14 @@ markAll rows post ms (id ∷ ids) = markAll rows post (withMark ms (acceptedOf r
 
 unfoldable pub marksOf : List Record → ℕ → List Identity → Marks
 marksOf rows post ids = markAll rows post noMarks ids
+
+-- ---- record by record
+
+abbrev pub isAt : ℕ → Found → Bool
+isAt j found.Nobody = false
+isAt j (found.At i) = eqb i j
+
+-- record j is the accepted record of one of the identities
+unfoldable pub wanted : List Record → ℕ → List Identity → ℕ → Bool
+wanted rows post [] j = false
+wanted rows post (id ∷ ids) j = isAt j (acceptedOf rows post id) || wanted rows post ids j

@@ -13,6 +13,7 @@ ghost use Rattle.records.specs.Marking.{marksOf, noMarks};
 use message::Address;
 use message::Group;
 use profile::Air;
+use profile::Profile;
 
 mod identities;
 mod mark;
@@ -55,7 +56,7 @@ pub struct Marks {
 pub fn records_ok(rows: [Record; 128], count: usize, posts: u8) -> bool
     ensures { λ r. ⌜ r ≡ recordsOk rows count posts ⌝ }
 {
-    if count > 128 {
+    if count > Profile::RECORDS {
         return false;
     }
     search::all_ok(rows, count, posts)

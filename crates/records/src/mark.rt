@@ -8,6 +8,7 @@ use crate::Marks;
 use crate::Record;
 use crate::search;
 use crate::search::Found;
+use profile::Profile;
 
 // The record of an identity, if it is a user of the post.
 pub(crate) fn accepted(rows: [Record; 128], count: usize, post: u8, id: Identity) -> Found
@@ -42,7 +43,7 @@ pub(crate) fn with_mark(marks: Marks, found: Found) -> Marks
 fn set_mark(at: [bool; 128], i: usize) -> Marks
     ensures { λ r. ⌜ r .at ≡ set at i true ⌝ }
 {
-    if i < 128 {
+    if i < Profile::RECORDS {
         let mut next = at;
         next[i] = true;
         return Marks { at: next };

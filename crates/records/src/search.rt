@@ -6,6 +6,7 @@ ghost use Rattle.records.specs.Records.{rowOf, is, recordOf, recordOk, a
 use crate::Identity;
 use crate::Party;
 use crate::Record;
+use profile::Profile;
 
 // A record's number.
 pub enum Found {
@@ -44,7 +45,7 @@ pub(crate) fn record_of(rows: [Record; 128], count: usize, id: Identity) -> Foun
 {
     let mut i: usize = 0;
     let found = loop {
-        if i == 128 {
+        if i == Profile::RECORDS {
             break Found::Nobody;
         }
         if i >= count {
@@ -63,7 +64,7 @@ pub(crate) fn row_of(rows: [Record; 128], count: usize, i: usize) -> Record
     ensures { λ r. ⌜ r ≡ rowOf (take count rows) i ⌝ }
 {
     if i < count {
-        if i < 128 {
+        if i < Profile::RECORDS {
             return rows[i];
         }
     }
@@ -87,17 +88,17 @@ pub(crate) fn all_ok(rows: [Record; 128], count: usize, posts: u8) -> bool
     true
 }
 
-fn record_ok(r: Record, posts: u8) -> bool
-    ensures { λ b. ⌜ b ≡ recordOk posts r ⌝ }
+fn record_ok(row: Record, posts: u8) -> bool
+    ensures { λ b. ⌜ b ≡ recordOk posts row ⌝ }
 {
-    if r.in_use {
-        if r.post >= posts {
+    if row.in_use {
+        if row.post >= posts {
             return false;
         }
-        if r.ssi > 0xFF_FFFF {
+        if row.ssi > 0xFF_FFFF {
             return false;
         }
-        return r.extension <= 0xFF_FFFF;
+        return row.extension <= 0xFF_FFFF;
     }
     true
 }
@@ -153,7 +154,7 @@ pub(crate) fn first_restricted(rows: [Record; 128], count: usize, parties: [Iden
         k += 1;
         let mut i: usize = 0;
         loop {
-            if i == 128 {
+            if i == Profile::RECORDS {
                 continue 'parties;
             }
             if i >= count {
