@@ -98,25 +98,25 @@ ack-valid p passes users g b m e class =
 -- a group that was read, and masks of its identities
 pub record Request (p : Profile) (users : Group) (s : Sorted) : Type 0 where
   pub valid : groupC (p .air) false .ok users ≡ true
-  pub masks : (class : ℕ) → maskC (spanOf (p .air) users) .ok (maskAt s class) ≡ true
+  pub masks : (class : ℕ) → class < 3 → maskC (spanOf (p .air) users) .ok (maskAt s class) ≡ true
 
 module _ (p : Profile) (passes : profileOk p ≡ true) (users : Group) (s : Sorted) (r : Request p users s) where
-  ack-sends : (class : ℕ) → Sends p (ackOf (p .air) users s class)
+  ack-sends : (class : ℕ) → class < 3 → Sends p (ackOf (p .air) users s class)
   unfolding ackOf
-  ack-sends class =
-      let ok = ack-valid p passes users (r .valid) (severalIn (s .some)) (maskAt s class) (r .masks class) class in
+  ack-sends class h =
+      let ok = ack-valid p passes users (r .valid) (severalIn (s .some)) (maskAt s class) (r .masks class h) class in
       record { valid = ok; short = omega (arith, ack-bytes-most (p .air) _ ok (ack-pdu-is _ _ _ _ _)) }
 
-  ack-if-sends : (class : ℕ) (b : Bool) (vs : List Value) → AllSend p vs → AllSend p (cond b (ackOf (p .air) users s class ∷ []) [] ++ vs)
-  ack-if-sends class true vs all = (ack-sends class, all)
-  ack-if-sends class false vs all = all
+  ack-if-sends : (class : ℕ) → class < 3 → (b : Bool) (vs : List Value) → AllSend p vs → AllSend p (cond b (ackOf (p .air) users s class ∷ []) [] ++ vs)
+  ack-if-sends class h true vs all = (ack-sends class h, all)
+  ack-if-sends class h false vs all = all
 
   ack-if-few : (class : ℕ) (b : Bool) (vs : List Value) (n : ℕ) → length vs ≤ n → length (cond b (ackOf (p .air) users s class ∷ []) [] ++ vs) ≤ n + 1
   ack-if-few class true vs n h = omega arith
   ack-if-few class false vs n h = omega arith
 
   last-sends : (b : Bool) → AllSend p (cond b (ackOf (p .air) users s 2 ∷ []) [])
-  last-sends true = (ack-sends 2, tt)
+  last-sends true = (ack-sends 2 (omega arith), tt)
   last-sends false = tt
 
   last-few : (b : Bool) → length (cond b (ackOf (p .air) users s 2 ∷ []) []) ≤ 1
@@ -125,7 +125,7 @@ module _ (p : Profile) (passes : profileOk p ≡ true) (users : Group) (s : Sort
 
   pub acks-send : AllSend p (acksOf (p .air) users s)
   unfolding acksOf
-  acks-send = ack-if-sends 0 (isThere s 0) _ (ack-if-sends 1 (isThere s 1) _ (last-sends (isThere s 2)))
+  acks-send = ack-if-sends 0 (omega arith) (isThere s 0) _ (ack-if-sends 1 (omega arith) (isThere s 1) _ (last-sends (isThere s 2)))
 
   -- at most three
   pub acks-few : length (acksOf (p .air) users s) ≤ 3

@@ -57,3 +57,11 @@ module _ (p : Profile) (passes : profileOk p ≡ true) where
       → (allLaid p noLaid l vs ≡ laidOf (p .air) vs) × (allArea p noLaid l vs ≡ layAll (p .air) l vs)
   unfolding noLaid laidOf layAll
   all-sent l vs few room s = sent noLaid l vs (omega arith) room s
+
+  -- a call that sends one message
+  pub one-sent : (l m : List ℕ) (v w : Value) (x y : Laid) → Sends p v → 300 ≤ length l → x ≡ noLaid → w ≡ v
+      → (y ≡ sendLaid p x l w) × (m ≡ sendArea p x l w) → (y ≡ laidOf (p .air) (v ∷ [])) × (m ≡ layAll (p .air) l (v ∷ []))
+  unfolding allLaid allArea
+  one-sent l m v w x y s room ex ew e =
+      let all = all-sent l (v ∷ []) (omega arith) room (s, tt) in
+      ((rw (ex, ew) at (e .0)) ∙ all .0, (rw (ex, ew) at (e .1)) ∙ all .1)

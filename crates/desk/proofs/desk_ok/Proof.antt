@@ -1,26 +1,29 @@
+-- `desk::desk_ok` meets its contract. Assumes nothing.
+use mathlib.Core.Path.{sym, _∙_}
 use borrow.Author.Needs.{needs}
+use Rattle.codec.specs.Codec.{both}
+use Rattle.desk.specs.Desks.{deskOk}
 use Rattle.desk.proofs.desk_ok.Statement.{statement}
 use Rattle.desk.proofs.desk_ok.Tie as tie
-use Rattle.desk.proofs.desk_ok.Reads as reads
-use Rattle.desk.proofs.desk_ok.Lts as lts
-use Rattle.places.proofs.places_ok.Reads as places-ok-reads
-use Rattle.profile.proofs.profile_ok.Reads as profile-ok-reads
 
--- src/lib.rt:114:8
 profile-ok-requires : tie.Need-profile-ok-requires
 profile-ok-requires c κs = search needs
 
--- src/lib.rt:117:9
 places-ok-requires : tie.Need-places-ok-requires
 places-ok-requires c κs = search needs
 
--- src/lib.rt:117:9
 returns : tie.Need-returns
-returns c = ?
+unfolding deskOk both
+returns c =
+    let p1 = c .before .before .before .before in
+    let p2 = c .before .before .before in
+    rw (sym (p1 .profile-ok .ensures) ∙ p2 .if1 .taken) (c .places-ok .ensures)
 
--- src/lib.rt:110:1
 returns-2 : tie.Need-returns-2
-returns-2 c = ?
+unfolding deskOk both
+returns-2 c =
+    let p1 = c .before in
+    rw (sym (p1 .profile-ok .ensures) ∙ c .if1 .left)
 
 pub desk-ok-spec : {M : Type 1} → statement M
 desk-ok-spec = tie.close (tie.spec profile-ok-requires places-ok-requires returns returns-2)

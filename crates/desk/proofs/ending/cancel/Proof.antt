@@ -1,53 +1,47 @@
+-- `desk::ending::cancel` meets its contract. Assumes nothing.
+use mathlib.Core.List.{[]}
+use mathlib.Core.Path.{refl}
 use borrow.Author.Needs.{needs}
+use Rattle.desk.proofs.EndLaws.{cancel-16, cancel-19, cancel-done, none-laid, ends-by}
+use Rattle.desk.proofs.KeepLaws.{refused-plain}
 use Rattle.desk.proofs.ending.cancel.Statement.{statement}
 use Rattle.desk.proofs.ending.cancel.Tie as tie
-use Rattle.desk.proofs.ending.cancel.Reads as reads
-use Rattle.desk.proofs.ending.cancel.Lts as lts
-use Rattle.codec.proofs.refuse.Reads as refuse-reads
-use Rattle.desk.proofs.ending.ended.Reads as ended-reads
-use Rattle.desk.proofs.kept.refused.Reads as refused-reads
-use Rattle.places.proofs.place_of.Reads as place-of-reads
-use Rattle.sending.proofs.no_laid.Reads as no-laid-reads
 
--- src/ending.rt:89:36
 refuse-requires : tie.Need-refuse-requires
 refuse-requires c κs = search needs
 
--- src/ending.rt:89:9
 refused-requires : tie.Need-refused-requires
 refused-requires c κs = search needs
 
--- src/ending.rt:89:9
 returns : tie.Need-returns
-returns c = ?
+returns c = refused-plain _ _ [] _ _ _ _ (c .refused .ensures) (c .before .refuse .ensures) (cancel-16 _ _ (c .before .before .if1 .taken)) .0
 
--- src/ending.rt:92:9
 place-of-requires : tie.Need-place-of-requires
 place-of-requires c κs = search needs
 
--- src/ending.rt:94:57
 no-laid-requires : tie.Need-no-laid-requires
 no-laid-requires c κs = search needs
 
--- src/ending.rt:94:9
 ended-requires : tie.Need-ended-requires
 ended-requires c κs = search needs
 
--- src/ending.rt:94:9
 returns-2 : tie.Need-returns-2
-returns-2 c = ?
+returns-2 c =
+    let s = c .before .before .before in
+    let f = cancel-done _ _ (s .place-of .result) (s .place-of .ensures) (c .before .before .before .before .before .if1 .left) (c .before .before .if2 .taken) in
+    ends-by _ _ _ _ _ _ _ (f .0) refl (f .1) (none-laid _ _ (c .before .no-laid .ensures)) (c .ended .ensures)
 
--- src/ending.rt:96:25
 refuse-requires-2 : tie.Need-refuse-requires-2
 refuse-requires-2 c κs = search needs
 
--- src/ending.rt:96:5
 refused-requires-2 : tie.Need-refused-requires-2
 refused-requires-2 c κs = search needs
 
--- src/ending.rt:85:1
 returns-3 : tie.Need-returns-3
-returns-3 c = ?
+returns-3 c =
+    let s = c .before .before .before in
+    refused-plain _ _ [] _ _ _ _ (c .refused2 .ensures) (c .before .refuse2 .ensures)
+    (cancel-19 _ _ (s .place-of .result) (s .place-of .ensures) (c .before .before .before .before .before .if1 .left) (c .before .before .if2 .left)) .0
 
 pub cancel-spec : {M : Type 1} → statement M
 cancel-spec =

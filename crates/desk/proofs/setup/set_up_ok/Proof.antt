@@ -1,29 +1,29 @@
+-- `desk::setup::set_up_ok` meets its contract. Assumes nothing.
+use mathlib.Core.Path.{refl, sym, _∙_}
 use borrow.Author.Needs.{needs}
+use borrow.Author.Tests.{lt-ltb, le-ltb}
+use Rattle.codec.specs.Codec.{both}
+use Rattle.desk.specs.Orders.{setUpOk}
 use Rattle.desk.proofs.setup.set_up_ok.Statement.{statement}
 use Rattle.desk.proofs.setup.set_up_ok.Tie as tie
-use Rattle.desk.proofs.setup.set_up_ok.Reads as reads
-use Rattle.desk.proofs.setup.set_up_ok.Lts as lts
-use Rattle.desk.proofs.setup.party_ok.Reads as party-ok-reads
 
--- src/setup.rt:87:9
 returns : tie.Need-returns
-returns c = ?
+unfolding setUpOk both
+returns c = rw (le-ltb _ _ (c .if1 .left)) refl
 
--- src/setup.rt:89:8
 party-ok-requires : tie.Need-party-ok-requires
 party-ok-requires c κs = search needs
 
--- src/setup.rt:90:9
 party-ok-requires-2 : tie.Need-party-ok-requires-2
 party-ok-requires-2 c κs = search needs
 
--- src/setup.rt:90:9
 returns-2 : tie.Need-returns-2
-returns-2 c = ?
+unfolding setUpOk both
+returns-2 c = rw (lt-ltb _ _ (c .before .before .before .if1 .taken), sym (c .before .before .party-ok .ensures) ∙ c .before .if2 .taken) (c .party-ok2 .ensures)
 
--- src/setup.rt:83:1
 returns-3 : tie.Need-returns-3
-returns-3 c = ?
+unfolding setUpOk both
+returns-3 c = rw (lt-ltb _ _ (c .before .before .if1 .taken), sym (c .before .party-ok .ensures) ∙ c .if2 .left) refl
 
 pub set-up-ok-spec : {M : Type 1} → statement M
 set-up-ok-spec =
