@@ -1,7 +1,7 @@
 -- Worked case 9's outcomes, masks and marks, and one case for each rule of the records, as one checked list. Assumes nothing.
 use Prim.Native.Nat.{ℕ}
 use mathlib.Core.Path.{_≡_, refl}
-use mathlib.Core.Bool.{Bool, true, false}
+use mathlib.Core.Bool.{true, false}
 use mathlib.Core.List as list
 use mathlib.Core.List.{List, [], _∷_, _++_}
 use lib.ListN.{length, set, take, replicate}
@@ -10,7 +10,6 @@ use Rattle.codec.specs.Codec.{both}
 use Rattle.profile.specs.Rules.{meaningIn}
 use Rattle.profile.specs.Sample.{sample, sampleMeanings}
 use Rattle.profile.specs.declared.Air.{Air}
-use Rattle.message.specs.Addresses.{nobody}
 use Rattle.message.specs.Groups.{nobodies, spanIn, spanOf}
 use Rattle.message.specs.declared.Address.{Address}
 use Rattle.message.specs.declared.Group.{Group}

@@ -1,7 +1,7 @@
 -- The identities of a group, one by one. `kind2-home` is document 01's: kind 2 with the home extension is no stranger. Assumes nothing.
-use Prim.Native.Nat.{ℕ, zero, suc, _+_, _-_, _<_, _≤_, _^_, min}
-use mathlib.Core.Path.{_≡_, refl, sym, ap, _∙_}
-use mathlib.Core.List.{List, [], _∷_, _++_}
+use Prim.Native.Nat.{ℕ, zero, suc, _+_, _-_, _<_, _≤_}
+use mathlib.Core.Path.{_≡_, refl, ap, _∙_}
+use mathlib.Core.List.{List, []}
 use mathlib.Core.Logic.{⊎-elim}
 use native.Mathlib.Numerals.{add-one}
 use native.Mathlib.Omega.{arith}
@@ -22,7 +22,8 @@ use Rattle.records.specs.Identities.{noIdentity, identityOf, identityAt,
 -- ---- one address
 
 -- an address of kind 2 with the home extension has the identity that kind 1 has
-pub kind2-home : (air : Air) (s : ℕ) → identityOf air (record { kind = 2; ssi = s; extension = air .home }) ≡ identityOf air (record { kind = 1; ssi = s; extension = 0 })
+pub kind2-home : (air : Air) (s : ℕ)
+    → identityOf air (record { kind = 2; ssi = s; extension = air .home }) ≡ identityOf air (record { kind = 1; ssi = s; extension = 0 })
 unfolding identityOf
 kind2-home air s = refl
 
@@ -42,7 +43,8 @@ unfolding countOf spanOf
 count-in air g m k h e = rw e (omega arith)
 
 -- one in a range is not past the last
-pub range-in : (air : Air) (m : Meaning) (l : List Address) (k : ℕ) (id : Identity) → m .kind ≡ kind.FirstLast → k < spanIn m l → id ≡ identityOf air (getD l 0 nobody)
+pub range-in : (air : Air) (m : Meaning) (l : List Address) (k : ℕ) (id : Identity)
+    → m .kind ≡ kind.FirstLast → k < spanIn m l → id ≡ identityOf air (getD l 0 nobody)
     → k ≤ getD l 1 nobody .ssi - id .ssi
 unfolding spanIn
 range-in air m l k id e h d =

@@ -1,12 +1,11 @@
 -- The walk over the identities that marks records, and what it leaves. Assumes nothing.
-use Prim.Native.Nat.{ℕ, zero, suc, _+_, _-_, _<_, _≤_}
-use mathlib.Core.Path.{_≡_, refl, sym, ap, _∙_}
-use mathlib.Core.Bool.{Bool, true, false, cond, _||_}
+use Prim.Native.Nat.{ℕ, _+_, _<_, _≤_}
+use mathlib.Core.Path.{_≡_, refl, sym, _∙_}
+use mathlib.Core.Bool.{Bool, true, false, _||_}
 use mathlib.Core.List.{List, [], _∷_}
 use mathlib.Core.Logic.{⊎-elim}
 use native.Mathlib.Numerals.{add-one}
 use native.Mathlib.Omega.{arith}
-use lib.Dec.{eqb}
 use lib.ListN.{length, getD, set, drop, length-set, length-replicate, getD-replicate, drop-of-length-le}
 use lib.Seq.{drop-cons, set-out, getD-set-same, getD-set-other}
 use borrow.Author.Tests.{eq-eqb, ne-eqb}
@@ -57,7 +56,8 @@ with-at ms r f i e h = rw (e, ← h)
 unfoldable pub marksLeft : Air → Group → List Record → ℕ → Marks → ℕ → Marks
 marksLeft air g rows post ms i = markAll rows post ms (drop i (identitiesOf air g))
 
-pub marks-start : (air : Air) (g : Group) (rows : List Record) (post : ℕ) (ms : Marks) → ms ≡ noMarks → marksOf rows post (identitiesOf air g) ≡ marksLeft air g rows post ms 0
+pub marks-start : (air : Air) (g : Group) (rows : List Record) (post : ℕ) (ms : Marks) → ms ≡ noMarks
+    → marksOf rows post (identitiesOf air g) ≡ marksLeft air g rows post ms 0
 unfolding marksOf marksLeft
 marks-start air g rows post ms e = rw e
 
@@ -101,7 +101,8 @@ one-length : (at : List Bool) (f : Found) → length (withBy at f) ≡ length at
 one-length at found.Nobody = refl
 one-length at (found.At i) = length-set at i true
 
-all-at : (rows : List Record) (post : ℕ) (ms : Marks) (ids : List Identity) (j : ℕ) → j < length (ms .at) → getD (markAll rows post ms ids .at) j false ≡ getD (ms .at) j false || wanted rows post ids j
+all-at : (rows : List Record) (post : ℕ) (ms : Marks) (ids : List Identity) (j : ℕ) → j < length (ms .at)
+    → getD (markAll rows post ms ids .at) j false ≡ getD (ms .at) j false || wanted rows post ids j
 unfolding markAll withMark wanted
 all-at rows post ms [] j h = or-false (getD (ms .at) j false)
 all-at rows post ms (id ∷ ids) j h =

@@ -1,12 +1,12 @@
 -- What the masks say, identity by identity: `mask-at`, `mask-parts`, `mask-fits`, `some-mask`. Assumes nothing.
-use Prim.Native.Nat.{ℕ, zero, suc, _+_, _-_, _*_, _/_, _%_, _^_, _<_, _≤_, min}
+use Prim.Native.Nat.{ℕ, zero, suc, _+_, _-_, _*_, _/_, _%_, _^_, _<_, _≤_}
 use mathlib.Core.Path.{_≡_, refl, sym, ap, _∙_}
-use mathlib.Core.Bool.{Bool, true, false, cond, not, _||_}
+use mathlib.Core.Bool.{Bool, true, false, not, _||_}
 use mathlib.Core.List.{List, [], _∷_}
 use mathlib.Core.Logic.{⊎-elim}
 use native.Mathlib.Nat.{add-zero, div-one, le-of-suc-le-suc, not-suc-le-zero, zero-add, zero-div}
 use native.Mathlib.Omega.{arith}
-use lib.Dec.{eqb, ltb}
+use lib.Dec.{eqb}
 use lib.ListN.{length, getD}
 use lib.Pow.{shr-shr}
 use borrow.Author.Tests.{lt-ltb, le-ltb, eq-eqb, ne-eqb}
@@ -21,7 +21,7 @@ use Rattle.message.specs.Groups.{spanOf}
 use Rattle.message.specs.declared.Group.{Group}
 use Rattle.records.specs.declared.Record.{Record}
 use Rattle.records.specs.Identities.{identityAt, countOf}
-use Rattle.records.specs.Outcomes.{outcomeOf, outcomesOf, has, oneIf, maskOf, someOf}
+use Rattle.records.specs.Outcomes.{outcomesOf, has, oneIf, maskOf, someOf}
 use Rattle.records.proofs.OutcomeLaws.{one-lt, length-outcomes, outcomes-count, outcomes-le, outcome-at, outcome-lt}
 
 -- ---- fields of any bits
@@ -102,7 +102,10 @@ one-of (suc (suc (suc o))) h = absurd (omega arith)
 
 module _ (air : Air) (g : Group) (rows : List Record) (post i : ℕ) (h : i < length (outcomesOf air g rows post)) where
   pub mask-parts :
-      maskOf 0 (outcomesOf air g rows post) / 2 ^ (63 - i) % 2 + maskOf 1 (outcomesOf air g rows post) / 2 ^ (63 - i) % 2 + maskOf 2 (outcomesOf air g rows post) / 2 ^ (63 - i) % 2 ≡ 1
+      maskOf 0 (outcomesOf air g rows post) / 2 ^ (63 - i) % 2
+      + maskOf 1 (outcomesOf air g rows post) / 2 ^ (63 - i) % 2
+      + maskOf 2 (outcomesOf air g rows post) / 2 ^ (63 - i) % 2
+      ≡ 1
   mask-parts =
       let l = outcomes-le air g rows post in
       let k : i < countOf air g = rw (outcomes-count air g rows post) at h in
@@ -110,7 +113,8 @@ module _ (air : Air) (g : Group) (rows : List Record) (post i : ℕ) (h : i < le
       (one-of (getD (outcomesOf air g rows post) i 0) (rw (outcome-at air g rows post i k) (outcome-lt rows post _ (identityAt air g i))))
 
 -- a mask of a group's outcomes is one that an ACK for the group may carry
-pub mask-carried : (air : Air) (g : Group) (rows : List Record) (post class : ℕ) → spanOf air g ≤ 64 → maskC (spanOf air g) .ok (maskOf class (outcomesOf air g rows post)) ≡ true
+pub mask-carried : (air : Air) (g : Group) (rows : List Record) (post class : ℕ) → spanOf air g ≤ 64
+    → maskC (spanOf air g) .ok (maskOf class (outcomesOf air g rows post)) ≡ true
 mask-carried air g rows post class l =
     let n : length (outcomesOf air g rows post) ≡ spanOf air g = omega (arith, length-outcomes air g rows post) in
     mask-fits class (outcomesOf air g rows post) (spanOf air g) n l

@@ -1,14 +1,14 @@
 -- Outcomes one by one, and the walks over them, a law for each turn and end. Assumes nothing.
 use Prim.Native.Nat.{ℕ, zero, suc, _+_, _-_, _*_, _^_, _<_, _≤_, min}
 use mathlib.Core.Path.{_≡_, refl, sym, ap, _∙_}
-use mathlib.Core.Bool.{Bool, true, false, cond, _||_}
-use mathlib.Core.List.{List, [], _∷_, _++_, map}
+use mathlib.Core.Bool.{Bool, true, false, cond}
+use mathlib.Core.List.{List, [], _∷_, map}
 use mathlib.Core.Logic.{⊎-elim}
 use native.Mathlib.Nat.{le-of-suc-le-suc, not-suc-le-zero, zero-add}
 use native.Mathlib.Numerals.{add-one}
 use native.Mathlib.Omega.{arith}
-use lib.Dec.{eqb, ltb}
-use lib.ListN.{length, length-map, length-take, getD, take, drop, set, replicate, drop-of-length-le}
+use lib.Dec.{eqb}
+use lib.ListN.{length, length-map, length-take, getD, take, drop, set, drop-of-length-le}
 use lib.Pow.{pow-mono}
 use lib.Seq.{drop-cons, getD-take, sets, sets-eq, take-at}
 use borrow.Author.Tests.{lt-ltb, le-ltb, eq-eqb, ne-eqb}
@@ -84,7 +84,8 @@ module _ (air : Air) (g : Group) (rows : List Record) (post : ℕ) where
   pub outcomes-le : length (outcomesOf air g rows post) ≤ 64
   outcomes-le = rw outcomes-count (count-le air g)
 
-  pub outcome-at : (i : ℕ) → i < countOf air g → getD (outcomesOf air g rows post) i 0 ≡ outcomeOf rows post (eqb (air .unknown) (air .other)) (identityAt air g i)
+  pub outcome-at : (i : ℕ) → i < countOf air g
+      → getD (outcomesOf air g rows post) i 0 ≡ outcomeOf rows post (eqb (air .unknown) (air .other)) (identityAt air g i)
   unfolding outcomesOf
   outcome-at i h =
       map-at (outcomeOf rows post (eqb (air .unknown) (air .other))) (identitiesOf air g) i 0 noIdentity (rw (length-identities air g) h)
@@ -94,12 +95,14 @@ module _ (air : Air) (g : Group) (rows : List Record) (post : ℕ) where
 unfoldable pub outLeft : Air → Group → List Record → ℕ → List ℕ → ℕ → List ℕ
 outLeft air g rows post l i = sets l i (drop i (outcomesOf air g rows post))
 
-pub out-start : (air : Air) (g : Group) (rows : List Record) (post : ℕ) (l : List ℕ) → l ≡ zeros → sets zeros 0 (outcomesOf air g rows post) ≡ outLeft air g rows post l 0
+pub out-start : (air : Air) (g : Group) (rows : List Record) (post : ℕ) (l : List ℕ) → l ≡ zeros
+    → sets zeros 0 (outcomesOf air g rows post) ≡ outLeft air g rows post l 0
 unfolding outLeft
 out-start air g rows post l e = rw e
 
 module _ (x : List ℕ) (air : Air) (g : Group) (rows : List Record) (post : ℕ) (l : List ℕ) (i : ℕ) (v : x ≡ outLeft air g rows post l i) (n : ℕ) (m : n ≡ countOf air g) where
-  pub out-more : (same : Bool) (id : Identity) (y : ℕ) → i < n → same ≡ eqb (air .unknown) (air .other) → id ≡ identityAt air g i → y ≡ outcomeOf rows post same id
+  pub out-more : (same : Bool) (id : Identity) (y : ℕ)
+      → i < n → same ≡ eqb (air .unknown) (air .other) → id ≡ identityAt air g i → y ≡ outcomeOf rows post same id
       → x ≡ outLeft air g rows post (set l i y) (i + 1)
   unfolding outLeft
   out-more same id y h s d e =
@@ -114,7 +117,8 @@ module _ (x : List ℕ) (air : Air) (g : Group) (rows : List Record) (post : ℕ
       let t : length (outcomesOf air g rows post) ≤ i = rw (outcomes-count air g rows post) (omega arith) in
       v ∙ rw (drop-of-length-le (outcomesOf air g rows post) t)
 
-pub kept-end : (air : Air) (g : Group) (rows : List Record) (post : ℕ) (l : List ℕ) (i n : ℕ) → sets zeros 0 (outcomesOf air g rows post) ≡ outLeft air g rows post l i → n ≡ countOf air g → n ≤ i
+pub kept-end : (air : Air) (g : Group) (rows : List Record) (post : ℕ) (l : List ℕ) (i n : ℕ)
+    → sets zeros 0 (outcomesOf air g rows post) ≡ outLeft air g rows post l i → n ≡ countOf air g → n ≤ i
     → record { count = n; list = l } ≡ keptOf (outcomesOf air g rows post)
 unfolding keptOf
 kept-end air g rows post l i n v m h =

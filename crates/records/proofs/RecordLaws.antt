@@ -1,15 +1,14 @@
 -- The search for the record of an identity, a law for each turn and end of it, and what its answer says. Assumes nothing.
 use Prim.Native.Nat.{ℕ, zero, suc, _+_, _-_, _<_, _≤_}
-use mathlib.Core.Path.{_≡_, refl, sym, ap, _∙_}
+use mathlib.Core.Path.{_≡_, refl, sym, _∙_}
 use mathlib.Core.Bool.{Bool, true, false, cond}
 use mathlib.Core.List.{List, [], _∷_}
-use native.Mathlib.Nat.{sub-zero}
 use native.Mathlib.Numerals.{add-one}
 use native.Mathlib.Omega.{arith}
 use lib.Dec.{eqb}
 use lib.ListN.{length, length-take, getD, take, drop, drop-of-length-le, List·getD-eq-default}
 use lib.Seq.{drop-cons, getD-take}
-use borrow.Author.Tests.{eq-eqb, ne-eqb, eqb-true, le-leb}
+use borrow.Author.Tests.{eq-eqb, ne-eqb, eqb-true, le-leb, lt-leb}
 use Rattle.codec.specs.Codec.{both}
 use Rattle.codec.proofs.Good.{both-left, both-right}
 use Rattle.records.specs.declared.Record.{Record}
@@ -17,7 +16,7 @@ use Rattle.records.specs.declared.Identity.{Identity}
 use Rattle.records.specs.declared.Party.{Party}
 use Rattle.records.specs.declared.search.Found.{Found}
 use Rattle.records.specs.declared.search.Found.the-variants as found
-use Rattle.records.specs.Records.{noRecord, rowOf, is, recordFrom, recordOf, recordOk, allOk, stateOf, restricts, noParty, partyOf, restrictedOf}
+use Rattle.records.specs.Records.{noRecord, rowOf, is, recordFrom, recordOf, recordOk, allOk, recordsOk, stateOf, restricts, noParty, partyOf, restrictedOf}
 
 -- ---- one of the rows
 
@@ -94,6 +93,15 @@ module _ (x : Bool) (rows : List Record) (n posts i : ℕ) (v : x ≡ okLeft row
   pub ok-end : n ≤ i → true ≡ x
   unfolding okLeft allOk
   ok-end h = sym (v ∙ rw (lent-gone rows n i h))
+
+module _ (rows : List Record) (count posts : ℕ) where
+  pub ok-over : 128 < count → false ≡ recordsOk rows count posts
+  unfolding recordsOk both
+  ok-over h = rw (lt-leb count 128 h)
+
+  pub ok-lent : count ≤ 128 → allOk posts (take count rows) ≡ recordsOk rows count posts
+  unfolding recordsOk both
+  ok-lent h = rw (le-leb count 128 h)
 
 -- ---- INTERROGATE
 
@@ -198,7 +206,8 @@ unfolding recordFrom rowOf
 lowest-from k [] id = λ j. not-noRecord id
 lowest-from k (r ∷ rows) id = go (is r id) refl (lowest-from (suc k) rows id)
   where
-    go : (b : Bool) → is r id ≡ b → LowestFrom (suc k) rows id (recordFrom (suc k) rows id) → LowestFrom k (r ∷ rows) id (cond b (found.At k) (recordFrom (suc k) rows id))
+    go : (b : Bool) → is r id ≡ b → LowestFrom (suc k) rows id (recordFrom (suc k) rows id)
+        → LowestFrom k (r ∷ rows) id (cond b (found.At k) (recordFrom (suc k) rows id))
     go true e l =
         let z : k - k ≡ 0 = omega arith in
         (omega arith, (omega arith, (rw z e, λ j h. absurd (omega arith))))

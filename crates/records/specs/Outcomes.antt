@@ -1,6 +1,6 @@
 -- The outcomes of ACTIVATE, and the masks of its ACKs: document 01, "User records and waiting calls".
 use Prim.Native.Nat.{ℕ}
-use mathlib.Core.Bool.{Bool, true, false, cond, _||_}
+use mathlib.Core.Bool.{Bool, false, cond, _||_}
 use mathlib.Core.List.{List, [], _∷_, map}
 use lib.Dec.{eqb, ltb}
 use lib.ListN.{getD, length, take, replicate}

@@ -4,7 +4,7 @@
 // `rows` has room for 128 records; the first `count` are lent, and the others are never looked at. Every function takes every input,
 // also records that refusal 15 would name. The files go from small to large: identities, search, outcome, mark.
 ghost use mathlib.Core.Path.{_≡_};
-ghost use mathlib.Core.List.{List, [], _∷_};
+ghost use mathlib.Core.List.{[], _∷_};
 ghost use lib.ListN.{take};
 ghost use Rattle.records.specs.Identities.{identityOf, identitiesOf};
 ghost use Rattle.records.specs.Records.{recordsOk, stateOf, restrictedOf};

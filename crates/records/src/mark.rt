@@ -1,6 +1,6 @@
 // Which records ACTIVATE marks.
 ghost use mathlib.Core.Path.{_≡_};
-ghost use mathlib.Core.Bool.{Bool, true};
+ghost use mathlib.Core.Bool.{true};
 ghost use lib.ListN.{take, set};
 ghost use Rattle.records.specs.Marking.{acceptedOf, withMark};
 use crate::Identity;

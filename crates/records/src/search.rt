@@ -2,7 +2,7 @@
 ghost use mathlib.Core.Path.{_≡_};
 ghost use Prim.Native.Nat.{_≤_};
 ghost use lib.ListN.{take};
-ghost use Rattle.records.specs.Records.{rowOf, is, recordOf, recordOk, allOk, stateOf, restricts, partyOf, noParty, restrictedOf};
+ghost use Rattle.records.specs.Records.{rowOf, is, recordOf, recordOk, allOk, stateOf, restricts, partyOf, restrictedOf};
 use crate::Identity;
 use crate::Party;
 use crate::Record;
@@ -147,7 +147,7 @@ pub(crate) fn first_restricted(rows: [Record; 128], count: usize, parties: [Iden
 {
     let mut k: usize = 0;
     let party = 'parties: loop {
-        if k == 2 {
+        if k >= 2 {
             break 'parties NO_PARTY;
         }
         let id = parties[k];
