@@ -31,3 +31,16 @@ module _ (d : Desk) (identifier : ℕ) where
     e ∙ ap (λ (x : Stop). keeps d (answer.Refused x)) z ∙ sym (refused-step t) ∙ ap (λ (x : Answer). plainStep d identifier x) (sym q),
     ap (λ (x : Answer). plainArea d area x) (sym q),
   )
+
+  pub free-plain : (area : List ℕ) (a : Answer) (r : Stepped) → r ≡ keeps d answer.Free → a ≡ answer.Free → (r ≡ plainStep d identifier a) × (area ≡ plainArea d area a)
+  unfolding plainArea layAll layFrom
+  free-plain area a r e q = (e ∙ sym free-step ∙ ap (λ (x : Answer). plainStep d identifier x) (sym q), ap (λ (x : Answer). plainArea d area x) (sym q))
+
+  pub state-plain : (area : List ℕ) (a : Answer) (k : ℕ) → a ≡ answer.State k → (keeps d (answer.State k) ≡ plainStep d identifier a) × (area ≡ plainArea d area a)
+  unfolding plainArea layAll layFrom
+  state-plain area a k q = (sym (state-step k) ∙ ap (λ (x : Answer). plainStep d identifier x) (sym q), ap (λ (x : Answer). plainArea d area x) (sym q))
+
+  -- the same answer under another name
+  pub same-plain : (area m : List ℕ) (a b : Answer) (r : Stepped) → b ≡ a → (r ≡ plainStep d identifier a) × (m ≡ plainArea d area a)
+      → (r ≡ plainStep d identifier b) × (m ≡ plainArea d area b)
+  same-plain area m a b r q z = rw q z

@@ -5,7 +5,8 @@ use mathlib.Core.Bool.{Bool, true, false, not, cond}
 use mathlib.Core.List.{List, [], _∷_}
 use lib.Dec.{ltb}
 use lib.ListN.{take}
-use borrow.Author.Tests.{lt-ltb, le-ltb}
+use borrow.Author.Tests.{lt-ltb, le-ltb, ltb-true}
+use Rattle.codec.proofs.Good.{both-left}
 use Rattle.codec.specs.Stops.{refusal}
 use Rattle.message.specs.Addresses.{nobody}
 use Rattle.message.specs.Values.{plainV}
@@ -76,3 +77,8 @@ module _ (d : Desk) (post identifier : ℕ) where
       × (m ≡ plainArea d l (admitAnswer d post))
   unfolding admitAnswer plainStep plainArea deskAfter
   admitted-is at x l m next marks e z s q r = rw (e, sym z) (rw (s .0, q, r) refl, s .1)
+
+-- 16 did not come, so the identifier has 14 bits
+pub setup-identifier : (caller called : Identity) (identifier : ℕ) → setUpOk caller called identifier ≡ true → identifier < 2 ^ 14
+unfolding setUpOk
+setup-identifier caller called identifier e = ltb-true identifier (2 ^ 14) (both-left _ _ e)

@@ -1,87 +1,78 @@
+-- `desk::step` meets its contract. Assumes nothing.
+use mathlib.Core.Path.{refl, sym, _∙_}
 use borrow.Author.Needs.{needs}
+use Rattle.desk.proofs.PostLaws.{plain-by, refused-by, reject-plain, reject-silent, cancel-plain, cancel-silent, setup-plain, desk-passes}
+use Rattle.desk.specs.Orders.{answerOf}
+use Rattle.desk.specs.Steps.{stepOf, areaAfter}
 use Rattle.desk.proofs.step.Statement.{statement}
 use Rattle.desk.proofs.step.Tie as tie
-use Rattle.desk.proofs.step.Reads as reads
-use Rattle.desk.proofs.step.Lts as lts
-use Rattle.codec.proofs.refuse.Reads as refuse-reads
-use Rattle.desk.proofs.desk_ok.Reads as desk-ok-reads
-use Rattle.desk.proofs.ending.cancel.Reads as cancel-reads
-use Rattle.desk.proofs.ending.reject.Reads as reject-reads
-use Rattle.desk.proofs.kept.refused.Reads as refused-reads
-use Rattle.desk.proofs.posted.post_message.Reads as post-message-reads
-use Rattle.desk.proofs.setup.set_up.Reads as set-up-reads
 
--- src/lib.rt:111:8
 desk-ok-requires : tie.Need-desk-ok-requires
 desk-ok-requires c κs = search needs
 
--- src/lib.rt:113:30
 enum-known-event : tie.Need-enum-known-event
 enum-known-event c = search needs
 
--- src/lib.rt:114:17
 post-message-requires : tie.Need-post-message-requires
-post-message-requires c κs = ?
+post-message-requires c κs = desk-passes _ _ (c .before .before .before .before .before .desk-ok .ensures) (c .before .before .before .before .if1 .taken)
 
--- src/lib.rt:117:17
 enum-known-event-2 : tie.Need-enum-known-event-2
 enum-known-event-2 c = search needs
 
--- src/lib.rt:120:20
 set-up-requires : tie.Need-set-up-requires
-set-up-requires c κs = ?
+set-up-requires c κs = desk-passes _ _ (c .before .before .before .before .before .desk-ok .ensures) (c .before .before .before .before .if1 .taken)
 
--- src/lib.rt:121:29
 enum-known-event-3 : tie.Need-enum-known-event-3
 enum-known-event-3 c = search needs
 
--- src/lib.rt:121:51
 reject-requires : tie.Need-reject-requires
 reject-requires c κs = search needs
 
--- src/lib.rt:122:29
 enum-known-event-4 : tie.Need-enum-known-event-4
 enum-known-event-4 c = search needs
 
--- src/lib.rt:122:45
 cancel-requires : tie.Need-cancel-requires
 cancel-requires c κs = search needs
 
--- src/lib.rt:112:9
 same-length : tie.Need-same-length
 same-length c = search needs
 
--- src/lib.rt:112:9
 returns : tie.Need-returns
-returns c = ?
+unfolding stepOf areaAfter answerOf
+returns c = rw (c .before .before .before .before .before .event .given .1, sym (c .before .before .before .before .before .before .before .before .desk-ok .ensures) ∙ c .before .before .before .before .before .before .before .if1 .taken) (c .before .before .post-message .ensures)
 
--- src/lib.rt:112:9
 same-length-2 : tie.Need-same-length-2
 same-length-2 c = search needs
 
--- src/lib.rt:112:9
 returns-2 : tie.Need-returns-2
-returns-2 c = ?
+unfolding stepOf areaAfter answerOf
+returns-2 c =
+    rw (c .before .before .before .before .before .event2 .given .1, sym (c .before .before .before .before .before .before .before .before .desk-ok .ensures) ∙ c .before .before .before .before .before .before .before .if1 .taken)
+    (plain-by _ _ _ _ _ _ _ _ _ (setup-plain _ _ _ _ _ _ _) (c .before .before .set-up .ensures))
 
--- src/lib.rt:112:9
 returns-3 : tie.Need-returns-3
-returns-3 c = ?
+unfolding stepOf areaAfter answerOf
+returns-3 c =
+    rw (c .before .before .event3 .given .1, sym (c .before .before .before .before .before .desk-ok .ensures) ∙ c .before .before .before .before .if1 .taken)
+    (plain-by _ _ _ _ _ _ _ _ _ (reject-plain _ _ _) (c .reject .ensures, reject-silent _ _ _ _))
 
--- src/lib.rt:112:9
 returns-4 : tie.Need-returns-4
-returns-4 c = ?
+unfolding stepOf areaAfter answerOf
+returns-4 c =
+    rw (c .before .before .event4 .given .1, sym (c .before .before .before .before .before .desk-ok .ensures) ∙ c .before .before .before .before .if1 .taken)
+    (plain-by _ _ _ _ _ _ _ _ _ (cancel-plain _ 0 _) (c .cancel .ensures, cancel-silent _ 0 _ _))
 
--- src/lib.rt:125:25
 refuse-requires : tie.Need-refuse-requires
 refuse-requires c κs = search needs
 
--- src/lib.rt:125:5
 refused-requires : tie.Need-refused-requires
 refused-requires c κs = search needs
 
--- src/lib.rt:100:1
 returns-5 : tie.Need-returns-5
-returns-5 c = ?
+unfolding stepOf areaAfter answerOf
+returns-5 c =
+    rw (sym (c .before .before .before .desk-ok .ensures) ∙ c .before .before .if1 .left)
+    (refused-by _ _ _ _ _ _ _ _ _ _ (c .refused .ensures) (c .before .refuse .ensures) refl)
 
 pub step-spec : {M : Type 1} → statement M
 step-spec =

@@ -1,56 +1,52 @@
+-- `desk::posted::post_message` meets its contract. Assumes nothing.
+use mathlib.Core.Path.{refl}
+use denote.Ref.{now}
+use lib.ListN.{length}
 use borrow.Author.Needs.{needs}
+use Rattle.desk.proofs.PostLaws.{refused-by, message-2, message-unread, message-sent}
+use Rattle.writing.proofs.RoundTrips.{read-valid}
 use Rattle.desk.proofs.posted.post_message.Statement.{statement}
 use Rattle.desk.proofs.posted.post_message.Tie as tie
-use Rattle.desk.proofs.posted.post_message.Reads as reads
-use Rattle.desk.proofs.posted.post_message.Lts as lts
-use Rattle.codec.proofs.refuse.Reads as refuse-reads
-use Rattle.desk.proofs.kept.refused.Reads as refused-reads
-use Rattle.desk.proofs.posted.sent.Reads as sent-reads
-use Rattle.reading.proofs.read.Reads as read-reads
 
--- src/posted.rt:36:16
 cast-if1 : tie.Need-cast-if1
 cast-if1 c = search needs
 
--- src/posted.rt:37:36
 refuse-requires : tie.Need-refuse-requires
 refuse-requires c κs = search needs
 
--- src/posted.rt:37:9
 refused-requires : tie.Need-refused-requires
 refused-requires c κs = search needs
 
--- src/posted.rt:37:9
 returns : tie.Need-returns
-returns c = ?
+returns c = refused-by _ _ _ _ _ _ _ _ _ _ (c .refused .ensures) (c .before .refuse .ensures) (message-2 _ _ _ _ _ _ _ (c .before .before .if1 .taken))
 
--- src/posted.rt:39:9
 read-requires : tie.Need-read-requires
 read-requires c κs = search needs
 
--- src/posted.rt:42:45
 cast-sent : tie.Need-cast-sent
 cast-sent c = search needs
 
--- src/posted.rt:42:9
 sent-requires : tie.Need-sent-requires
-sent-requires c κs = ?
+sent-requires c κs =
+    let r = c .before .before .before in
+    (c .before .before .before .before .before .before .before .before .before .before .pre, read-valid _ _ _ (r .read .result) (r .read .ensures) (c .before .before .if2 .taken))
 
--- src/posted.rt:42:9
 same-length : tie.Need-same-length
 same-length c = search needs
 
--- src/posted.rt:42:9
 returns-2 : tie.Need-returns-2
-returns-2 c = ?
+returns-2 c =
+    let r = c .before .before .before .before .before .before in
+    let a = c .before .before .before .before .before .before .before .before .before .before .before .before .before .args in
+    message-sent (a .desk) (a .rows) (a .count) _ (length (now (a .out))) _ _ (c .before .before .before .before .before .before .before .if1 .left) (r .read .result) (r .read .ensures) (c .before .before .before .before .before .if2 .taken) (now (a .out)) _ _ (c .before .before .sent .ensures)
 
--- src/posted.rt:45:5
 refused-requires-2 : tie.Need-refused-requires-2
 refused-requires-2 c κs = search needs
 
--- src/posted.rt:21:1
 returns-3 : tie.Need-returns-3
-returns-3 c = ?
+returns-3 c =
+    let r = c .before .before .before in
+    refused-by _ _ _ _ _ _ _ _ _ _ (c .refused2 .ensures) refl (message-unread _ _ _ _ _ _ _ (c .before .before .before .before .if1 .left) (r .read .result) (r .read .ensures) (c .before .before .if2 .left))
 
 pub post-message-spec : {M : Type 1} → statement M
 post-message-spec =
