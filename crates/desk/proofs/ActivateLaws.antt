@@ -111,7 +111,7 @@ unfolding acksStep acksArea acksFor
 acks-are d rows post users passes ok s x l m marks room z e q =
     let r = request d rows post users ok in
     let all = all-sent (d .profile) passes l (acksOf (d .profile .air) users (sortedOf (outcomesOf (d .profile .air) users rows post)))
-        (acks-few (d .profile) passes users _ r) room (acks-send (d .profile) passes users _ r) in
+    (acks-few (d .profile) passes users _ r) room (acks-send (d .profile) passes users _ r) in
     let ex = (rw z at (e .0)) ∙ all .0 in
     let em = (rw z at (e .1)) ∙ all .1 in
     (rw (ex, q) refl, em)

@@ -73,7 +73,7 @@ module _ (d : Desk) (post identifier : ℕ) where
       → (x ≡ laidOf (d .profile .air) (plainV 10 nobody 0 0 false nobody ∷ [])) × (m ≡ layAll (d .profile .air) l (plainV 10 nobody 0 0 false nobody ∷ []))
       → next ≡ record { place = takeOf (placesOf d) (at .place) identifier post } → marks ≡ noMarks
       → (record { answer = answer.Admitted post (at .place); laid = x; desk = record { profile = d .profile; places = next }; marks = marks }
-        ≡ plainStep d identifier (admitAnswer d post))
+      ≡ plainStep d identifier (admitAnswer d post))
       × (m ≡ plainArea d l (admitAnswer d post))
   unfolding admitAnswer plainStep plainArea deskAfter
   admitted-is at x l m next marks e z s q r = rw (e, sym z) (rw (s .0, q, r) refl, s .1)

@@ -73,8 +73,8 @@ returns-5 : tie.Need-returns-5
 returns-5 c =
     let p = c .before .before .before .before .before in
     let e = setup-party _ _ _ _ _ _ _ (sym (c .before .before .before .before .before .before .before .before .before .before .before .before .set-up-ok .ensures) ∙ c .before .before .before .before .before .before .before .before .before .before .before .if1 .taken) (c .before .before .before .before .before .before .before .before .before .before .if2 .left) (sym (c .before .before .before .before .before .before .before .before .before .records-ok .ensures) ∙ c .before .before .before .before .before .before .before .before .if3 .taken)
-            (c .before .before .before .before .before .before .before .place-of .result) (c .before .before .before .before .before .before .before .place-of .ensures) (c .before .before .before .before .before .before .if4 .left) (p .restricted .result) (p .restricted .ensures)
-            ∙ party-admit _ (p .restricted .result) (c .before .before .before .before .if5 .taken) in
+    (c .before .before .before .before .before .before .before .place-of .result) (c .before .before .before .before .before .before .before .place-of .ensures) (c .before .before .before .before .before .before .if4 .left) (p .restricted .result) (p .restricted .ensures)
+    ∙ party-admit _ (p .restricted .result) (c .before .before .before .before .if5 .taken) in
     same-plain _ _ _ _ _ _ _ e (c .before .before .admit .ensures)
 
 keeps-requires : tie.Need-keeps-requires
@@ -84,8 +84,8 @@ returns-6 : tie.Need-returns-6
 returns-6 c =
     let p = c .before .before in
     let e = setup-party _ _ _ _ _ _ _ (sym (c .before .before .before .before .before .before .before .before .before .set-up-ok .ensures) ∙ c .before .before .before .before .before .before .before .before .if1 .taken) (c .before .before .before .before .before .before .before .if2 .left) (sym (c .before .before .before .before .before .before .records-ok .ensures) ∙ c .before .before .before .before .before .if3 .taken)
-            (c .before .before .before .before .place-of .result) (c .before .before .before .before .place-of .ensures) (c .before .before .before .if4 .left) (p .restricted .result) (p .restricted .ensures)
-            ∙ party-free _ (p .restricted .result) (c .before .if5 .left) in
+    (c .before .before .before .before .place-of .result) (c .before .before .before .before .place-of .ensures) (c .before .before .before .if4 .left) (p .restricted .result) (p .restricted .ensures)
+    ∙ party-free _ (p .restricted .result) (c .before .if5 .left) in
     free-plain _ _ _ _ _ (c .keeps .ensures) e
 
 pub set-up-spec : {M : Type 1} → statement M
