@@ -193,3 +193,9 @@ write-read p l n r a m w h f room e =
       ap (λ (x : Written). x .done) ew,
       (ap (λ (x : Written). x .bits) ew ∙ k .long, λ i i<n. stands-agree (bitAt m) (bitAt l) 0 bs st (k .stands) i (omega arith) (omega (arith, k .long))),
     )
+
+-- what was read is valid
+pub read-valid : (p : Profile) (l : List ℕ) (n : ℕ) (r : Reading) → Reads p l n r → r .found ≡ true → validOf (p .air) (r .value) ≡ true
+read-valid p l n r h f =
+    subst (λ (v : Value). validOf (p .air) v ≡ true) (ap (λ (x : Reading). x .value) (sym h))
+    (found-was p l n (readOf p l n) refl (ap (λ (x : Reading). x .found) (sym h) ∙ f) .valid)

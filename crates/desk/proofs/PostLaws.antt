@@ -1,0 +1,183 @@
+-- A post's message: what follows from an answer, whichever it is, and the order up to the type. Assumes nothing.
+use Prim.Native.Nat.{ℕ, _≤_, _<_}
+use mathlib.Core.Path.{_≡_, refl, sym, ap, _∙_}
+use mathlib.Core.Bool.{Bool, true, false, not, cond}
+use mathlib.Core.List.{List, [], _∷_}
+use lib.Dec.{ltb, eqb}
+use borrow.Author.Tests.{lt-ltb, le-ltb}
+use Rattle.codec.specs.Stops.{refusal}
+use Rattle.codec.specs.declared.Stop.{Stop}
+use lib.ListN.{take}
+use Rattle.codec.specs.Codec.{Read, got, no}
+use Rattle.codec.proofs.Good.{both-left, not-both}
+use Rattle.profile.specs.Rules.{profileOk}
+use Rattle.message.specs.Groups.{firstOf}
+use Rattle.message.specs.Reading.{readOf}
+use Rattle.message.specs.declared.Group.{Group}
+use Rattle.message.specs.declared.Value.{Value}
+use Rattle.reading.specs.Answers.{readingOf}
+use Rattle.reading.specs.declared.Reading.{Reading}
+use Rattle.records.specs.Identities.{identityOf}
+use Rattle.records.specs.Records.{recordsOk, stateOf, restrictedOf}
+use Rattle.records.specs.declared.Identity.{Identity}
+use Rattle.records.specs.declared.Party.{Party}
+use Rattle.sending.specs.Sending.{layFrom, layAll}
+use Rattle.records.specs.declared.Record.{Record}
+use Rattle.places.specs.Held.{placeIn, admitsOf}
+use Rattle.places.specs.Spots.{placeOf}
+use Rattle.desk.specs.Desks.{deskOk}
+use Rattle.desk.specs.Orders.{postsOf, placesOf, unless, interrogateAnswer, endAnswer, decideAnswer, sentAnswer, readAnswer, messageAnswer, identifierOk, setUpOk, admitAnswer, partyAnswer, setUpAnswer, rejectAnswer, cancelAnswer}
+use Rattle.desk.specs.Steps.{valueBy, isAcks, plainStep, plainArea, acksStep, acksArea, stepBy, areaBy, keeps}
+use Rattle.desk.specs.declared.Answer.{Answer}
+use Rattle.desk.specs.declared.Answer.the-variants as answer
+use Rattle.desk.specs.declared.Desk.{Desk}
+use Rattle.desk.specs.declared.Stepped.{Stepped}
+use Rattle.desk.proofs.KeepLaws.{refused-plain, state-plain}
+
+module _ (d : Desk) (rows : List Record) (post : ℕ) (users : Group) (identifier : ℕ) (area m : List ℕ) (a : Answer) (r : Stepped) where
+  pub plain-by : isAcks a ≡ false → (r ≡ plainStep d identifier a) × (m ≡ plainArea d area a) → (r ≡ stepBy d rows post users identifier a) × (m ≡ areaBy d rows post users area a)
+  unfolding stepBy areaBy
+  plain-by e z = rw e z
+
+  pub acks-by : a ≡ answer.Acks → (r ≡ acksStep d rows post users) × (m ≡ acksArea d rows post users area)
+      → (r ≡ stepBy d rows post users identifier a) × (m ≡ areaBy d rows post users area a)
+  unfolding stepBy areaBy
+  acks-by e z = rw e z
+
+-- a refusal, of whatever call
+pub refused-by : (d : Desk) (rows : List Record) (post : ℕ) (users : Group) (identifier : ℕ) (area : List ℕ) (a : Answer) (s t : Stop) (r : Stepped)
+    → r ≡ keeps d (answer.Refused s) → s ≡ t → a ≡ answer.Refused t
+    → (r ≡ stepBy d rows post users identifier a) × (area ≡ areaBy d rows post users area a)
+refused-by d rows post users identifier area a s t r e z q =
+    plain-by d rows post users identifier area area a r (ap isAcks q) (refused-plain d identifier area a s t r e z q)
+
+-- ---- answers that are no ACKs
+
+pub unless-plain : (b : Bool) (c : ℕ) (a : Answer) → isAcks a ≡ false → isAcks (unless b c a) ≡ false
+unless-plain true c a e = refl
+unless-plain false c a e = e
+
+pub decide-plain : (d : Desk) (room post identifier : ℕ) (a : Answer) → isAcks a ≡ false → isAcks (decideAnswer d room post identifier a) ≡ false
+unfolding decideAnswer endAnswer
+decide-plain d room post identifier a e =
+    unless-plain (ltb room 300) 14 _
+    (unless-plain (not (placeOf (placesOf d) identifier .found)) 19 _
+    (unless-plain (not (eqb (placeIn (placesOf d) (placeOf (placesOf d) identifier .place) .post) post)) 20 a e))
+
+-- ---- INTERROGATE
+
+module _ (d : Desk) (rows : List Record) (n post : ℕ) (v : Value) where
+  pub interrogate-15 : recordsOk rows n (postsOf d) ≡ false → interrogateAnswer d rows n post v ≡ answer.Refused (refusal 15)
+  unfolding interrogateAnswer
+  interrogate-15 e = rw e refl
+
+  interrogate-state : (k : ℕ) → recordsOk rows n (postsOf d) ≡ true → k ≡ stateOf (take n rows) post (identityOf (d .profile .air) (firstOf (v .users)))
+      → interrogateAnswer d rows n post v ≡ answer.State k
+  unfolding interrogateAnswer
+  interrogate-state k e z = rw (e, z) refl
+
+  pub interrogated : (identifier k : ℕ) → recordsOk rows n (postsOf d) ≡ true → k ≡ stateOf (take n rows) post (identityOf (d .profile .air) (firstOf (v .users)))
+      → keeps d (answer.State k) ≡ plainStep d identifier (interrogateAnswer d rows n post v)
+  interrogated identifier k e z = state-plain d identifier [] (interrogateAnswer d rows n post v) k (interrogate-state k e z) .0
+
+  pub interrogate-plain : isAcks (interrogateAnswer d rows n post v) ≡ false
+  unfolding interrogateAnswer
+  interrogate-plain = unless-plain (not (recordsOk rows n (postsOf d))) 15 _ refl
+
+  -- it uses no output area
+  pub interrogate-area : (area : List ℕ) → area ≡ plainArea d area (interrogateAnswer d rows n post v)
+  unfolding interrogateAnswer plainArea layAll layFrom
+  interrogate-area area = go (not (recordsOk rows n (postsOf d)))
+    where
+      go : (b : Bool) → area ≡ plainArea d area (unless b 15 (answer.State (stateOf (take n rows) post (identityOf (d .profile .air) (firstOf (v .users))))))
+      go true = refl
+      go false = refl
+
+-- ---- 2, reading, and then by the type
+
+module _ (d : Desk) (rows : List Record) (n : ℕ) (l : List ℕ) (room post bits : ℕ) where
+  pub message-2 : postsOf d ≤ post → messageAnswer d rows n l room post bits ≡ answer.Refused (refusal 2)
+  unfolding messageAnswer
+  message-2 h = rw (le-ltb post (postsOf d) h) refl
+
+  module _ (h : post < postsOf d) (r : Reading) (z : r ≡ readingOf (readOf (d .profile) l bits)) where
+    pub message-unread : r .found ≡ false → messageAnswer d rows n l room post bits ≡ answer.Refused (r .stop)
+    unfolding messageAnswer readingOf
+    message-unread f = rw (lt-ltb post (postsOf d) h) (go (readOf (d .profile) l bits) z)
+      where
+        go : (x : Read Value) → r ≡ readingOf x → readAnswer x (λ v. sentAnswer d rows n room post v) ≡ answer.Refused (r .stop)
+        go (got v q) e = not-both (sym f ∙ ap (λ (y : Reading). y .found) e)
+        go (no s) e = ap (λ (y : Reading). answer.Refused (y .stop)) (sym e)
+
+    -- what was read is answered by its type
+    pub message-sent : r .found ≡ true → (area m : List ℕ) (s : Stepped)
+        → (s ≡ stepBy d (take n rows) post (r .value .users) (r .value .identifier) (sentAnswer d rows n room post (r .value)))
+        × (m ≡ areaBy d (take n rows) post (r .value .users) area (sentAnswer d rows n room post (r .value)))
+        → (s ≡ stepBy d (take n rows) post (valueBy (readOf (d .profile) l bits) .users) (valueBy (readOf (d .profile) l bits) .identifier) (messageAnswer d rows n l room post bits))
+        × (m ≡ areaBy d (take n rows) post (valueBy (readOf (d .profile) l bits) .users) area (messageAnswer d rows n l room post bits))
+    unfolding messageAnswer readingOf
+    message-sent f area m s = rw (lt-ltb post (postsOf d) h) (go (readOf (d .profile) l bits) z)
+      where
+        go : (x : Read Value) → r ≡ readingOf x
+            → (s ≡ stepBy d (take n rows) post (r .value .users) (r .value .identifier) (sentAnswer d rows n room post (r .value)))
+            × (m ≡ areaBy d (take n rows) post (r .value .users) area (sentAnswer d rows n room post (r .value)))
+            → (s ≡ stepBy d (take n rows) post (valueBy x .users) (valueBy x .identifier) (readAnswer x (λ v. sentAnswer d rows n room post v)))
+            × (m ≡ areaBy d (take n rows) post (valueBy x .users) area (readAnswer x (λ v. sentAnswer d rows n room post v)))
+        go (got v q) e p = rw (ap (λ (y : Reading). y .value) e) at p
+        go (no t) e p = not-both (sym (ap (λ (y : Reading). y .found) e) ∙ f)
+
+-- ---- the other calls
+
+-- an answer with no message leaves the area as it stood
+unless-silent : (d : Desk) (area : List ℕ) (b : Bool) (c : ℕ) (a : Answer) → area ≡ plainArea d area a → area ≡ plainArea d area (unless b c a)
+unfolding plainArea layAll layFrom
+unless-silent d area true c a e = refl
+unless-silent d area false c a e = e
+
+module _ (d : Desk) (post identifier : ℕ) where
+  abbrev waits : Bool
+  waits = placeOf (placesOf d) identifier .found
+
+  abbrev here : Bool
+  here = eqb (placeIn (placesOf d) (placeOf (placesOf d) identifier .place) .post) post
+
+  pub reject-plain : isAcks (rejectAnswer d post identifier) ≡ false
+  unfolding rejectAnswer endAnswer
+  reject-plain =
+      unless-plain (not (ltb post (postsOf d))) 2 _
+      (unless-plain (not (identifierOk identifier)) 16 _ (unless-plain (not waits) 19 _ (unless-plain (not here) 20 answer.Rejected refl)))
+
+  pub reject-silent : (area : List ℕ) → area ≡ plainArea d area (rejectAnswer d post identifier)
+  unfolding rejectAnswer endAnswer plainArea layAll layFrom
+  reject-silent area =
+      unless-silent d area (not (ltb post (postsOf d))) 2 _
+      (unless-silent d area (not (identifierOk identifier)) 16 _ (unless-silent d area (not waits) 19 _ (unless-silent d area (not here) 20 answer.Rejected refl)))
+
+  pub cancel-plain : isAcks (cancelAnswer d identifier) ≡ false
+  unfolding cancelAnswer
+  cancel-plain = unless-plain (not (identifierOk identifier)) 16 _ (unless-plain (not waits) 19 answer.Cancelled refl)
+
+  pub cancel-silent : (area : List ℕ) → area ≡ plainArea d area (cancelAnswer d identifier)
+  unfolding cancelAnswer plainArea layAll layFrom
+  cancel-silent area = unless-silent d area (not (identifierOk identifier)) 16 _ (unless-silent d area (not waits) 19 answer.Cancelled refl)
+
+party-plain : (d : Desk) (p : Party) → isAcks (partyAnswer d p) ≡ false
+unfolding admitAnswer
+party-plain d p = go (p .found)
+  where
+    go : (b : Bool) → isAcks (cond b (admitAnswer d (p .post)) answer.Free) ≡ false
+    go true = unless-plain (not (admitsOf (d .profile .shares) (placesOf d) (p .post))) 18 _ refl
+    go false = refl
+
+pub setup-plain : (d : Desk) (rows : List Record) (n room : ℕ) (caller called : Identity) (identifier : ℕ) → isAcks (setUpAnswer d rows n room caller called identifier) ≡ false
+unfolding setUpAnswer
+setup-plain d rows n room caller called identifier =
+    unless-plain (not (setUpOk caller called identifier)) 16 _
+    (unless-plain (ltb room 300) 14 _
+    (unless-plain (not (recordsOk rows n (postsOf d))) 15 _
+    (unless-plain (placeOf (placesOf d) identifier .found) 17 _ (party-plain d (restrictedOf (take n rows) (caller ∷ called ∷ []))))))
+
+-- 1 did not come, so the profile passes
+pub desk-passes : (d : Desk) (b : Bool) → b ≡ deskOk d → b ≡ true → profileOk (d .profile) ≡ true
+unfolding deskOk
+desk-passes d b z e = both-left _ _ (sym z ∙ e)

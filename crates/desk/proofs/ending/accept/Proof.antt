@@ -1,0 +1,72 @@
+-- `desk::ending::accept` meets its contract. Assumes nothing.
+use mathlib.Core.Path.{refl, _∙_}
+use borrow.Author.Needs.{needs}
+use Rattle.desk.proofs.EndLaws.{end-found, end-not, decide-14, decide-end, decided}
+use Rattle.desk.proofs.KeepLaws.{refused-plain}
+use Rattle.sending.proofs.AckLaws.{accepted-sends}
+use Rattle.sending.proofs.SentLaws.{one-sent}
+use Rattle.desk.proofs.ending.accept.Statement.{statement}
+use Rattle.desk.proofs.ending.accept.Tie as tie
+
+refuse-requires : tie.Need-refuse-requires
+refuse-requires c κs = search needs
+
+refused-requires : tie.Need-refused-requires
+refused-requires c κs = search needs
+
+returns : tie.Need-returns
+returns c = refused-plain _ _ _ _ _ _ _ (c .refused .ensures) (c .before .refuse .ensures) (decide-14 _ _ _ _ _ (c .before .before .if1 .taken))
+
+ending-of-requires : tie.Need-ending-of-requires
+ending-of-requires c κs = search needs
+
+plain-value-requires : tie.Need-plain-value-requires
+plain-value-requires c κs = search needs
+
+no-laid-requires : tie.Need-no-laid-requires
+no-laid-requires c κs = search needs
+
+send-requires : tie.Need-send-requires
+send-requires c κs = search needs
+
+ended-requires : tie.Need-ended-requires
+ended-requires c κs = search needs
+
+same-length : tie.Need-same-length
+same-length c = search needs
+
+returns-2 : tie.Need-returns-2
+returns-2 c =
+    let s = c .before .before .before in
+    let e = c .before .before .before .before .before .before .before .before .before in
+    let a = c .before .before .before .before .before .before .before .before .before .before .before .before in
+    let f = end-found _ _ _ _ (e .ending-of .result) (e .ending-of .ensures) (c .before .before .before .before .before .before .before .before .if2 .taken) in
+    decided _ _ _ _ _ _ _ _ _ (decide-end _ _ _ _ _ (c .before .before .before .before .before .before .before .before .before .before .if1 .left) ∙ f .0) refl (f .1)
+    (one-sent _ (a .pre) _ _ _ _ _ _ (accepted-sends _ (a .pre)) (c .before .before .before .before .before .before .before .before .before .before .if1 .left) (c .before .before .before .before .before .no-laid .ensures) (c .before .before .before .before .before .before .plain-value .ensures) (s .send .ensures))
+    (c .ended .ensures)
+
+refused-requires-2 : tie.Need-refused-requires-2
+refused-requires-2 c κs = search needs
+
+returns-3 : tie.Need-returns-3
+returns-3 c =
+    let e = c .before .before .before in
+    refused-plain _ _ _ _ _ _ _ (c .refused2 .ensures) refl
+    (decide-end _ _ _ _ _ (c .before .before .before .before .if1 .left) ∙ end-not _ _ _ _ (e .ending-of .result) (e .ending-of .ensures) (c .before .before .if2 .left))
+
+pub accept-spec : {M : Type 1} → statement M
+accept-spec =
+    tie.close
+    (tie.spec
+    refuse-requires
+    refused-requires
+    returns
+    ending-of-requires
+    plain-value-requires
+    no-laid-requires
+    send-requires
+    ended-requires
+    same-length
+    returns-2
+    refused-requires-2
+    returns-3)

@@ -1,0 +1,163 @@
+-- What each call does, once it is answered: the answer decides it. A refusal does nothing.
+use Prim.Native.Nat.{ℕ}
+use mathlib.Core.Bool.{Bool, true, false, cond}
+use mathlib.Core.List.{List, [], _∷_}
+use lib.ListN.{take, length}
+use Rattle.codec.specs.Codec.{Read, got, no}
+use Rattle.profile.specs.declared.Profile.{Profile}
+use Rattle.message.specs.Addresses.{nobody}
+use Rattle.message.specs.Groups.{noGroup}
+use Rattle.message.specs.Values.{plainV, noValue}
+use Rattle.message.specs.Reading.{readOf}
+use Rattle.message.specs.declared.Group.{Group}
+use Rattle.message.specs.declared.Value.{Value}
+use Rattle.places.specs.Spots.{placeOf, lowestFree, takeOf, clearOf}
+use Rattle.places.specs.declared.Place.{Place}
+use Rattle.records.specs.Identities.{identitiesOf}
+use Rattle.records.specs.Outcomes.{outcomesOf, sortedOf}
+use Rattle.records.specs.Marking.{marksOf, noMarks}
+use Rattle.records.specs.declared.Record.{Record}
+use Rattle.sending.specs.Sending.{layAll, noLaid, laidOf}
+use Rattle.sending.specs.declared.Laid.{Laid}
+use Rattle.sending.specs.Acks.{acksOf}
+use Rattle.desk.specs.Orders.{placesOf, answerOf}
+use Rattle.desk.specs.declared.Answer.{Answer}
+use Rattle.desk.specs.declared.Answer.the-variants as answer
+use Rattle.desk.specs.declared.Desk.{Desk}
+use Rattle.desk.specs.declared.Event.{Event}
+use Rattle.desk.specs.declared.Event.the-variants as event
+use Rattle.desk.specs.declared.Stepped.{Stepped}
+
+-- ---- the desk afterwards
+
+-- what a call does to the waiting calls
+pub data Effect : Type 0 where
+  nothing : Effect
+  begins : ℕ → ℕ → Effect  -- a call with this identifier waits at this post from now on
+  ends : ℕ → Effect  -- the call with this identifier waits no more
+
+-- the message that was read
+abbrev pub valueBy : Read Value → Value
+valueBy (got v n) = v
+valueBy (no s) = noValue
+
+-- the users that it names
+abbrev pub usersOf : Profile → List ℕ → Event → Group
+usersOf p l (event.Message post bits) = valueBy (readOf p l bits) .users
+usersOf p l (event.SetUp caller called identifier) = noGroup
+usersOf p l (event.Reject post identifier) = noGroup
+usersOf p l (event.Cancel identifier) = noGroup
+
+-- the call that an event speaks of
+abbrev pub identifierOf : Profile → List ℕ → Event → ℕ
+identifierOf p l (event.Message post bits) = valueBy (readOf p l bits) .identifier
+identifierOf p l (event.SetUp caller called identifier) = identifier
+identifierOf p l (event.Reject post identifier) = identifier
+identifierOf p l (event.Cancel identifier) = identifier
+
+-- an admission begins, an accept, a divert, a reject, a cancel that was answered so ends; everything else changes nothing
+abbrev pub effectBy : ℕ → Answer → Effect
+effectBy identifier (answer.Refused s) = nothing
+effectBy identifier answer.Acks = nothing
+effectBy identifier (answer.State k) = nothing
+effectBy identifier answer.Free = nothing
+effectBy identifier (answer.Admitted post place) = begins identifier post
+effectBy identifier answer.Proceed = ends identifier
+effectBy identifier answer.Diverted = ends identifier
+effectBy identifier answer.Rejected = ends identifier
+effectBy identifier answer.Cancelled = ends identifier
+
+unfoldable pub effectOf : Profile → List ℕ → Event → Answer → Effect
+effectOf p l e a = effectBy (identifierOf p l e) a
+
+-- the lowest free place is taken; a place that is freed is the one of the identifier
+abbrev pub placesAfter : List Place → Effect → List Place
+placesAfter places nothing = places
+placesAfter places (begins identifier post) = takeOf places (lowestFree places .place) identifier post
+placesAfter places (ends identifier) = clearOf places (placeOf places identifier .place)
+
+unfoldable pub deskAfter : Desk → Effect → Desk
+deskAfter d x = record { profile = d .profile; places = record { place = placesAfter (placesOf d) x } }
+
+-- ---- every answer but that of an ACTIVATE
+
+-- the message that goes with it: INTERCEPTED with cause 0, ACCEPTED, DIVERTED with cause 0, none with an option
+abbrev pub messagesBy : Answer → List Value
+messagesBy (answer.Refused s) = []
+messagesBy answer.Acks = []
+messagesBy (answer.State k) = []
+messagesBy answer.Free = []
+messagesBy (answer.Admitted post place) = plainV 10 nobody 0 0 false nobody ∷ []
+messagesBy answer.Proceed = plainV 13 nobody 0 0 false nobody ∷ []
+messagesBy answer.Diverted = plainV 16 nobody 0 0 false nobody ∷ []
+messagesBy answer.Rejected = []
+messagesBy answer.Cancelled = []
+
+unfoldable pub plainStep : Desk → ℕ → Answer → Stepped
+plainStep d identifier a =
+    record { answer = a; laid = laidOf (d .profile .air) (messagesBy a); desk = deskAfter d (effectBy identifier a); marks = noMarks }
+
+unfoldable pub plainArea : Desk → List ℕ → Answer → List ℕ
+plainArea d area a = layAll (d .profile .air) area (messagesBy a)
+
+-- ---- an ACTIVATE that is carried out: its ACKs, and the marks of the accepted ones
+
+unfoldable pub acksFor : Desk → List Record → ℕ → Group → List Value
+acksFor d rows post users = acksOf (d .profile .air) users (sortedOf (outcomesOf (d .profile .air) users rows post))
+
+unfoldable pub acksStep : Desk → List Record → ℕ → Group → Stepped
+acksStep d rows post users =
+    record {
+      answer = answer.Acks;
+      laid = laidOf (d .profile .air) (acksFor d rows post users);
+      desk = d;
+      marks = marksOf rows post (identitiesOf (d .profile .air) users);
+    }
+
+unfoldable pub acksArea : Desk → List Record → ℕ → Group → List ℕ → List ℕ
+acksArea d rows post users area = layAll (d .profile .air) area (acksFor d rows post users)
+
+-- ---- what follows from an answer
+
+abbrev pub isAcks : Answer → Bool
+isAcks (answer.Refused s) = false
+isAcks answer.Acks = true
+isAcks (answer.State k) = false
+isAcks answer.Free = false
+isAcks (answer.Admitted post place) = false
+isAcks answer.Proceed = false
+isAcks answer.Diverted = false
+isAcks answer.Rejected = false
+isAcks answer.Cancelled = false
+
+-- to a call from a post, of these users and this identifier
+unfoldable pub stepBy : Desk → List Record → ℕ → Group → ℕ → Answer → Stepped
+stepBy d rows post users identifier a = cond (isAcks a) (acksStep d rows post users) (plainStep d identifier a)
+
+unfoldable pub areaBy : Desk → List Record → ℕ → Group → List ℕ → Answer → List ℕ
+areaBy d rows post users area a = cond (isAcks a) (acksArea d rows post users area) (plainArea d area a)
+
+-- ---- every call
+
+abbrev pub postOf : Event → ℕ
+postOf (event.Message post bits) = post
+postOf (event.SetUp caller called identifier) = 0
+postOf (event.Reject post identifier) = post
+postOf (event.Cancel identifier) = 0
+
+unfoldable pub stepOf : Desk → List Record → ℕ → List ℕ → List ℕ → Event → Stepped
+stepOf d rows n l area e =
+    stepBy d (take n rows) (postOf e) (usersOf (d .profile) l e) (identifierOf (d .profile) l e) (answerOf d rows n l (length area) e)
+
+unfoldable pub areaAfter : Desk → List Record → ℕ → List ℕ → List ℕ → Event → List ℕ
+areaAfter d rows n l area e = areaBy d (take n rows) (postOf e) (usersOf (d .profile) l e) area (answerOf d rows n l (length area) e)
+
+-- ---- the same, as the code has it
+
+-- an answer that changes nothing
+unfoldable pub keeps : Desk → Answer → Stepped
+keeps d a = record { answer = a; laid = noLaid; desk = d; marks = noMarks }
+
+-- an answer that frees a place
+unfoldable pub endedStep : Desk → ℕ → Answer → Laid → Stepped
+endedStep d place a x = record { answer = a; laid = x; desk = record { profile = d .profile; places = record { place = clearOf (placesOf d) place } }; marks = noMarks }

@@ -1,0 +1,156 @@
+// How a waiting call ends: by ACCEPT or DIVERT from its post, by a reject from it, by a cancel from the switch.
+ghost use mathlib.Core.Path.{_≡_};
+ghost use mathlib.Core.Bool.{true, false};
+ghost use Prim.Native.Nat.{_≤_};
+ghost use lib.ListN.{length};
+ghost use Rattle.profile.specs.Rules.{profileOk};
+ghost use Rattle.places.specs.Held.{placeIn};
+ghost use Rattle.places.specs.Spots.{clearOf};
+ghost use Rattle.desk.specs.Orders.{placesOf, decideAnswer, rejectAnswer, cancelAnswer, endingOf};
+ghost use Rattle.desk.specs.Steps.{plainStep, plainArea, endedStep};
+ghost use Rattle.desk.specs.declared.Answer.the-variants as answer;
+use crate::Answer;
+use crate::Desk;
+use crate::Stepped;
+use crate::kept;
+use codec::Stop;
+use places::Place;
+use profile::Shares;
+use sending::Laid;
+
+// The place of a call that its post may end, or 19 or 20.
+pub struct Ending {
+    pub found: bool,
+    pub stop: Stop,
+    pub place: u8,
+}
+
+pub(crate) fn accept(desk: Desk, post: u8, identifier: u32, out: &mut [u8]) -> Stepped
+    requires { ⌜ profileOk (desk .profile) ≡ true ⌝ }
+    ensures { λ r. ⌜ (r ≡ plainStep desk identifier (decideAnswer desk (length (now (out .entry))) post identifier answer.Proceed))
+        × (now (out .exit) ≡ plainArea desk (now (out .entry)) (decideAnswer desk (length (now (out .entry))) post identifier answer.Proceed)) ⌝ }
+{
+    if out.len() < 300 {
+        return kept::refused(desk, codec::refuse(14));
+    }
+    let e = ending_of(desk, post, identifier);
+    if e.found {
+        let profile = desk.profile;
+        let accepted = message::plain_value(13, message::NOBODY, 0, 0, false, message::NOBODY);
+        let laid = sending::send(profile, sending::no_laid(), accepted, out);
+        return ended(desk, e.place, Answer::Proceed, laid);
+    }
+    let s = e.stop;
+    kept::refused(desk, s)
+}
+
+pub(crate) fn divert(desk: Desk, post: u8, identifier: u32, out: &mut [u8]) -> Stepped
+    requires { ⌜ profileOk (desk .profile) ≡ true ⌝ }
+    ensures { λ r. ⌜ (r ≡ plainStep desk identifier (decideAnswer desk (length (now (out .entry))) post identifier answer.Diverted))
+        × (now (out .exit) ≡ plainArea desk (now (out .entry)) (decideAnswer desk (length (now (out .entry))) post identifier answer.Diverted)) ⌝ }
+{
+    if out.len() < 300 {
+        return kept::refused(desk, codec::refuse(14));
+    }
+    let e = ending_of(desk, post, identifier);
+    if e.found {
+        let profile = desk.profile;
+        let diverted = message::plain_value(16, message::NOBODY, 0, 0, false, message::NOBODY);
+        let laid = sending::send(profile, sending::no_laid(), diverted, out);
+        return ended(desk, e.place, Answer::Diverted, laid);
+    }
+    let s = e.stop;
+    kept::refused(desk, s)
+}
+
+pub(crate) fn reject(desk: Desk, post: u64, identifier: u32) -> Stepped
+    ensures { λ r. ⌜ r ≡ plainStep desk identifier (rejectAnswer desk post identifier) ⌝ }
+{
+    let profile = desk.profile;
+    let shares = profile.shares;
+    if post >= shares.posts as u64 {
+        return kept::refused(desk, codec::refuse(2));
+    }
+    if identifier >= 0x4000 {
+        return kept::refused(desk, codec::refuse(16));
+    }
+    let e = ending_of(desk, post as u8, identifier);
+    if e.found {
+        return ended(desk, e.place, Answer::Rejected, sending::no_laid());
+    }
+    let s = e.stop;
+    kept::refused(desk, s)
+}
+
+pub(crate) fn cancel(desk: Desk, identifier: u32) -> Stepped
+    ensures { λ r. ⌜ r ≡ plainStep desk identifier (cancelAnswer desk identifier) ⌝ }
+{
+    if identifier >= 0x4000 {
+        return kept::refused(desk, codec::refuse(16));
+    }
+    let places = desk.places;
+    let at = places::place_of(places, identifier);
+    if at.found {
+        return ended(desk, at.place, Answer::Cancelled, sending::no_laid());
+    }
+    kept::refused(desk, codec::refuse(19))
+}
+
+fn ending_of(desk: Desk, post: u8, identifier: u32) -> Ending
+    ensures { λ r. ⌜ r ≡ endingOf desk post identifier ⌝ }
+{
+    let places = desk.places;
+    let at = places::place_of(places, identifier);
+    if at.found {
+        let list = places.place;
+        if post_at(list, at.place) == post {
+            return Ending {
+                found: true,
+                stop: codec::no_stop(),
+                place: at.place,
+            };
+        }
+        return no_ending(codec::refuse(20));
+    }
+    no_ending(codec::refuse(19))
+}
+
+fn no_ending(stop: Stop) -> Ending
+    ensures { λ r. ⌜ r ≡ record { found = false; stop = stop; place = 0 } ⌝ }
+{
+    Ending {
+        found: false,
+        stop: stop,
+        place: 0,
+    }
+}
+
+// The post of the call in a place; of no place 0.
+fn post_at(list: [Place; 32], at: u8) -> u8
+    ensures { λ r. ⌜ r ≡ placeIn list at .post ⌝ }
+{
+    let i = at as usize;
+    if i < Shares::PLACES {
+        let p = list[i];
+        return p.post;
+    }
+    0
+}
+
+// The call in the place waits no more.
+fn ended(desk: Desk, place: u8, answer: Answer, laid: Laid) -> Stepped
+    ensures { λ r. ⌜ r ≡ endedStep desk place answer laid ⌝ }
+{
+    let profile = desk.profile;
+    let places = desk.places;
+    let next = places::clear(places, place);
+    Stepped {
+        answer: answer,
+        laid: laid,
+        desk: Desk {
+            profile: profile,
+            places: next,
+        },
+        marks: records::no_marks(),
+    }
+}

@@ -1,0 +1,98 @@
+// A post's message.
+ghost use mathlib.Core.Path.{_≡_};
+ghost use mathlib.Core.Bool.{true};
+ghost use lib.ListN.{length, take, getD};
+ghost use Rattle.message.specs.Addresses.{nobody};
+ghost use Rattle.profile.specs.Rules.{profileOk};
+ghost use Rattle.message.specs.Reading.{readOf};
+ghost use Rattle.validity.specs.Validity.{validOf};
+ghost use Rattle.desk.specs.Orders.{interrogateAnswer, sentAnswer, messageAnswer};
+ghost use Rattle.desk.specs.Steps.{valueBy, plainStep, stepBy, areaBy};
+use crate::Answer;
+use crate::Desk;
+use crate::Stepped;
+use crate::activate;
+use crate::ending;
+use crate::kept;
+use message::Address;
+use message::Value;
+use records::Record;
+
+pub(crate) fn post_message(
+    desk: Desk,
+    rows: [Record; 128],
+    count: usize,
+    message: &[u8],
+    out: &mut [u8],
+    post: u64,
+    bits: u64,
+) -> Stepped
+    requires { ⌜ profileOk (desk .profile) ≡ true ⌝ }
+    ensures { λ r. ⌜ (r ≡ stepBy desk (take count rows) post (valueBy (readOf (desk .profile) (now (message .entry)) bits) .users) (valueBy (readOf (desk .profile) (now (message .entry)) bits) .identifier) (messageAnswer desk rows count (now (message .entry)) (length (now (out .entry))) post bits))
+        × (now (out .exit) ≡ areaBy desk (take count rows) post (valueBy (readOf (desk .profile) (now (message .entry)) bits) .users) (now (out .entry)) (messageAnswer desk rows count (now (message .entry)) (length (now (out .entry))) post bits)) ⌝ }
+{
+    let profile = desk.profile;
+    let shares = profile.shares;
+    if post >= shares.posts as u64 {
+        return kept::refused(desk, codec::refuse(2));
+    }
+    let r = reading::read(profile, message, bits as usize);
+    if r.found {
+        let value = r.value;
+        return sent(desk, rows, count, out, post as u8, value);
+    }
+    let s = r.stop;
+    kept::refused(desk, s)
+}
+
+// By its type; 8 for those that posts don't send.
+fn sent(
+    desk: Desk,
+    rows: [Record; 128],
+    count: usize,
+    out: &mut [u8],
+    post: u8,
+    value: Value,
+) -> Stepped
+    requires { ⌜ (profileOk (desk .profile) ≡ true) × (validOf (desk .profile .air) value ≡ true) ⌝ }
+    ensures { λ r. ⌜ (r ≡ stepBy desk (take count rows) post (value .users) (value .identifier) (sentAnswer desk rows count (length (now (out .entry))) post value))
+        × (now (out .exit) ≡ areaBy desk (take count rows) post (value .users) (now (out .entry)) (sentAnswer desk rows count (length (now (out .entry))) post value)) ⌝ }
+{
+    let pdu = value.pdu;
+    if pdu == 2 {
+        return activate::activate(desk, rows, count, post, value, out);
+    }
+    if pdu == 8 {
+        return interrogate(desk, rows, count, post, value);
+    }
+    if pdu == 12 {
+        return ending::accept(desk, post, value.identifier, out);
+    }
+    if pdu == 15 {
+        return ending::divert(desk, post, value.identifier, out);
+    }
+    kept::refused(desk, codec::refuse(8))
+}
+
+fn interrogate(desk: Desk, rows: [Record; 128], count: usize, post: u8, value: Value) -> Stepped
+    ensures { λ r. ⌜ r ≡ plainStep desk (value .identifier) (interrogateAnswer desk rows count post value) ⌝ }
+{
+    let profile = desk.profile;
+    let air = profile.air;
+    let shares = profile.shares;
+    let users = value.users;
+    let list = users.addresses;
+    if records::records_ok(rows, count, shares.posts) {} else {
+        return kept::refused(desk, codec::refuse(15));
+    }
+    kept::keeps(
+        desk,
+        Answer::State(records::state_of(air, rows, count, post, first(list))),
+    )
+}
+
+fn first(list: [Address; 15]) -> Address
+    ensures { λ r. ⌜ r ≡ getD list 0 nobody ⌝ }
+{
+    list[0]
+}

@@ -1,0 +1,102 @@
+// A call being set up.
+ghost use mathlib.Core.Path.{_≡_};
+ghost use mathlib.Core.Bool.{true};
+ghost use Prim.Native.Nat.{_<_, _≤_, _^_};
+ghost use lib.ListN.{length};
+ghost use Rattle.profile.specs.Rules.{profileOk};
+ghost use Rattle.desk.specs.Orders.{partyOk, setUpOk, admitAnswer, setUpAnswer};
+ghost use Rattle.desk.specs.Steps.{plainStep, plainArea};
+use crate::Answer;
+use crate::Desk;
+use crate::Stepped;
+use crate::kept;
+use records::Identity;
+use records::Record;
+
+pub(crate) fn set_up(
+    desk: Desk,
+    rows: [Record; 128],
+    count: usize,
+    out: &mut [u8],
+    caller: Identity,
+    called: Identity,
+    identifier: u32,
+) -> Stepped
+    requires { ⌜ profileOk (desk .profile) ≡ true ⌝ }
+    ensures { λ r. ⌜ (r ≡ plainStep desk identifier (setUpAnswer desk rows count (length (now (out .entry))) caller called identifier))
+        × (now (out .exit) ≡ plainArea desk (now (out .entry)) (setUpAnswer desk rows count (length (now (out .entry))) caller called identifier)) ⌝ }
+{
+    let profile = desk.profile;
+    let shares = profile.shares;
+    let places = desk.places;
+    if set_up_ok(caller, called, identifier) {} else {
+        return kept::refused(desk, codec::refuse(16));
+    }
+    if out.len() < 300 {
+        return kept::refused(desk, codec::refuse(14));
+    }
+    if records::records_ok(rows, count, shares.posts) {} else {
+        return kept::refused(desk, codec::refuse(15));
+    }
+    let waiting = places::place_of(places, identifier);
+    if waiting.found {
+        return kept::refused(desk, codec::refuse(17));
+    }
+    let party = records::restricted(rows, count, caller, called);
+    if party.found {
+        return admit(desk, party.post, identifier, out);
+    }
+    kept::keeps(desk, Answer::Free)
+}
+
+// The places rule for the post, and the lowest free place.
+fn admit(desk: Desk, post: u8, identifier: u32, out: &mut [u8]) -> Stepped
+    requires { ⌜ (profileOk (desk .profile) ≡ true) × ((identifier < 2 ^ 14) × (300 ≤ length (now out))) ⌝ }
+    ensures { λ r. ⌜ (r ≡ plainStep desk identifier (admitAnswer desk post))
+        × (now (out .exit) ≡ plainArea desk (now (out .entry)) (admitAnswer desk post)) ⌝ }
+{
+    let profile = desk.profile;
+    let shares = profile.shares;
+    let places = desk.places;
+    if places::admits(shares, places, post) {} else {
+        return kept::refused(desk, codec::refuse(18));
+    }
+    let at = places::lowest_free(places);
+    let intercepted = message::plain_value(10, message::NOBODY, 0, 0, false, message::NOBODY);
+    let laid = sending::send(profile, sending::no_laid(), intercepted, out);
+    let next = places::take(places, at.place, identifier as u16, post);
+    Stepped {
+        answer: Answer::Admitted {
+            post: post,
+            place: at.place,
+        },
+        laid: laid,
+        desk: Desk {
+            profile: profile,
+            places: next,
+        },
+        marks: records::no_marks(),
+    }
+}
+
+// 16 does not come.
+fn set_up_ok(caller: Identity, called: Identity, identifier: u32) -> bool
+    ensures { λ r. ⌜ r ≡ setUpOk caller called identifier ⌝ }
+{
+    if identifier < 0x4000 {} else {
+        return false;
+    }
+    if party_ok(caller) {
+        return party_ok(called);
+    }
+    false
+}
+
+fn party_ok(party: Identity) -> bool
+    ensures { λ r. ⌜ r ≡ partyOk party ⌝ }
+{
+    if party.ssi < 0x100_0000 {
+        return party.extension < 0x100_0000;
+    }
+    false
+}
