@@ -1,5 +1,7 @@
 -- The refusals on their way to the caller. Whatever a refusal will carry goes in here, and at the three functions that equal these.
 use Prim.Native.Nat.{ℕ}
+use mathlib.Core.Bool.{Bool, _&&_}
+use lib.Dec.{leb}
 use Rattle.codec.specs.declared.Stop.{Stop}
 
 -- 4: the element that begins at position at reaches past the bit length
@@ -13,3 +15,7 @@ refusal c = record { number = c }
 -- what stands beside an answer that is no refusal
 unfoldable pub noStop : Stop
 noStop = record { number = 0 }
+
+-- document 01's table has the numbers from 1 to 22
+unfoldable pub published : ℕ → Bool
+published n = leb 1 n && leb n 22

@@ -4,3 +4,8 @@ pub mod EndLaws
 pub mod SetUpLaws
 pub mod ActivateLaws
 pub mod PostLaws
+pub mod AnswerLaws
+pub mod Exactly
+pub mod Refusals
+pub mod SetUps
+pub mod Cases

@@ -1,3 +1,4 @@
 pub mod Desks
 pub mod Orders
+pub mod Grounds
 pub mod Steps

@@ -4,4 +4,5 @@ pub mod AckLaws
 pub mod ValueLaws
 pub mod MessageLaws
 pub mod ReadingLaws
+pub mod StopLaws
 pub mod Cases

@@ -1,6 +1,6 @@
 -- Reading a message: document 01's order, 1, then 3, then along the bits, then 13.
 use Prim.Native.Nat.{ℕ, _*_}
-use mathlib.Core.Bool.{Bool, cond}
+use mathlib.Core.Bool.{Bool, cond, not}
 use mathlib.Core.List.{List}
 use lib.Dec.{eqb, leb}
 use lib.ListN.{length}
@@ -29,3 +29,7 @@ readBits air l n = cond (lengthOk l n) (wholeOf air (bitAt l) n) (no (refusal 3)
 
 unfoldable pub readOf : Profile → List ℕ → ℕ → Read Value
 readOf p l n = cond (profileOk p) (readBits (p .air) l n) (no (refusal 1))
+
+-- the numbers that reading gives once 1 does not come: 3 to 13 without 8
+unfoldable pub isReading : ℕ → Bool
+isReading c = both (both (leb 3 c) (leb c 13)) (not (eqb c 8))

@@ -1,5 +1,6 @@
 pub mod IdentityLaws
 pub mod RecordLaws
+pub mod PartyLaws
 pub mod OutcomeLaws
 pub mod MaskLaws
 pub mod MarkLaws

@@ -77,3 +77,21 @@ restrictedBy rows (found.At i) next = cond (restricts (rowOf rows i)) (partyOf (
 unfoldable pub restrictedOf : List Record → List Identity → Party
 restrictedOf rows [] = noParty
 restrictedOf rows (id ∷ ids) = restrictedBy rows (recordOf rows id) (restrictedOf rows ids)
+
+-- ---- the same, party by party
+
+abbrev pub restrictsBy : List Record → Found → Bool
+restrictsBy rows found.Nobody = false
+restrictsBy rows (found.At i) = restricts (rowOf rows i)
+
+-- a party is restricted if its record restricts
+unfoldable pub isRestricted : List Record → Identity → Bool
+isRestricted rows id = restrictsBy rows (recordOf rows id)
+
+abbrev pub postBy : List Record → Found → ℕ
+postBy rows found.Nobody = 0
+postBy rows (found.At i) = rowOf rows i .post
+
+-- the post of a party's record
+unfoldable pub postFor : List Record → Identity → ℕ
+postFor rows id = postBy rows (recordOf rows id)

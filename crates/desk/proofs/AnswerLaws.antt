@@ -1,0 +1,152 @@
+-- Which answers each call can give, and that the step's answer is the one that the call's order gives. Assumes nothing.
+use Prim.Native.Nat.{ℕ}
+use mathlib.Core.Path.{_≡_, refl, sym, ap, _∙_}
+use mathlib.Core.Bool.{Bool, true, false, not, cond}
+use mathlib.Core.List.{List, [], _∷_}
+use native.Mathlib.Omega.{arith}
+use lib.Dec.{eqb, leb, ltb}
+use lib.ListN.{length, take}
+use borrow.Author.Tests.{le-leb, leb-true}
+use Rattle.codec.specs.Codec.{Read, got, no, both}
+use Rattle.codec.specs.Stops.{refusal, published}
+use Rattle.codec.specs.declared.Stop.{Stop}
+use Rattle.codec.proofs.Good.{both-true, both-left, both-right}
+use Rattle.profile.specs.Rules.{profileOk}
+use Rattle.message.specs.Reading.{readOf, isReading}
+use Rattle.message.specs.declared.Group.{Group}
+use Rattle.message.specs.declared.Value.{Value}
+use Rattle.message.proofs.StopLaws.{read-known}
+use Rattle.places.specs.Held.{admitsOf}
+use Rattle.records.specs.Records.{recordsOk, restrictedOf}
+use Rattle.records.specs.declared.Identity.{Identity}
+use Rattle.records.specs.declared.Party.{Party}
+use Rattle.records.specs.declared.Record.{Record}
+use Rattle.desk.specs.Desks.{deskOk}
+use Rattle.desk.specs.Grounds.{waits, waitsHere}
+use Rattle.desk.specs.Orders.{unless, postsOf, placesOf, namesDispatchers, activateAnswer, interrogateAnswer, endAnswer, decideAnswer, sentAnswer, readAnswer, messageAnswer, identifierOk, setUpOk, admitAnswer, partyAnswer, setUpAnswer, rejectAnswer, cancelAnswer, eventAnswer, answerOf}
+use Rattle.desk.specs.Steps.{plainStep, acksStep, stepBy, stepOf}
+use Rattle.desk.specs.declared.Answer.{Answer}
+use Rattle.desk.specs.declared.Answer.the-variants as answer
+use Rattle.desk.specs.declared.Desk.{Desk}
+use Rattle.desk.specs.declared.Event.{Event}
+use Rattle.desk.specs.declared.Event.the-variants as event
+
+by-answer : (d : Desk) (rows : List Record) (post : ℕ) (users : Group) (identifier : ℕ) (a : Answer) → stepBy d rows post users identifier a .answer ≡ a
+unfolding stepBy plainStep acksStep
+by-answer d rows post users identifier (answer.Refused s) = refl
+by-answer d rows post users identifier answer.Acks = refl
+by-answer d rows post users identifier (answer.State k) = refl
+by-answer d rows post users identifier answer.Free = refl
+by-answer d rows post users identifier (answer.Admitted p i) = refl
+by-answer d rows post users identifier answer.Proceed = refl
+by-answer d rows post users identifier answer.Diverted = refl
+by-answer d rows post users identifier answer.Rejected = refl
+by-answer d rows post users identifier answer.Cancelled = refl
+
+-- the answer of the step is the one that the order gives
+pub step-answer : (d : Desk) (rows : List Record) (n : ℕ) (l area : List ℕ) (e : Event) → stepOf d rows n l area e .answer ≡ answerOf d rows n l (length area) e
+unfolding stepOf
+step-answer d rows n l area e = by-answer d (take n rows) _ _ _ (answerOf d rows n l (length area) e)
+
+-- ---- a test that passes every refusal in the table passes a call's answer if it passes what the call can be answered otherwise
+
+-- the table's numbers past 1, which comes before every call's own order
+unfoldable pub pastOne : ℕ → Bool
+pastOne c = both (leb 2 c) (leb c 22)
+
+pub past-published : (c : ℕ) → pastOne c ≡ true → published c ≡ true
+unfolding pastOne published
+past-published c e =
+    let low = leb-true 2 c (both-left _ _ e) in
+    let high = leb-true c 22 (both-right (leb 2 c) _ e) in
+    rw (le-leb 1 c (omega arith), le-leb c 22 high)
+
+reading-past : (c : ℕ) → isReading c ≡ true → pastOne c ≡ true
+unfolding isReading pastOne
+reading-past c e =
+    let b = both-left (both (leb 3 c) (leb c 13)) _ e in
+    let low = leb-true 3 c (both-left _ _ b) in
+    let high = leb-true c 13 (both-right (leb 3 c) _ b) in
+    both-true _ _ (le-leb 2 c (omega arith)) (le-leb c 22 (omega arith))
+
+module _ (ok : Answer → Bool) (refused : (s : Stop) → pastOne (s .number) ≡ true → ok (answer.Refused s) ≡ true) where
+  unless-ok : (b : Bool) (c : ℕ) (a : Answer) → pastOne c ≡ true → ok a ≡ true → ok (unless b c a) ≡ true
+  unfolding refusal
+  unless-ok true c a p e = refused (refusal c) p
+  unless-ok false c a p e = e
+
+  module _ (d : Desk) where
+    end-ok : (post identifier : ℕ) (a : Answer) → ok a ≡ true → ok (endAnswer d post identifier a) ≡ true
+    unfolding endAnswer pastOne both
+    end-ok post identifier a e = unless-ok (not (waits d identifier)) 19 _ refl (unless-ok (not (waitsHere d post identifier)) 20 a refl e)
+
+    reject-ok : (post identifier : ℕ) → ok answer.Rejected ≡ true → ok (rejectAnswer d post identifier) ≡ true
+    unfolding rejectAnswer pastOne both
+    reject-ok post identifier e =
+        unless-ok (not (ltb post (postsOf d))) 2 _ refl (unless-ok (not (identifierOk identifier)) 16 _ refl (end-ok post identifier answer.Rejected e))
+
+    cancel-ok : (identifier : ℕ) → ok answer.Cancelled ≡ true → ok (cancelAnswer d identifier) ≡ true
+    unfolding cancelAnswer pastOne both
+    cancel-ok identifier e = unless-ok (not (identifierOk identifier)) 16 _ refl (unless-ok (not (waits d identifier)) 19 answer.Cancelled refl e)
+
+    party-ok : (p : Party) → ok answer.Free ≡ true → ((post place : ℕ) → ok (answer.Admitted post place) ≡ true) → ok (partyAnswer d p) ≡ true
+    unfolding admitAnswer pastOne both
+    party-ok p free admitted = go (p .found)
+      where
+        go : (b : Bool) → ok (cond b (admitAnswer d (p .post)) answer.Free) ≡ true
+        go true = unless-ok (not (admitsOf (d .profile .shares) (placesOf d) (p .post))) 18 _ refl (admitted _ _)
+        go false = free
+
+    setup-ok : (rows : List Record) (n room : ℕ) (caller called : Identity) (identifier : ℕ) → ok answer.Free ≡ true
+        → ((post place : ℕ) → ok (answer.Admitted post place) ≡ true) → ok (setUpAnswer d rows n room caller called identifier) ≡ true
+    unfolding setUpAnswer pastOne both
+    setup-ok rows n room caller called identifier free admitted =
+        unless-ok (not (setUpOk caller called identifier)) 16 _ refl
+        (unless-ok (ltb room 300) 14 _ refl
+        (unless-ok (not (recordsOk rows n (postsOf d))) 15 _ refl
+        (unless-ok (waits d identifier) 17 _ refl (party-ok (restrictedOf (take n rows) (caller ∷ called ∷ [])) free admitted))))
+
+    module _ (rows : List Record) (n : ℕ) (acks : ok answer.Acks ≡ true) (state : (k : ℕ) → ok (answer.State k) ≡ true) (proceed : ok answer.Proceed ≡ true)
+        (diverted : ok answer.Diverted ≡ true) (passes : profileOk (d .profile) ≡ true) where
+      type-ok : (room post : ℕ) (v : Value) (a b c e : Bool)
+          → ok (cond a (activateAnswer d rows n room v) (cond b (interrogateAnswer d rows n post v)
+          (cond c (decideAnswer d room post (v .identifier) answer.Proceed) (cond e (decideAnswer d room post (v .identifier) answer.Diverted) (answer.Refused (refusal 8)))))) ≡ true
+      unfolding activateAnswer interrogateAnswer decideAnswer pastOne both refusal
+      type-ok room post v true b c e =
+          unless-ok (ltb room 300) 14 _ refl
+          (unless-ok (not (recordsOk rows n (postsOf d))) 15 _ refl (unless-ok (namesDispatchers (d .profile .air) v) 21 answer.Acks refl acks))
+      type-ok room post v false true c e = unless-ok (not (recordsOk rows n (postsOf d))) 15 _ refl (state _)
+      type-ok room post v false false true e = unless-ok (ltb room 300) 14 _ refl (end-ok post (v .identifier) answer.Proceed proceed)
+      type-ok room post v false false false true = unless-ok (ltb room 300) 14 _ refl (end-ok post (v .identifier) answer.Diverted diverted)
+      type-ok room post v false false false false = refused (refusal 8) refl
+
+      message-ok : (l : List ℕ) (room post bits : ℕ) → ok (messageAnswer d rows n l room post bits) ≡ true
+      unfolding messageAnswer sentAnswer pastOne both
+      message-ok l room post bits = unless-ok (not (ltb post (postsOf d))) 2 _ refl (go (readOf (d .profile) l bits) refl)
+        where
+          go : (r : Read Value) → readOf (d .profile) l bits ≡ r → ok (readAnswer r (λ v. sentAnswer d rows n room post v)) ≡ true
+          go (got v p) e = type-ok room post v (eqb (v .pdu) 2) (eqb (v .pdu) 8) (eqb (v .pdu) 12) (eqb (v .pdu) 15)
+          go (no s) e = refused s (reading-past (s .number) (read-known (d .profile) l bits s passes e))
+
+-- what an event can be answered but a refusal passes the test
+abbrev pub Can : (Answer → Bool) → Event → Type 0
+Can ok (event.Message post bits) = (ok answer.Acks ≡ true) × (((k : ℕ) → ok (answer.State k) ≡ true) × ((ok answer.Proceed ≡ true) × (ok answer.Diverted ≡ true)))
+Can ok (event.SetUp caller called identifier) = (ok answer.Free ≡ true) × ((post place : ℕ) → ok (answer.Admitted post place) ≡ true)
+Can ok (event.Reject post identifier) = ok answer.Rejected ≡ true
+Can ok (event.Cancel identifier) = ok answer.Cancelled ≡ true
+
+-- every call, once 1 does not come, and every call
+module _ (ok : Answer → Bool) (refused : (s : Stop) → pastOne (s .number) ≡ true → ok (answer.Refused s) ≡ true) (d : Desk) (rows : List Record) (n : ℕ) (l : List ℕ) (room : ℕ) where
+  pub event-ok : (e : Event) → profileOk (d .profile) ≡ true → Can ok e → ok (eventAnswer d rows n l room e) ≡ true
+  event-ok (event.Message post bits) p h = message-ok ok refused d rows n (h .0) (h .1 .0) (h .1 .1 .0) (h .1 .1 .1) p l room post bits
+  event-ok (event.SetUp caller called identifier) p h = setup-ok ok refused d rows n room caller called identifier (h .0) (h .1)
+  event-ok (event.Reject post identifier) p h = reject-ok ok refused d post identifier h
+  event-ok (event.Cancel identifier) p h = cancel-ok ok refused d identifier h
+
+  pub answer-ok : ok (answer.Refused (refusal 1)) ≡ true → (e : Event) → Can ok e → ok (answerOf d rows n l room e) ≡ true
+  unfolding answerOf deskOk
+  answer-ok one e h = go (deskOk d) refl
+    where
+      go : (b : Bool) → deskOk d ≡ b → ok (unless (not b) 1 (eventAnswer d rows n l room e)) ≡ true
+      go true z = event-ok e (both-left _ _ z) h
+      go false z = one

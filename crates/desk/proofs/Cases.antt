@@ -1,0 +1,111 @@
+-- Worked cases 9, 11 and 12 of document 01 through the definition of a step, as one checked list. Assumes nothing.
+use Prim.Native.Nat.{ℕ, zero, suc, _-_}
+use mathlib.Core.Path.{_≡_, refl}
+use mathlib.Core.Bool.{Bool, true, false}
+use mathlib.Core.List as list
+use mathlib.Core.List.{List, [], _∷_, _++_}
+use lib.ListN.{length, set, take, replicate}
+use Rattle.bits.specs.Fields.{bitAt, fieldAt}
+use Rattle.bits.specs.Puts.{withDigit, binary, setBit, putBits, spare}
+use Rattle.codec.specs.Stops.{short, refusal}
+use Rattle.codec.specs.Codec.{both, number, vecRead}
+use Rattle.codec.specs.Options.{flag}
+use Rattle.profile.specs.Counting.{every, sum}
+use Rattle.profile.specs.Rules.{meaningOk, meaningIn, airOk, shareOk, shareIn, sharesOk, profileOk}
+use Rattle.profile.specs.Sample.{sample, sampleMeanings, sampleShare}
+use Rattle.message.specs.Addresses.{nobody, kindC, extensionC, addressC}
+use Rattle.message.specs.Groups.{addressesIn, allowedIn, nobodies, placesC, rangeOk, endsOk, addressesC, rangeC, groupC, noGroup, oneGroup, spanIn, spanOf}
+use Rattle.message.specs.Acks.{maskC, maskedC, resultC}
+use Rattle.message.specs.Values.{activateV, ackV, plainV}
+use Rattle.message.specs.Messages.{activateC, ackC, interrogateC, interceptedC, callC, acceptedC, bodyC, isKnown, isCarried, headerC, messageC}
+use Rattle.message.specs.Reading.{wholeOf, lengthOk, readBits, readOf}
+use Rattle.writing.specs.Writing.{bitsOf, padded, layOf}
+use Rattle.places.specs.Held.{noPlace, placeIn, noPlaces, waitsAt, heldOf, usedOf, freeOf, owedOf, owedAll, owedOthers, loadOf, admitsOf}
+use Rattle.places.specs.Grounds.{callOk, apart, aloneAt, underCeiling, placesOk}
+use Rattle.places.specs.Spots.{lowestFrom, hasCall, placeOf, lowestFree, takeOf, clearOf}
+use Rattle.places.specs.declared.Place.{Place}
+use Rattle.records.specs.Identities.{identityOf, later, identityIn, identityAt, countOf, each, identitiesOf}
+use Rattle.records.specs.Records.{noRecord, rowOf, is, recordFrom, recordOf, recordOk, allOk, recordsOk, stateOf, restricts, partyOf, restrictedOf}
+use Rattle.records.specs.Outcomes.{outcomeOf, outcomesOf, has, maskOf, someOf, sortedOf}
+use Rattle.records.specs.Marking.{acceptedOf, unmarked, noMarks, withMark, markAll, marksOf}
+use Rattle.records.specs.declared.Record.{Record}
+use Rattle.records.specs.declared.Identity.{Identity}
+use Rattle.sending.specs.Sending.{layFrom, layAll, noLaid, laidFrom, laidOf}
+use Rattle.sending.specs.Acks.{resultOf, reasonOf, severalIn, ackOf, acksOf}
+use Rattle.desk.specs.Desks.{deskOk}
+use Rattle.desk.specs.Orders.{namesDispatchers, activateAnswer, sentAnswer, messageAnswer, partyOk, setUpOk, admitAnswer, setUpAnswer, answerOf}
+use Rattle.desk.specs.Steps.{deskAfter, plainStep, plainArea, acksFor, acksStep, acksArea, stepBy, areaBy, stepOf, areaAfter}
+use Rattle.desk.specs.declared.Answer.{Answer}
+use Rattle.desk.specs.declared.Answer.the-variants as answer
+use Rattle.desk.specs.declared.Desk.{Desk}
+use Rattle.desk.specs.declared.Event.{Event}
+use Rattle.desk.specs.declared.Event.the-variants as event
+
+-- ---- records, desks, areas
+
+-- a user of a post, whose mark is set or not
+abbrev pub user : ℕ → ℕ → Bool → Record
+user s p m = record { in_use = true; ssi = s; extension = 0; post = p; active = m }
+
+abbrev pub rows : List Record → List Record
+rows l = l ++ replicate (128 - length l) noRecord
+
+-- as many calls, waiting at a post, with identifiers from k on
+abbrev pub calls : ℕ → ℕ → ℕ → List Place
+calls zero post k = []
+calls (suc n) post k = record { used = true; identifier = k; post = post } ∷ calls n post (suc k)
+
+abbrev pub desk : List Place → Desk
+desk l = record { profile = sample; places = record { place = l ++ replicate (32 - length l) noPlace } }
+
+-- the output area holds AA in every byte before the call
+abbrev pub untouched : ℕ → List ℕ
+untouched n = replicate n 0xAA
+
+-- 1,001 of post 0 and 1,004 of post 1 are restricted, and one of them calls another user, with an identifier that no call has
+abbrev pub restricted : List Record
+restricted = user 1001 0 true ∷ user 1004 1 true ∷ []
+
+abbrev pub setUp : ℕ → ℕ → Event
+setUp caller called = event.SetUp (record { ssi = caller; extension = 0 }) (record { ssi = called; extension = 0 }) 100
+
+abbrev pub unmarked4 : List Bool
+unmarked4 = false ∷ false ∷ false ∷ false ∷ []
+
+-- ---- the cases
+
+-- a call on a desk with these records and this message, then what it must be answered, the messages' bit lengths, the marks of the
+-- first four records, and the output area
+pub data Case : Type 0 where
+  on : Desk → List Record → List ℕ → Event → Answer → List ℕ → List Bool → List ℕ → Case
+
+abbrev pub Outcome : Type 0
+Outcome = Answer × (List ℕ × (List Bool × List ℕ))
+
+abbrev pub gives : Case → Outcome
+gives (on d r l e a lengths marks area) =
+    let s = stepOf d (rows r) (length r) l (untouched 300) e in
+    (s .answer, (take (s .laid .count) (s .laid .lengths), (take 4 (s .marks .at), areaAfter d (rows r) (length r) l (untouched 300) e)))
+
+abbrev pub wants : Case → Outcome
+wants (on d r l e a lengths marks area) = (a, (lengths, (marks, area)))
+
+abbrev pub cases : List Case
+cases =
+    -- 9: case 8 from post 0; 1,001 and 1,002 at post 0, 1,003 without record, 1,004 at post 1
+    on (desk []) (user 1001 0 false ∷ user 1002 0 false ∷ user 1004 1 false ∷ [])
+    (0x24 ∷ 0x5E ∷ 0x80 ∷ 0x01 ∷ 0xF4 ∷ 0xA0 ∷ 0x00 ∷ 0x7D ∷ 0x80 ∷ []) (event.Message 0 68)
+    answer.Acks (73 ∷ 80 ∷ 80 ∷ []) (true ∷ true ∷ false ∷ false ∷ [])
+    ((0x24 ∷ 0x7E ∷ 0x80 ∷ 0x01 ∷ 0xF4 ∷ 0xA0 ∷ 0x00 ∷ 0x7D ∷ 0x9C ∷ 0x80 ∷ []) ++ untouched 90
+    ++ (0x24 ∷ 0x7E ∷ 0x80 ∷ 0x01 ∷ 0xF4 ∷ 0xA0 ∷ 0x00 ∷ 0x7D ∷ 0x92 ∷ 0x01 ∷ []) ++ untouched 90
+    ++ (0x24 ∷ 0x7E ∷ 0x80 ∷ 0x01 ∷ 0xF4 ∷ 0xA0 ∷ 0x00 ∷ 0x7D ∷ 0x91 ∷ 0x02 ∷ []) ++ untouched 90)
+    -- 11: post 0 holds 28, post 1 none: a call for post 0 gets 18, one for post 1 is admitted
+    ∷ on (desk (calls 28 0 0)) restricted [] (setUp 1001 2000) (answer.Refused (refusal 18)) [] unmarked4 (untouched 300)
+    ∷ on (desk (calls 28 0 0)) restricted [] (setUp 1004 2000) (answer.Admitted 1 28) (17 ∷ []) unmarked4 ((0x25 ∷ 0x40 ∷ 0x00 ∷ []) ++ untouched 297)
+    -- 12: post 1 holds 8, post 0 none: 18 for post 1, by its ceiling
+    ∷ on (desk (calls 8 1 0)) restricted [] (setUp 1004 2000) (answer.Refused (refusal 18)) [] unmarked4 (untouched 300)
+    ∷ []
+
+pub cases-right : list.map gives cases ≡ list.map wants cases
+unfolding bitAt fieldAt withDigit binary setBit putBits spare both number vecRead flag every sum meaningOk meaningIn airOk shareOk shareIn sharesOk profileOk sample sampleMeanings sampleShare kindC extensionC addressC addressesIn allowedIn nobodies placesC rangeOk endsOk addressesC rangeC groupC noGroup oneGroup spanIn spanOf maskC maskedC resultC activateV ackV plainV activateC ackC interrogateC interceptedC callC acceptedC bodyC isKnown isCarried headerC messageC wholeOf lengthOk readBits readOf bitsOf padded layOf placeIn noPlaces waitsAt heldOf usedOf freeOf owedOf owedAll owedOthers loadOf admitsOf callOk apart aloneAt underCeiling placesOk lowestFrom hasCall placeOf lowestFree takeOf clearOf identityOf later identityIn identityAt countOf each identitiesOf rowOf is recordFrom recordOf recordOk allOk recordsOk stateOf restricts partyOf restrictedOf outcomeOf outcomesOf has maskOf someOf sortedOf acceptedOf unmarked noMarks withMark markAll marksOf layFrom layAll noLaid laidFrom laidOf resultOf reasonOf severalIn ackOf acksOf deskOk namesDispatchers activateAnswer sentAnswer messageAnswer partyOk setUpOk admitAnswer setUpAnswer answerOf deskAfter plainStep plainArea acksFor acksStep acksArea stepBy areaBy stepOf areaAfter
+cases-right = refl

@@ -1,0 +1,181 @@
+-- Each refusal of the desk comes exactly when its ground holds and no earlier one of that call's order does. Assumes nothing.
+use Prim.Native.Nat.{ℕ, zero, suc, _<_}
+use mathlib.Core.Path.{_≡_, refl, sym, ap, _∙_, subst}
+use mathlib.Core.Bool.{Bool, true, false, not, cond, _||_}
+use mathlib.Core.List.{List, [], _∷_}
+use native.Mathlib.Omega.{arith}
+use lib.Dec.{eqb, ltb}
+use borrow.Author.Tests.{eqb-true}
+use lib.ListN.{length, take}
+use Rattle.codec.specs.Codec.{Read, got, no}
+use Rattle.codec.specs.Stops.{refusal}
+use Rattle.codec.specs.declared.Stop.{Stop}
+use Rattle.codec.proofs.Good.{both-left, both-right, not-both}
+use Rattle.message.specs.Messages.{isCarried, headerC, messageC}
+use Rattle.message.specs.Reading.{readOf}
+use Rattle.message.specs.declared.Value.{Value}
+use Rattle.profile.specs.declared.Air.{Air}
+use Rattle.profile.specs.declared.Profile.{Profile}
+use Rattle.reading.specs.Answers.{readingOf}
+use Rattle.places.specs.Held.{admitsOf}
+use Rattle.places.specs.Spots.{lowestFree}
+use Rattle.records.specs.Records.{recordsOk, stateOf, restrictedOf}
+use Rattle.records.specs.declared.Identity.{Identity}
+use Rattle.records.specs.declared.Party.{Party}
+use Rattle.records.specs.declared.Record.{Record}
+use Rattle.writing.proofs.RoundTrips.{read-valid}
+use Rattle.validity.specs.Validity.{validOf}
+use Rattle.desk.specs.Desks.{deskOk}
+use Rattle.desk.specs.Grounds.{Ground, noSuchPost, notSent, waits, waitsHere, noPlaceFor, typeOrder, readOrder, messageOrder, setUpOrder, rejectOrder, cancelOrder, eventOrder, orderOf, firstOf}
+use Rattle.desk.specs.Orders.{numberOf, unless, postsOf, placesOf, namesDispatchers, activateAnswer, interrogateAnswer, endAnswer, decideAnswer, sentAnswer, readAnswer, messageAnswer, identifierOk, setUpOk, admitAnswer, partyAnswer, setUpAnswer, rejectAnswer, cancelAnswer, eventAnswer, answerOf}
+use Rattle.desk.specs.declared.Answer.{Answer}
+use Rattle.desk.specs.declared.Answer.the-variants as answer
+use Rattle.desk.specs.declared.Desk.{Desk}
+use Rattle.desk.specs.declared.Event.{Event}
+use Rattle.desk.specs.declared.Event.the-variants as event
+
+-- ---- a call's number is that of the first ground of its order that holds
+
+-- one ground, and what comes after it
+before : (b : Bool) (c : ℕ) (a : Answer) (rest : List Ground) → numberOf a ≡ firstOf rest → numberOf (unless b c a) ≡ firstOf ((c, b) ∷ rest)
+unfolding refusal firstOf
+before true c a rest e = refl
+before false c a rest e = e
+
+-- the last ground
+last : (b : Bool) (c : ℕ) (a : Answer) → numberOf a ≡ 0 → numberOf (unless b c a) ≡ firstOf ((c, b) ∷ [])
+unfolding firstOf
+last b c a e = before b c a [] e
+
+-- a value that was read has one of the eight types
+arm : (P : ℕ → Type 0) (t k : ℕ) (rest : Bool) → P k → (rest ≡ true → P t) → (eqb t k || rest) ≡ true → P t
+arm P t k rest here after = go (eqb t k) refl
+  where
+    go : (b : Bool) → eqb t k ≡ b → (b || rest) ≡ true → P t
+    go true e h = subst P (sym (eqb-true t k e)) here
+    go false e h = after h
+
+carried-cases : (P : ℕ → Type 0) (t : ℕ) → P 2 → P 3 → P 8 → P 10 → P 12 → P 13 → P 15 → P 16 → isCarried t ≡ true → P t
+unfolding isCarried
+carried-cases P t a b c d e f g h =
+    arm P t 2 _ a (arm P t 3 _ b (arm P t 8 _ c (arm P t 10 _ d (arm P t 12 _ e (arm P t 13 _ f (arm P t 15 _ g (λ z. subst P (sym (eqb-true t 16 z)) h)))))))
+
+valid-carried : (air : Air) (v : Value) → validOf air v ≡ true → isCarried (v .pdu) ≡ true
+unfolding validOf messageC headerC
+valid-carried air v z = both-right _ _ (both-left _ _ (both-right true _ z))
+
+read-carried : (p : Profile) (l : List ℕ) (n : ℕ) (v : Value) (q : ℕ) → readOf p l n ≡ got v q → isCarried (v .pdu) ≡ true
+unfolding readingOf
+read-carried p l n v q e = valid-carried (p .air) v (read-valid p l n (readingOf (got v q)) (ap readingOf (sym e)) refl)
+
+module _ (d : Desk) (rows : List Record) (n : ℕ) where
+  end-first : (post identifier : ℕ) (a : Answer) → numberOf a ≡ 0
+      → numberOf (endAnswer d post identifier a) ≡ firstOf ((19, not (waits d identifier)) ∷ (20, not (waitsHere d post identifier)) ∷ [])
+  unfolding endAnswer
+  end-first post identifier a e = before (not (waits d identifier)) 19 _ _ (last (not (waitsHere d post identifier)) 20 a e)
+
+  admit-first : (p : Party) → numberOf (partyAnswer d p) ≡ firstOf (noPlaceFor d p)
+  unfolding admitAnswer firstOf
+  admit-first p = go (p .found)
+    where
+      rule : Bool
+      rule = admitsOf (d .profile .shares) (placesOf d) (p .post)
+
+      go : (b : Bool) → numberOf (cond b (admitAnswer d (p .post)) answer.Free) ≡ firstOf (cond b ((18, not rule) ∷ []) [])
+      go true = last (not rule) 18 _ refl
+      go false = refl
+
+  setup-first : (room : ℕ) (caller called : Identity) (identifier : ℕ)
+      → numberOf (setUpAnswer d rows n room caller called identifier) ≡ firstOf (setUpOrder d rows n room caller called identifier)
+  unfolding setUpAnswer setUpOrder
+  setup-first room caller called identifier =
+      before (not (setUpOk caller called identifier)) 16 _ _
+      (before (ltb room 300) 14 _ _
+      (before (not (recordsOk rows n (postsOf d))) 15 _ _
+      (before (waits d identifier) 17 _ _ (admit-first (restrictedOf (take n rows) (caller ∷ called ∷ []))))))
+
+  reject-first : (post identifier : ℕ) → numberOf (rejectAnswer d post identifier) ≡ firstOf (rejectOrder d post identifier)
+  unfolding rejectAnswer rejectOrder
+  reject-first post identifier =
+      before (not (ltb post (postsOf d))) 2 _ _ (before (not (identifierOk identifier)) 16 _ _ (end-first post identifier answer.Rejected refl))
+
+  cancel-first : (identifier : ℕ) → numberOf (cancelAnswer d identifier) ≡ firstOf (cancelOrder d identifier)
+  unfolding cancelAnswer cancelOrder
+  cancel-first identifier = before (not (identifierOk identifier)) 16 _ _ (last (not (waits d identifier)) 19 answer.Cancelled refl)
+
+  -- ---- a post's message
+
+  module _ (room post : ℕ) (v : Value) where
+    activate-first : numberOf (activateAnswer d rows n room v)
+        ≡ firstOf ((14, ltb room 300) ∷ (15, not (recordsOk rows n (postsOf d))) ∷ (21, namesDispatchers (d .profile .air) v) ∷ [])
+    unfolding activateAnswer
+    activate-first =
+        before (ltb room 300) 14 _ _ (before (not (recordsOk rows n (postsOf d))) 15 _ _ (last (namesDispatchers (d .profile .air) v) 21 answer.Acks refl))
+
+    interrogate-first : numberOf (interrogateAnswer d rows n post v) ≡ firstOf ((15, not (recordsOk rows n (postsOf d))) ∷ [])
+    unfolding interrogateAnswer
+    interrogate-first = last (not (recordsOk rows n (postsOf d))) 15 _ refl
+
+    decide-first : (a : Answer) → numberOf a ≡ 0
+        → numberOf (decideAnswer d room post (v .identifier) a)
+        ≡ firstOf ((14, ltb room 300) ∷ (19, not (waits d (v .identifier))) ∷ (20, not (waitsHere d post (v .identifier))) ∷ [])
+    unfolding decideAnswer
+    decide-first a e = before (ltb room 300) 14 _ _ (end-first post (v .identifier) a e)
+
+    -- the types that are carried are the four that posts send and the four that they don't
+    sent-first : isCarried (v .pdu) ≡ true → numberOf (sentAnswer d rows n room post v) ≡ firstOf (notSent v ∷ typeOrder d rows n room post v)
+    unfolding sentAnswer refusal firstOf
+    sent-first h =
+        carried-cases By (v .pdu) activate-first refl interrogate-first refl (decide-first answer.Proceed refl) refl (decide-first answer.Diverted refl) refl h
+      where
+        By : ℕ → Type 0
+        By t =
+            numberOf (cond (eqb t 2) (activateAnswer d rows n room v) (cond (eqb t 8) (interrogateAnswer d rows n post v)
+            (cond (eqb t 12) (decideAnswer d room post (v .identifier) answer.Proceed) (cond (eqb t 15) (decideAnswer d room post (v .identifier) answer.Diverted) (answer.Refused (refusal 8))))))
+            ≡ firstOf ((8, eqb t 3 || (eqb t 10 || (eqb t 13 || eqb t 16)))
+            ∷ cond (eqb t 2) ((14, ltb room 300) ∷ (15, not (recordsOk rows n (postsOf d))) ∷ (21, namesDispatchers (d .profile .air) v) ∷ [])
+            (cond (eqb t 8) ((15, not (recordsOk rows n (postsOf d))) ∷ [])
+            (cond (eqb t 12 || eqb t 15) ((14, ltb room 300) ∷ (19, not (waits d (v .identifier))) ∷ (20, not (waitsHere d post (v .identifier))) ∷ []) [])))
+
+  after-reading : (room post : ℕ) (r : Read Value) → ((v : Value) (p : ℕ) → r ≡ got v p → isCarried (v .pdu) ≡ true)
+      → numberOf (readAnswer r (λ v. sentAnswer d rows n room post v)) ≡ firstOf (readOrder r (λ v. notSent v ∷ typeOrder d rows n room post v))
+  unfolding firstOf
+  after-reading room post (got v p) h = sent-first room post v (h v p refl)
+  after-reading room post (no s) h = refl
+
+  message-first : (l : List ℕ) (room post bits : ℕ) → numberOf (messageAnswer d rows n l room post bits) ≡ firstOf (messageOrder d rows n l room post bits)
+  unfolding messageAnswer messageOrder
+  message-first l room post bits =
+      before (not (ltb post (postsOf d))) 2 _ _ (after-reading room post (readOf (d .profile) l bits) (λ v p e. read-carried (d .profile) l bits v p e))
+
+  number-first : (l : List ℕ) (room : ℕ) (e : Event) → numberOf (answerOf d rows n l room e) ≡ firstOf (orderOf d rows n l room e)
+  unfolding answerOf orderOf
+  number-first l room (event.Message post bits) = before (not (deskOk d)) 1 _ _ (message-first l room post bits)
+  number-first l room (event.SetUp caller called identifier) = before (not (deskOk d)) 1 _ _ (setup-first room caller called identifier)
+  number-first l room (event.Reject post identifier) = before (not (deskOk d)) 1 _ _ (reject-first post identifier)
+  number-first l room (event.Cancel identifier) = before (not (deskOk d)) 1 _ _ (cancel-first identifier)
+
+-- ---- so it comes exactly then
+
+-- the number c comes by an order: its ground holds, and no earlier one does
+pub data Comes (c : ℕ) : List Ground → Type 0 where
+  here : (rest : List Ground) → Comes c ((c, true) ∷ rest)
+  later : (b : ℕ) (rest : List Ground) → Comes c rest → Comes c ((b, false) ∷ rest)
+
+first-comes : (c : ℕ) (order : List Ground) → 0 < c → firstOf order ≡ c → Comes c order
+unfolding firstOf
+first-comes c [] h e = absurd (omega (arith, e))
+first-comes c ((b, true) ∷ rest) h e = subst (λ (x : ℕ). Comes c ((x, true) ∷ rest)) (sym e) (here rest)
+first-comes c ((b, false) ∷ rest) h e = later b rest (first-comes c rest h e)
+
+comes-first : (c : ℕ) (order : List Ground) → Comes c order → firstOf order ≡ c
+unfolding firstOf
+comes-first c ((_, true) ∷ rest) (here _) = refl
+comes-first c ((b, false) ∷ rest) (later _ _ w) = comes-first c rest w
+
+module _ (d : Desk) (rows : List Record) (n : ℕ) (l : List ℕ) (room : ℕ) (e : Event) where
+  pub number-comes : (c : ℕ) → 0 < c → numberOf (answerOf d rows n l room e) ≡ c → Comes c (orderOf d rows n l room e)
+  number-comes c h z = first-comes c (orderOf d rows n l room e) h (sym (number-first d rows n l room e) ∙ z)
+
+  pub comes-number : (c : ℕ) → Comes c (orderOf d rows n l room e) → numberOf (answerOf d rows n l room e) ≡ c
+  comes-number c w = number-first d rows n l room e ∙ comes-first c (orderOf d rows n l room e) w

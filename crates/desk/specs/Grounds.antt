@@ -1,0 +1,155 @@
+-- Each call's order, as document 01 lists it: its numbers, first to last, each with whether its ground holds. A number comes exactly
+-- when its ground holds and no earlier one of that call's order does (proofs/Exactly).
+use Prim.Native.Nat.{ℕ}
+use mathlib.Core.Bool.{Bool, true, false, not, cond, _||_}
+use mathlib.Core.List.{List, [], _∷_}
+use lib.Dec.{eqb, ltb}
+use lib.ListN.{take}
+use Rattle.codec.specs.Codec.{Read, got, no, both}
+use Rattle.message.specs.Reading.{readOf}
+use Rattle.message.specs.declared.Value.{Value}
+use Rattle.places.specs.Held.{placeIn, admitsOf}
+use Rattle.places.specs.Spots.{placeOf}
+use Rattle.records.specs.Records.{recordsOk, restrictedOf, isRestricted}
+use Rattle.records.specs.declared.Identity.{Identity}
+use Rattle.records.specs.declared.Party.{Party}
+use Rattle.records.specs.declared.Record.{Record}
+use Rattle.desk.specs.Desks.{deskOk}
+use Rattle.desk.specs.Orders.{postsOf, placesOf, namesDispatchers, identifierOk, setUpOk}
+use Rattle.desk.specs.declared.Desk.{Desk}
+use Rattle.desk.specs.declared.Event.{Event}
+use Rattle.desk.specs.declared.Event.the-variants as event
+
+-- a number, and whether its ground holds
+abbrev pub Ground : Type 0
+Ground = ℕ × Bool
+
+-- ---- the grounds, row by row of document 01's table
+
+-- post number not below the number of posts
+abbrev pub noSuchPost : Desk → ℕ → Ground
+noSuchPost d post = (2, not (ltb post (postsOf d)))
+
+-- a type that posts don't send: 3, 10, 13, 16
+abbrev pub notSent : Value → Ground
+notSent v = (8, eqb (v .pdu) 3 || (eqb (v .pdu) 10 || (eqb (v .pdu) 13 || eqb (v .pdu) 16)))
+
+-- output shorter than 300 bytes
+abbrev pub shortArea : ℕ → Ground
+shortArea room = (14, ltb room 300)
+
+-- over 128 records, or one in use with a post not below the number of posts, or an SSI or extension over 24 bits
+abbrev pub badRecords : Desk → List Record → ℕ → Ground
+badRecords d rows n = (15, not (recordsOk rows n (postsOf d)))
+
+-- identifier over 14 bits
+abbrev pub wideIdentifier : ℕ → Ground
+wideIdentifier identifier = (16, not (identifierOk identifier))
+
+-- the same, or a party's SSI or extension over 24
+abbrev pub wideCall : Identity → Identity → ℕ → Ground
+wideCall caller called identifier = (16, not (setUpOk caller called identifier))
+
+-- the call waits; a call that waits does so at this post
+abbrev pub waits : Desk → ℕ → Bool
+waits d identifier = placeOf (placesOf d) identifier .found
+
+abbrev pub waitsHere : Desk → ℕ → ℕ → Bool
+waitsHere d post identifier = eqb (placeIn (placesOf d) (placeOf (placesOf d) identifier .place) .post) post
+
+-- identifier waiting already
+abbrev pub waitsAlready : Desk → ℕ → Ground
+waitsAlready d identifier = (17, waits d identifier)
+
+-- the party that a call being set up is for
+abbrev pub partyFor : List Record → ℕ → Identity → Identity → Party
+partyFor rows n caller called = restrictedOf (take n rows) (caller ∷ called ∷ [])
+
+-- the places rule says no, for a call that is not free
+abbrev pub noPlaceFor : Desk → Party → List Ground
+noPlaceFor d party = cond (party .found) ((18, not (admitsOf (d .profile .shares) (placesOf d) (party .post))) ∷ []) []
+
+-- identifier not waiting
+abbrev pub notWaiting : Desk → ℕ → Ground
+notWaiting d identifier = (19, not (waits d identifier))
+
+-- waiting at another post
+abbrev pub waitsElsewhere : Desk → ℕ → ℕ → Ground
+waitsElsewhere d post identifier = (20, not (waitsHere d post identifier))
+
+-- dispatcher addresses given
+abbrev pub dispatchersGiven : Desk → Value → Ground
+dispatchersGiven d v = (21, namesDispatchers (d .profile .air) v)
+
+-- ---- the orders, call by call
+
+-- after the type: ACTIVATE 14, 15, 21; INTERROGATE 15; ACCEPT, DIVERT 14, 19, 20
+abbrev pub typeOrder : Desk → List Record → ℕ → ℕ → ℕ → Value → List Ground
+typeOrder d rows n room post v =
+    cond (eqb (v .pdu) 2) (shortArea room ∷ badRecords d rows n ∷ dispatchersGiven d v ∷ [])
+    (cond (eqb (v .pdu) 8) (badRecords d rows n ∷ [])
+    (cond (eqb (v .pdu) 12 || eqb (v .pdu) 15) (shortArea room ∷ notWaiting d (v .identifier) ∷ waitsElsewhere d post (v .identifier) ∷ []) []))
+
+-- a refusal of reading stands in the order by its own number
+abbrev pub readOrder : Read Value → (Value → List Ground) → List Ground
+readOrder (got v p) after = after v
+readOrder (no s) after = (s .number, true) ∷ []
+
+-- a post's message: 2, reading, 8, then by its type
+unfoldable pub messageOrder : Desk → List Record → ℕ → List ℕ → ℕ → ℕ → ℕ → List Ground
+messageOrder d rows n l room post bits =
+    noSuchPost d post ∷ readOrder (readOf (d .profile) l bits) (λ v. notSent v ∷ typeOrder d rows n room post v)
+
+-- set-up: 16, 14, 15, 17, "free", 18
+unfoldable pub setUpOrder : Desk → List Record → ℕ → ℕ → Identity → Identity → ℕ → List Ground
+setUpOrder d rows n room caller called identifier =
+    wideCall caller called identifier ∷ shortArea room ∷ badRecords d rows n ∷ waitsAlready d identifier
+    ∷ noPlaceFor d (partyFor rows n caller called)
+
+-- reject: 2, 16, 19, 20
+unfoldable pub rejectOrder : Desk → ℕ → ℕ → List Ground
+rejectOrder d post identifier = noSuchPost d post ∷ wideIdentifier identifier ∷ notWaiting d identifier ∷ waitsElsewhere d post identifier ∷ []
+
+-- cancel: 16, 19
+unfoldable pub cancelOrder : Desk → ℕ → List Ground
+cancelOrder d identifier = wideIdentifier identifier ∷ notWaiting d identifier ∷ []
+
+abbrev pub eventOrder : Desk → List Record → ℕ → List ℕ → ℕ → Event → List Ground
+eventOrder d rows n l room (event.Message post bits) = messageOrder d rows n l room post bits
+eventOrder d rows n l room (event.SetUp caller called identifier) = setUpOrder d rows n room caller called identifier
+eventOrder d rows n l room (event.Reject post identifier) = rejectOrder d post identifier
+eventOrder d rows n l room (event.Cancel identifier) = cancelOrder d identifier
+
+-- every call: 1 before all else
+unfoldable pub orderOf : Desk → List Record → ℕ → List ℕ → ℕ → Event → List Ground
+orderOf d rows n l room e = (1, not (deskOk d)) ∷ eventOrder d rows n l room e
+
+-- ---- what an order comes to
+
+-- the number of the first ground that holds; 0 for none
+unfoldable pub firstOf : List Ground → ℕ
+firstOf [] = 0
+firstOf ((c, holds) ∷ rest) = cond holds c (firstOf rest)
+
+-- no ground holds
+unfoldable pub noneOf : List Ground → Bool
+noneOf [] = true
+noneOf ((c, holds) ∷ rest) = both (not holds) (noneOf rest)
+
+-- ---- call set-up, before the places rule
+
+abbrev pub setUpGrounds : Desk → List Record → ℕ → ℕ → Identity → Identity → ℕ → List Ground
+setUpGrounds d rows n room caller called identifier =
+    (1, not (deskOk d)) ∷ wideCall caller called identifier ∷ shortArea room ∷ badRecords d rows n ∷ waitsAlready d identifier ∷ []
+
+-- a well-formed new call: 1, 16, 14, 15 and 17 do not come
+unfoldable pub isNew : Desk → List Record → ℕ → ℕ → Identity → Identity → ℕ → Bool
+isNew d rows n room caller called identifier = noneOf (setUpGrounds d rows n room caller called identifier)
+
+-- it is free if neither party is restricted
+abbrev pub isFreeCall : Desk → List Record → ℕ → ℕ → Event → Bool
+isFreeCall d rows n room (event.SetUp caller called identifier) =
+    both (isNew d rows n room caller called identifier) (both (not (isRestricted (take n rows) caller)) (not (isRestricted (take n rows) called)))
+isFreeCall d rows n room (event.Message post bits) = false
+isFreeCall d rows n room (event.Reject post identifier) = false
+isFreeCall d rows n room (event.Cancel identifier) = false
