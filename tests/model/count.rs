@@ -21,21 +21,38 @@ const REFUSALS: [u32; 10] = [3, 4, 5, 6, 7, 9, 10, 11, 12, 13];
 pub fn count(listing: &[u8], out: &mut dyn Write) -> io::Result<bool> {
     let mut answers = NAMES.map(str::to_string).to_vec();
     answers.extend(REFUSALS.iter().map(|number| format!("refused {number}")));
+    print_counts("listing", listing, &answers, answer_of, out)
+}
 
+/// All that follows the line's number.
+fn answer_of(line: &str) -> String {
+    line.split_once(' ')
+        .map_or("", |(_, answer)| answer)
+        .to_string()
+}
+
+/// How often each of the answers came in what the program printed, and what else came; false if
+/// one never came or something else did.
+pub fn print_counts(
+    program: &str,
+    printed: &[u8],
+    answers: &[String],
+    answer_of: fn(&str) -> String,
+    out: &mut dyn Write,
+) -> io::Result<bool> {
     let mut came: BTreeMap<String, u64> = BTreeMap::new();
-    for line in String::from_utf8_lossy(listing).lines() {
-        let answer = line.split_once(' ').map_or("", |(_, answer)| answer);
-        *came.entry(answer.to_string()).or_insert(0) += 1;
+    for line in String::from_utf8_lossy(printed).lines() {
+        *came.entry(answer_of(line)).or_insert(0) += 1;
     }
 
     let mut complete = true;
-    for answer in &answers {
+    for answer in answers {
         let times = came.remove(answer).unwrap_or(0);
         writeln!(out, "{times:9} {answer}")?;
         complete &= times > 0;
     }
     for (unknown, times) in &came {
-        writeln!(out, "{times:9} not an answer of the listing: {unknown:?}")?;
+        writeln!(out, "{times:9} not an answer of the {program}: {unknown:?}")?;
     }
     Ok(complete && came.is_empty())
 }

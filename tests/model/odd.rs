@@ -16,7 +16,7 @@ pub fn line(dice: &mut Dice, good: &[u8]) -> Vec<u8> {
     let space = good.iter().position(|byte| *byte == b' ').unwrap_or(0);
     let (length, hex) = (&good[..space], &good[space + 1..]);
     match dice.below(32) {
-        0..=5 => with_byte(dice, good),
+        0..=5 => with_byte(dice, &NEAR, good),
         6 => [good, b"\r"].concat(),
         7 => Vec::new(),
         8 => [length, hex].concat(),
@@ -36,15 +36,15 @@ pub fn line(dice: &mut Dice, good: &[u8]) -> Vec<u8> {
             let count = 1 + dice.below(40);
             dice.bytes(count)
         }
-        29 | 30 => with_byte(dice, b"11 25A0"),
+        29 | 30 => with_byte(dice, &NEAR, b"11 25A0"),
         _ => over_long(dice, good),
     }
 }
 
-/// One byte put in or put over another, of all 256 or of those that are easily mistaken.
-fn with_byte(dice: &mut Dice, good: &[u8]) -> Vec<u8> {
+/// One byte put in or put over another, of all 256 or of those near the ones that count.
+pub fn with_byte(dice: &mut Dice, near: &[u8], good: &[u8]) -> Vec<u8> {
     let byte = if dice.one_in(2) {
-        dice.pick(&NEAR)
+        dice.pick(near)
     } else {
         dice.number(8) as u8
     };

@@ -1,10 +1,9 @@
 -- ACTIVATE: its order, ground by ground, and its ACKs. Assumes nothing.
-use Prim.Native.Nat.{ℕ, zero, suc, _+_, _≤_, _<_, min}
-use mathlib.Core.Path.{_≡_, refl, sym, ap, _∙_, subst}
-use mathlib.Core.Bool.{Bool, true, false, not, cond}
-use mathlib.Core.List.{List, [], _∷_}
+use Prim.Native.Nat.{ℕ, zero, suc, _≤_, _<_}
+use mathlib.Core.Path.{_≡_, refl, _∙_}
+use mathlib.Core.Bool.{true, false}
+use mathlib.Core.List.{List}
 use native.Mathlib.Omega.{arith}
-use lib.Dec.{ltb, eqb}
 use lib.ListN.{length}
 use borrow.Author.Tests.{lt-ltb, le-ltb}
 use Rattle.codec.specs.Stops.{refusal}
@@ -13,17 +12,17 @@ use Rattle.profile.specs.Rules.{profileOk}
 use Rattle.profile.specs.declared.Air.{Air}
 use Rattle.message.specs.Groups.{groupC, spanOf}
 use Rattle.message.specs.Acks.{maskC}
-use Rattle.message.specs.Messages.{activateC, bodyC, messageC}
+use Rattle.message.specs.Messages.{activateC, bodyC}
 use Rattle.message.proofs.GroupLaws.{few-identities}
 use Rattle.message.specs.declared.Group.{Group}
 use Rattle.message.specs.declared.Value.{Value}
 use Rattle.validity.specs.Validity.{validOf}
+use Rattle.writing.proofs.LengthLaws.{valid-body}
 use Rattle.records.specs.Identities.{identitiesOf}
 use Rattle.records.specs.Records.{recordsOk}
-use Rattle.records.specs.Outcomes.{maskOf, outcomesOf, sortedOf}
+use Rattle.records.specs.Outcomes.{outcomesOf, sortedOf}
 use Rattle.records.specs.Marking.{marksOf}
-use Rattle.records.proofs.OutcomeLaws.{length-outcomes}
-use Rattle.records.proofs.MaskLaws.{mask-fits}
+use Rattle.records.proofs.MaskLaws.{mask-carried}
 use Rattle.records.specs.declared.Marks.{Marks}
 use Rattle.records.specs.declared.Record.{Record}
 use Rattle.records.specs.declared.Sorted.{Sorted}
@@ -34,10 +33,8 @@ use Rattle.sending.proofs.SentLaws.{all-sent}
 use Rattle.sending.proofs.AckLaws.{Request, acks-send, acks-few}
 use Rattle.desk.specs.Orders.{postsOf, namesDispatchers, activateAnswer}
 use Rattle.desk.specs.Steps.{acksFor, acksStep, acksArea}
-use Rattle.desk.specs.declared.Answer.{Answer}
 use Rattle.desk.specs.declared.Answer.the-variants as answer
 use Rattle.desk.specs.declared.Desk.{Desk}
-use Rattle.desk.specs.declared.Stepped.{Stepped}
 
 module _ (d : Desk) (rows : List Record) (n room : ℕ) (v : Value) where
   pub activate-14 : room < 300 → activateAnswer d rows n room v ≡ answer.Refused (refusal 14)
@@ -59,10 +56,6 @@ module _ (d : Desk) (rows : List Record) (n room : ℕ) (v : Value) where
   activate-acks h e k = rw (le-ltb room 300 h, e, k) refl
 
 -- the users of a valid ACTIVATE
-valid-body : (air : Air) (v : Value) → validOf air v ≡ true → bodyC air (v .pdu) .ok v ≡ true
-unfolding validOf messageC
-valid-body air v z = both-right _ _ (both-right true _ z)
-
 activate-body : (air : Air) (v : Value) → v .pdu ≡ 2 → bodyC air (v .pdu) ≡ activateC air
 unfolding bodyC
 activate-body air v e = rw e
@@ -86,19 +79,13 @@ request d rows post users ok =
     air : Air
     air = d .profile .air
 
-    os : List ℕ
-    os = outcomesOf air users rows post
-
     few : spanOf air users ≤ 64
     few = few-identities air false users ok
 
-    count : length os ≡ spanOf air users
-    count = omega (arith, length-outcomes air users rows post, few)
-
-    masks : (class : ℕ) → class < 3 → maskC (spanOf air users) .ok (maskAt (sortedOf os) class) ≡ true
-    masks zero h = mask-fits 0 os (spanOf air users) count few
-    masks (suc zero) h = mask-fits 1 os (spanOf air users) count few
-    masks (suc (suc zero)) h = mask-fits 2 os (spanOf air users) count few
+    masks : (class : ℕ) → class < 3 → maskC (spanOf air users) .ok (maskAt (sortedOf (outcomesOf air users rows post)) class) ≡ true
+    masks zero h = mask-carried air users rows post 0 few
+    masks (suc zero) h = mask-carried air users rows post 1 few
+    masks (suc (suc zero)) h = mask-carried air users rows post 2 few
     masks (suc (suc (suc k))) h = absurd (omega arith)
 
 pub acks-are : (d : Desk) (rows : List Record) (post : ℕ) (users : Group) → profileOk (d .profile) ≡ true → groupC (d .profile .air) false .ok users ≡ true

@@ -5,7 +5,6 @@ use mathlib.Core.Bool.{Bool, true, false, _||_}
 use lib.Dec.{eqb}
 use borrow.Author.Tests.{eqb-true}
 use Rattle.codec.specs.Codec.{Codec, number, seq, choose}
-use Rattle.codec.specs.Options.{option}
 use Rattle.codec.proofs.Good.{Good, both-left, both-right}
 use Rattle.codec.proofs.Combinators.{good-number, good-pure, good-guard, good-seq, good-map, good-iso, good-choose}
 use Rattle.codec.proofs.OptionLaws.{good-option}
@@ -15,7 +14,7 @@ use Rattle.message.specs.Addresses.{nobody, isNobody, addressC}
 use Rattle.message.specs.Groups.{groupC, noGroup, isNoGroup, spanOf}
 use Rattle.message.specs.Acks.{maskedC, resultC}
 use Rattle.message.specs.Values.{activateV, ackV, plainV, activateFits, ackFits, interrogateFits, interceptedFits, callFits, acceptedFits}
-use Rattle.message.specs.Messages.{activateC, ackC, interrogateC, interceptedC, callC, acceptedC, bodyC, isKnown, isCarried, headerC, messageC}
+use Rattle.message.specs.Messages.{dispatchersC, dispatcherC, activateC, ackC, interrogateC, interceptedC, callC, acceptedC, bodyC, isKnown, isCarried, headerC, messageC}
 use Rattle.message.specs.declared.Value.{Value}
 use Rattle.message.proofs.AddressLaws.{good-address, is-nobody, nobody-is}
 use Rattle.message.proofs.GroupLaws.{good-group, no-group-is, is-no-group, first-one}
@@ -28,7 +27,7 @@ pub good-activate : (air : Air) → Good (activateC air)
 unfolding activateC activateV
 good-activate air =
     good-map _ _ activateFits _ (λ x v. refl) (λ x v. activate-fits (x .0) (x .1 .0) (x .1 .1)) (λ v e _. activate-there v e)
-    (good-seq (groupC air false) (λ u. option element.oBit element.pBit noGroup isNoGroup (groupC air true)) (good-group air false)
+    (good-seq (groupC air false) (λ u. dispatchersC air) (good-group air false)
     (λ u _. good-option element.oBit element.pBit noGroup isNoGroup (groupC air true) no-group-is is-no-group (good-group air true)))
 
 pub good-ack : (air : Air) → Good (ackC air)
@@ -46,7 +45,7 @@ pub good-intercepted : (t : ℕ) → Good (interceptedC t)
 unfolding interceptedC plainV
 good-intercepted t =
     good-map _ _ (interceptedFits t) _ (λ x v. rw (first-one (x .1 .1))) (λ x v. intercepted-fits t _ _ _) (λ v e _. intercepted-there t v e)
-    (good-seq (number element.cause 5) (λ c. option element.oBit element.pBit nobody isNobody addressC) (good-number element.cause 5)
+    (good-seq (number element.cause 5) (λ c. dispatcherC) (good-number element.cause 5)
     (λ c _. good-option element.oBit element.pBit nobody isNobody addressC nobody-is is-nobody good-address))
 
 pub good-call : (t : ℕ) → Good (callC t)

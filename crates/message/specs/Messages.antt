@@ -14,6 +14,14 @@ use Rattle.message.specs.declared.Address.{Address}
 use Rattle.message.specs.declared.Group.{Group}
 use Rattle.message.specs.declared.Value.{Value}
 
+-- ---- the optional elements: what an ACTIVATE has after its users, and an INTERCEPTED or DIVERTED after its cause
+
+abbrev pub dispatchersC : Air → Codec (Bool × Group)
+dispatchersC air = option element.oBit element.pBit noGroup isNoGroup (groupC air true)
+
+abbrev pub dispatcherC : Codec (Bool × Address)
+dispatcherC = option element.oBit element.pBit nobody isNobody addressC
+
 -- ---- after the first 11 bits
 
 -- ACTIVATE: users; option: dispatchers, which may be "none"
@@ -23,7 +31,7 @@ activateC air =
     (λ (x : Group × (Bool × Group)). activateV (x .0) (x .1 .0) (x .1 .1))
     (λ (v : Value). (v .users, (v .option, v .dispatchers)))
     activateFits
-    (seq (groupC air false) (λ u. option element.oBit element.pBit noGroup isNoGroup (groupC air true)))
+    (seq (groupC air false) (λ u. dispatchersC air))
 
 -- ACTIVATE ACK: users, mask present, mask, result, reason
 unfoldable pub ackC : Air → Codec Value
@@ -45,7 +53,7 @@ interceptedC t =
     (λ (x : ℕ × (Bool × Address)). plainV t nobody (x .0) 0 (x .1 .0) (x .1 .1))
     (λ (v : Value). (v .cause, (v .option, firstOf (v .dispatchers))))
     (interceptedFits t)
-    (seq (number element.cause 5) (λ c. option element.oBit element.pBit nobody isNobody addressC))
+    (seq (number element.cause 5) (λ c. dispatcherC))
 
 -- ACCEPT (12) and DIVERT (15): call identifier
 unfoldable pub callC : ℕ → Codec Value

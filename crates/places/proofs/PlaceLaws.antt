@@ -1,8 +1,8 @@
 -- The laws that demand 3 rests on: taking and clearing a place keep the desk's places good, an admitted call has a place, and a post below
 -- its reserved number is admitted. Assumes nothing.
-use Prim.Native.Nat.{ℕ, _+_, _-_, _^_, _≤_, _<_}
+use Prim.Native.Nat.{ℕ, _+_, _^_, _≤_, _<_}
 use mathlib.Core.Path.{_≡_, refl, sym, _∙_}
-use mathlib.Core.Bool.{Bool, true, false, not, cond, _||_}
+use mathlib.Core.Bool.{Bool, true, false, not, cond, _||_, or-true}
 use mathlib.Core.List.{List}
 use mathlib.Core.Logic.{_⊎_, inl, inr, ⊎-elim}
 use native.Mathlib.Omega.{arith}
@@ -11,11 +11,11 @@ use lib.ListN.{length, set}
 use borrow.Author.Tests.{eq-eqb, eqb-true, ltb-true, lt-ltb, leb-true, le-leb}
 use Rattle.codec.specs.Codec.{both}
 use Rattle.codec.proofs.Good.{both-true, both-left, both-right, not-both}
-use Rattle.profile.specs.Counting.{every, sum}
+use Rattle.profile.specs.Counting.{every, sum, one}
 use Rattle.profile.specs.Rules.{shareOk, shareIn, sharesOk}
 use Rattle.profile.specs.declared.Shares.{Shares}
 use Rattle.profile.proofs.CountLaws.{every-at}
-use Rattle.places.specs.Held.{noPlace, placeIn, noPlaces, one, waitsAt, heldOf, usedOf, freeOf, owedOf, owedAll, owedOthers, loadOf, admitsOf}
+use Rattle.places.specs.Held.{noPlace, placeIn, noPlaces, waitsAt, heldOf, usedOf, freeOf, owedOf, owedAll, owedOthers, loadOf, admitsOf}
 use Rattle.places.specs.Grounds.{callOk, apart, aloneAt, underCeiling, placesOk}
 use Rattle.places.specs.Spots.{spotAt, placeOf, lowestFree, takeOf, clearOf}
 use Rattle.places.specs.declared.Place.{Place}
@@ -115,10 +115,6 @@ module _ (shares : Shares) (l : List Place) where
       (λ k. rw (lt-ltb (heldOf l p) (shareIn (shares .share) p .reserved) k))
       (λ k. rw (lt-ltb (owedOthers shares l p) (freeOf l) k) (or-true (ltb (heldOf l p) (shareIn (shares .share) p .reserved))))
       r)
-    where
-      or-true : (b : Bool) → (b || true) ≡ true
-      or-true true = refl
-      or-true false = refl
 
   -- what all are owed is what the others are owed, and the post's own part
   owed-parts : (p : ℕ) → p < shares .posts → owedOthers shares l p + owedOf shares l p ≡ owedAll shares l

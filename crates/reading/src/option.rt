@@ -3,10 +3,8 @@ ghost use mathlib.Core.Path.{_≡_};
 ghost use mathlib.Core.Bool.{true, false};
 ghost use Rattle.bits.specs.Fields.{bitAt};
 ghost use Rattle.codec.specs.Codec.{got, no};
-ghost use Rattle.codec.specs.Options.{option};
-ghost use Rattle.message.specs.Addresses.{nobody, isNobody, addressC};
-ghost use Rattle.message.specs.Groups.{noGroup, isNoGroup, groupC};
-ghost use Rattle.message.specs.Elements.{oBit, pBit};
+ghost use Rattle.message.specs.Groups.{noGroup, groupC};
+ghost use Rattle.message.specs.Messages.{dispatchersC, dispatcherC};
 ghost use Rattle.reading.specs.Answers.{optionOf, optionAddressOf, present};
 use crate::address;
 use crate::address::AddressTook;
@@ -32,7 +30,7 @@ pub enum OptionTook {
 }
 
 pub fn read_dispatchers(air: Air, buf: &[u8], bits: usize, at: usize) -> OptionRead
-    ensures { λ r. ⌜ r ≡ optionOf (option oBit pBit noGroup isNoGroup (groupC air true) .read (bitAt (now (buf .entry))) bits at) ⌝ }
+    ensures { λ r. ⌜ r ≡ optionOf (dispatchersC air .read (bitAt (now (buf .entry))) bits at) ⌝ }
 {
     match element::bit(element::O_BIT, buf, bits, at) {
         FlagTook::Refused(s) => no_option(s),
@@ -100,7 +98,7 @@ fn no_option(s: Stop) -> OptionRead
 }
 
 pub fn read_dispatcher(buf: &[u8], bits: usize, at: usize) -> OptionTook
-    ensures { λ r. ⌜ optionAddressOf r ≡ option oBit pBit nobody isNobody addressC .read (bitAt (now (buf .entry))) bits at ⌝ }
+    ensures { λ r. ⌜ optionAddressOf r ≡ dispatcherC .read (bitAt (now (buf .entry))) bits at ⌝ }
 {
     match element::bit(element::O_BIT, buf, bits, at) {
         FlagTook::Refused(s) => OptionTook::Refused(s),

@@ -1,12 +1,7 @@
 // Each message after the first 11 bits: what it carries is good, and all that it doesn't carry is zero.
 ghost use mathlib.Core.Path.{_≡_};
-ghost use mathlib.Core.Bool.{true};
-ghost use Rattle.codec.specs.Options.{option};
-ghost use Rattle.message.specs.Elements.{oBit, pBit};
-ghost use Rattle.message.specs.Addresses.{nobody, isNobody, addressC};
-ghost use Rattle.message.specs.Groups.{noGroup, isNoGroup, groupC};
 ghost use Rattle.message.specs.Values.{activateFits, ackFits, plainFits, interrogateFits, interceptedFits, callFits};
-ghost use Rattle.message.specs.Messages.{activateC, ackC, interrogateC, interceptedC, callC, acceptedC, bodyC};
+ghost use Rattle.message.specs.Messages.{dispatchersC, dispatcherC, activateC, ackC, interrogateC, interceptedC, callC, acceptedC, bodyC};
 use crate::ack;
 use crate::address;
 use crate::group;
@@ -85,7 +80,7 @@ fn activate_fits(v: Value) -> bool
 
 // Dispatchers, who may be "none", or no option and then zero.
 fn dispatchers_ok(air: Air, present: bool, dispatchers: Group) -> bool
-    ensures { λ r. ⌜ r ≡ option oBit pBit noGroup isNoGroup (groupC air true) .ok (present, dispatchers) ⌝ }
+    ensures { λ r. ⌜ r ≡ dispatchersC air .ok (present, dispatchers) ⌝ }
 {
     if present {
         return group::group_ok(air, true, dispatchers);
@@ -137,7 +132,7 @@ fn interrogate_ok(v: Value) -> bool
 {
     if interrogate_fits(v) {
         let users = v.users;
-        return address::address_ok(group::first_of(users));
+        return address::address_ok(message::first_of(users));
     }
     false
 }
@@ -156,7 +151,7 @@ fn interrogate_fits(v: Value) -> bool
             return false;
         }
         let dispatchers = v.dispatchers;
-        return address::is_nobody(group::first_of(dispatchers));
+        return address::is_nobody(message::first_of(dispatchers));
     }
     false
 }
@@ -171,7 +166,7 @@ fn intercepted_ok(pdu: u8, v: Value) -> bool
             return false;
         }
         let dispatchers = v.dispatchers;
-        return dispatcher_ok(v.option, group::first_of(dispatchers));
+        return dispatcher_ok(v.option, message::first_of(dispatchers));
     }
     false
 }
@@ -184,14 +179,14 @@ fn intercepted_fits(pdu: u8, v: Value) -> bool
             return false;
         }
         let users = v.users;
-        return address::is_nobody(group::first_of(users));
+        return address::is_nobody(message::first_of(users));
     }
     false
 }
 
 // One dispatcher address, or no option and then zero.
 fn dispatcher_ok(present: bool, dispatcher: Address) -> bool
-    ensures { λ r. ⌜ r ≡ option oBit pBit nobody isNobody addressC .ok (present, dispatcher) ⌝ }
+    ensures { λ r. ⌜ r ≡ dispatcherC .ok (present, dispatcher) ⌝ }
 {
     if present {
         return address::address_ok(dispatcher);
@@ -221,9 +216,9 @@ fn call_fits(pdu: u8, v: Value) -> bool
             return false;
         }
         let users = v.users;
-        if address::is_nobody(group::first_of(users)) {
+        if address::is_nobody(message::first_of(users)) {
             let dispatchers = v.dispatchers;
-            return address::is_nobody(group::first_of(dispatchers));
+            return address::is_nobody(message::first_of(dispatchers));
         }
         return false;
     }

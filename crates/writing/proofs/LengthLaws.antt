@@ -20,18 +20,17 @@ use Rattle.message.specs.Elements as element
 use Rattle.message.specs.Addresses.{isZero, kindC, extensionC, addressC}
 use Rattle.message.specs.Groups.{addressesBy, addressesIn, spanBy, spanIn, placesC, addressesC, rangeC, groupC, spanOf, firstOf}
 use Rattle.message.specs.Acks.{maskC, maskedC, resultC}
-use Rattle.message.specs.Messages.{activateC, ackC, interrogateC, interceptedC, callC, acceptedC, bodyC, headerC, messageC}
+use Rattle.message.specs.Messages.{dispatchersC, dispatcherC, activateC, ackC, interrogateC, interceptedC, callC, acceptedC, bodyC, headerC, messageC}
 use Rattle.message.proofs.GroupLaws.{few-addresses, few-identities, range-allowed}
 use Rattle.message.specs.declared.Address.{Address}
 use Rattle.message.specs.declared.Group.{Group}
 use Rattle.message.specs.declared.Value.{Value}
 use Rattle.writing.specs.Writing.{bitsOf, bytesFor}
-use Rattle.writing.specs.Parts.{dispatchersC, dispatcherC}
 use Rattle.validity.specs.Validity.{validOf}
 
 -- ---- what a valid message's body is
 
-valid-body : (air : Air) (v : Value) → validOf air v ≡ true → bodyC air (v .pdu) .ok v ≡ true
+pub valid-body : (air : Air) (v : Value) → validOf air v ≡ true → bodyC air (v .pdu) .ok v ≡ true
 unfolding validOf messageC
 valid-body air v e = both-right _ _ (both-right true _ e)
 

@@ -1,6 +1,6 @@
 // One optional element: an O-bit; if it is 1, the P-bit 1 and the element.
+ghost use Rattle.message.specs.Messages.{dispatchersC, dispatcherC};
 ghost use Rattle.writing.specs.Wrote.{Wrote};
-ghost use Rattle.writing.specs.Parts.{dispatchersC, dispatcherC};
 use crate::address;
 use crate::element;
 use crate::group;

@@ -1,6 +1,7 @@
 //! Script lines of another shape, mostly one step off a good one; some steps stay within it.
 
 use crate::dice::Dice;
+use crate::odd::with_byte;
 use crate::profile::sample;
 
 /// Lines at the edges of the numbers, good and one too far.
@@ -66,7 +67,7 @@ pub fn line(dice: &mut Dice, good: &[u8]) -> Vec<u8> {
     let line = match dice.below(20) {
         0..=4 => dice.pick(&EDGES).as_bytes().to_vec(),
         5..=8 => with_number(dice, good),
-        9..=11 => with_byte(dice, good),
+        9..=11 => with_byte(dice, &NEAR, good),
         12 => [good, dice.pick(&[&b" "[..], b"\r", b" 0", b"\0"])].concat(),
         13 => [b" ", good].concat(),
         14 => good.to_ascii_uppercase(),
@@ -88,21 +89,6 @@ fn with_number(dice: &mut Dice, good: &[u8]) -> Vec<u8> {
     let chosen = dice.below(words.len());
     words[chosen] = dice.pick(&NUMBERS).as_bytes();
     words.join(&b' ')
-}
-
-fn with_byte(dice: &mut Dice, good: &[u8]) -> Vec<u8> {
-    let byte = if dice.one_in(2) {
-        dice.pick(&NEAR)
-    } else {
-        dice.number(8) as u8
-    };
-    let mut line = good.to_vec();
-    if dice.one_in(2) {
-        line.insert(dice.below(good.len() + 1), byte);
-    } else {
-        line[dice.below(good.len())] = byte;
-    }
-    line
 }
 
 /// 510 to 514 hex digits, of which 512 are the most.
