@@ -2,12 +2,11 @@
 use Prim.Native.Nat.{ℕ, zero, suc, _+_}
 use mathlib.Core.Path.{_≡_}
 use mathlib.Core.Bool.{Bool, true, false, cond}
-use mathlib.Core.List.{List, [], _∷_}
 use lib.Dec.{leb}
 use Rattle.bits.specs.Fields.{fieldAt}
 use Rattle.codec.specs.Stops.{short, refusal}
-use Rattle.codec.specs.Codec.{Read, got, no, bind, Codec, number, pure, guard, seq, map, choose, vec, vecRead, vecThen}
-use Rattle.codec.specs.Options.{flag, given, options, isAbsent, option}
+use Rattle.codec.specs.Codec.{Read, got, no, bind, Codec, number, pure, guard, seq, map, choose, vec, vecRead}
+use Rattle.codec.specs.Options.{flag, given, isAbsent, option}
 
 -- a refusal has a number that passes the test
 abbrev pub StopsBy : {A : Type 0} → (ℕ → Bool) → Read A → Type 0

@@ -1,6 +1,6 @@
 -- Which answers each call can give, and that the step's answer is the one that the call's order gives. Assumes nothing.
 use Prim.Native.Nat.{ℕ}
-use mathlib.Core.Path.{_≡_, refl, sym, ap, _∙_}
+use mathlib.Core.Path.{_≡_, refl}
 use mathlib.Core.Bool.{Bool, true, false, not, cond}
 use mathlib.Core.List.{List, [], _∷_}
 use native.Mathlib.Omega.{arith}
@@ -97,7 +97,7 @@ module _ (ok : Answer → Bool) (refused : (s : Stop) → pastOne (s .number) �
         go true = unless-ok (not (admitsOf (d .profile .shares) (placesOf d) (p .post))) 18 _ refl (admitted _ _)
         go false = free
 
-    setup-ok : (rows : List Record) (n room : ℕ) (caller called : Identity) (identifier : ℕ) → ok answer.Free ≡ true
+    pub setup-ok : (rows : List Record) (n room : ℕ) (caller called : Identity) (identifier : ℕ) → ok answer.Free ≡ true
         → ((post place : ℕ) → ok (answer.Admitted post place) ≡ true) → ok (setUpAnswer d rows n room caller called identifier) ≡ true
     unfolding setUpAnswer pastOne both
     setup-ok rows n room caller called identifier free admitted =

@@ -7,13 +7,13 @@ use mathlib.Core.List.{List, [], _∷_, _++_}
 use lib.ListN.{length, set, take, replicate}
 use Rattle.bits.specs.Fields.{bitAt, fieldAt}
 use Rattle.bits.specs.Puts.{withDigit, binary, setBit, putBits, spare}
-use Rattle.codec.specs.Stops.{short, refusal}
+use Rattle.codec.specs.Stops.{refusal}
 use Rattle.codec.specs.Codec.{both, number, vecRead}
 use Rattle.codec.specs.Options.{flag}
 use Rattle.profile.specs.Counting.{every, sum}
 use Rattle.profile.specs.Rules.{meaningOk, meaningIn, airOk, shareOk, shareIn, sharesOk, profileOk}
 use Rattle.profile.specs.Sample.{sample, sampleMeanings, sampleShare}
-use Rattle.message.specs.Addresses.{nobody, kindC, extensionC, addressC}
+use Rattle.message.specs.Addresses.{kindC, extensionC, addressC}
 use Rattle.message.specs.Groups.{addressesIn, allowedIn, nobodies, placesC, rangeOk, endsOk, addressesC, rangeC, groupC, noGroup, oneGroup, spanIn, spanOf}
 use Rattle.message.specs.Acks.{maskC, maskedC, resultC}
 use Rattle.message.specs.Values.{activateV, ackV, plainV}
@@ -29,7 +29,6 @@ use Rattle.records.specs.Records.{noRecord, rowOf, is, recordFrom, recordOf, re
 use Rattle.records.specs.Outcomes.{outcomeOf, outcomesOf, has, maskOf, someOf, sortedOf}
 use Rattle.records.specs.Marking.{acceptedOf, unmarked, noMarks, withMark, markAll, marksOf}
 use Rattle.records.specs.declared.Record.{Record}
-use Rattle.records.specs.declared.Identity.{Identity}
 use Rattle.sending.specs.Sending.{layFrom, layAll, noLaid, laidFrom, laidOf}
 use Rattle.sending.specs.Acks.{resultOf, reasonOf, severalIn, ackOf, acksOf}
 use Rattle.desk.specs.Desks.{deskOk}

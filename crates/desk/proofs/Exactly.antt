@@ -1,16 +1,15 @@
 -- Each refusal of the desk comes exactly when its ground holds and no earlier one of that call's order does. Assumes nothing.
-use Prim.Native.Nat.{ℕ, zero, suc, _<_}
+use Prim.Native.Nat.{ℕ, _<_}
 use mathlib.Core.Path.{_≡_, refl, sym, ap, _∙_, subst}
 use mathlib.Core.Bool.{Bool, true, false, not, cond, _||_}
 use mathlib.Core.List.{List, [], _∷_}
 use native.Mathlib.Omega.{arith}
 use lib.Dec.{eqb, ltb}
 use borrow.Author.Tests.{eqb-true}
-use lib.ListN.{length, take}
+use lib.ListN.{take}
 use Rattle.codec.specs.Codec.{Read, got, no}
 use Rattle.codec.specs.Stops.{refusal}
-use Rattle.codec.specs.declared.Stop.{Stop}
-use Rattle.codec.proofs.Good.{both-left, both-right, not-both}
+use Rattle.codec.proofs.Good.{both-left, both-right}
 use Rattle.message.specs.Messages.{isCarried, headerC, messageC}
 use Rattle.message.specs.Reading.{readOf}
 use Rattle.message.specs.declared.Value.{Value}
@@ -18,16 +17,15 @@ use Rattle.profile.specs.declared.Air.{Air}
 use Rattle.profile.specs.declared.Profile.{Profile}
 use Rattle.reading.specs.Answers.{readingOf}
 use Rattle.places.specs.Held.{admitsOf}
-use Rattle.places.specs.Spots.{lowestFree}
-use Rattle.records.specs.Records.{recordsOk, stateOf, restrictedOf}
+use Rattle.records.specs.Records.{recordsOk, restrictedOf}
 use Rattle.records.specs.declared.Identity.{Identity}
 use Rattle.records.specs.declared.Party.{Party}
 use Rattle.records.specs.declared.Record.{Record}
 use Rattle.writing.proofs.RoundTrips.{read-valid}
 use Rattle.validity.specs.Validity.{validOf}
 use Rattle.desk.specs.Desks.{deskOk}
-use Rattle.desk.specs.Grounds.{Ground, noSuchPost, notSent, waits, waitsHere, noPlaceFor, typeOrder, readOrder, messageOrder, setUpOrder, rejectOrder, cancelOrder, eventOrder, orderOf, firstOf}
-use Rattle.desk.specs.Orders.{numberOf, unless, postsOf, placesOf, namesDispatchers, activateAnswer, interrogateAnswer, endAnswer, decideAnswer, sentAnswer, readAnswer, messageAnswer, identifierOk, setUpOk, admitAnswer, partyAnswer, setUpAnswer, rejectAnswer, cancelAnswer, eventAnswer, answerOf}
+use Rattle.desk.specs.Grounds.{Ground, notSent, waits, waitsHere, noPlaceFor, typeOrder, readOrder, messageOrder, setUpOrder, rejectOrder, cancelOrder, orderOf, firstOf}
+use Rattle.desk.specs.Orders.{numberOf, unless, postsOf, placesOf, namesDispatchers, activateAnswer, interrogateAnswer, endAnswer, decideAnswer, sentAnswer, readAnswer, messageAnswer, identifierOk, setUpOk, admitAnswer, partyAnswer, setUpAnswer, rejectAnswer, cancelAnswer, answerOf}
 use Rattle.desk.specs.declared.Answer.{Answer}
 use Rattle.desk.specs.declared.Answer.the-variants as answer
 use Rattle.desk.specs.declared.Desk.{Desk}

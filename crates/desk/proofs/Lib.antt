@@ -8,4 +8,5 @@ pub mod AnswerLaws
 pub mod Exactly
 pub mod Refusals
 pub mod SetUps
+pub mod Endings
 pub mod Cases

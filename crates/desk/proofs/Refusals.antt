@@ -10,7 +10,7 @@ use Rattle.codec.specs.declared.Stop.{Stop}
 use Rattle.records.specs.Marking.{noMarks}
 use Rattle.records.specs.declared.Record.{Record}
 use Rattle.sending.specs.Sending.{noLaid}
-use Rattle.desk.specs.Grounds.{Ground, orderOf}
+use Rattle.desk.specs.Grounds.{orderOf}
 use Rattle.desk.specs.Orders.{numberOf, answerOf}
 use Rattle.desk.specs.Steps.{keeps, postOf, usersOf, identifierOf, stepOf, areaAfter}
 use Rattle.desk.specs.declared.Answer.{Answer}

@@ -5,26 +5,21 @@ use mathlib.Core.Bool.{Bool, true, false, not, cond}
 use mathlib.Core.List.{List, [], _∷_}
 use lib.Dec.{ltb}
 use lib.ListN.{length, take}
-use borrow.Author.Tests.{ltb-true}
 use Rattle.codec.specs.Codec.{both}
-use Rattle.codec.specs.Stops.{published}
-use Rattle.codec.specs.declared.Stop.{Stop}
-use Rattle.codec.proofs.Good.{both-left, both-right, both-true, not-both}
+use Rattle.codec.proofs.Good.{both-left, both-right, not-both}
 use Rattle.message.specs.declared.Group.{Group}
 use Rattle.places.specs.Held.{admitsOf}
 use Rattle.places.specs.Spots.{spotAt, placeOf, lowestFree, takeOf}
-use Rattle.places.specs.declared.Place.{Place}
-use Rattle.places.specs.declared.Spot.{Spot}
 use Rattle.places.proofs.SpotLaws.{FreeFirst, lowest-free-exactly, spot-found}
 use Rattle.places.proofs.PlaceLaws.{admitted-has-place}
-use Rattle.records.specs.Records.{recordsOk, isRestricted, noParty, postFor, restrictedOf}
+use Rattle.records.specs.Records.{recordsOk, isRestricted, noParty, postFor}
 use Rattle.records.specs.declared.Identity.{Identity}
 use Rattle.records.specs.declared.Party.{Party}
 use Rattle.records.specs.declared.Record.{Record}
 use Rattle.records.proofs.PartyLaws.{restricted-is, party-below}
 use Rattle.desk.specs.Desks.{deskOk}
-use Rattle.desk.specs.Grounds.{Ground, partyFor, noneOf, setUpGrounds, isNew, isFreeCall}
-use Rattle.desk.specs.Orders.{unless, postsOf, placesOf, identifierOk, setUpOk, admitAnswer, partyAnswer, setUpAnswer, answerOf}
+use Rattle.desk.specs.Grounds.{Ground, waits, partyFor, noneOf, setUpGrounds, isNew, isFreeCall}
+use Rattle.desk.specs.Orders.{unless, postsOf, placesOf, setUpOk, admitAnswer, partyAnswer, setUpAnswer, answerOf}
 use Rattle.desk.specs.Steps.{effectBy, effectOf, deskAfter, identifierOf, plainStep, acksStep, stepBy, stepOf}
 use Rattle.desk.specs.declared.Answer.{Answer}
 use Rattle.desk.specs.declared.Answer.the-variants as answer
@@ -32,6 +27,7 @@ use Rattle.desk.specs.declared.Desk.{Desk}
 use Rattle.desk.specs.declared.Event.{Event}
 use Rattle.desk.specs.declared.Event.the-variants as event
 use Rattle.desk.proofs.AnswerLaws.{step-answer, answer-ok}
+use Rattle.desk.proofs.SetUpLaws.{setup-identifier}
 
 -- ---- the desk after any call: what the answer says of the waiting calls, and nothing else
 
@@ -110,7 +106,7 @@ refused-not-free answer.Diverted e = refl
 refused-not-free answer.Rejected e = refl
 refused-not-free answer.Cancelled e = refl
 
-not-true : (b : Bool) → not b ≡ true → b ≡ false
+pub not-true : (b : Bool) → not b ≡ true → b ≡ false
 not-true true e = not-both e
 not-true false e = refl
 
@@ -278,7 +274,15 @@ module _ (d : Desk) (rows : List Record) (n : ℕ) (l area : List ℕ) (e : Even
       go (event.Reject post identifier) = not-true _ (answer-ok never (λ s p. refl) d rows n l (length area) refl (event.Reject post identifier) refl)
       go (event.Cancel identifier) = not-true _ (answer-ok never (λ s p. refl) d rows n l (length area) refl (event.Cancel identifier) refl)
 
--- what an admission takes: the lowest free place, with the identifier and the post
+-- an admission, of whatever call: a new identifier of 14 bits, for a post that the places rule admits, at the lowest free place
+pub record AdmittedCall (d : Desk) (identifier post place : ℕ) : Type 0 where
+  pub small : identifier < 2 ^ 14
+  pub new : waits d identifier ≡ false
+  pub below : post < postsOf d
+  pub admits : admitsOf (d .profile .shares) (placesOf d) post ≡ true
+  pub spot : lowestFree (placesOf d) ≡ spotAt place
+
+-- what it takes: the lowest free place, with the identifier and the post
 pub record Taken (d : Desk) (identifier post place : ℕ) (after : Desk) : Type 0 where
   pub first : FreeFirst (placesOf d) place
   pub desk : after ≡ record { profile = d .profile; places = record { place = takeOf (placesOf d) place identifier post } }
@@ -287,15 +291,25 @@ module _ (d : Desk) (rows : List Record) (n : ℕ) (l area : List ℕ) (post pla
   not-admitted : {A : Type 0} (e : Event) → never (answerOf d rows n l (length area) e) ≡ true → stepOf d rows n l area e .answer ≡ answer.Admitted post place → A
   not-admitted e h z = not-both (ap never (sym (sym (step-answer d rows n l area e) ∙ z)) ∙ h)
 
+  pub admitted-so : (e : Event) → stepOf d rows n l area e .answer ≡ answer.Admitted post place → AdmittedCall d (identifierOf (d .profile) l e) post place
+  admitted-so (event.SetUp caller called identifier) z =
+      let a = setup-admitted d rows n l (length area) caller called identifier post place (sym (step-answer d rows n l area (event.SetUp caller called identifier)) ∙ z) in
+      record {
+        small = setup-identifier caller called identifier (a .new .call);
+        new = a .new .waiting;
+        below = a .below;
+        admits = a .admits;
+        spot = a .spot;
+      }
+  admitted-so (event.Message p bits) z = not-admitted (event.Message p bits) (answer-ok never (λ s p. refl) d rows n l (length area) refl (event.Message p bits) (refl, ((λ k. refl), (refl, refl)))) z
+  admitted-so (event.Reject p identifier) z = not-admitted (event.Reject p identifier) (answer-ok never (λ s p. refl) d rows n l (length area) refl (event.Reject p identifier) refl) z
+  admitted-so (event.Cancel identifier) z = not-admitted (event.Cancel identifier) (answer-ok never (λ s p. refl) d rows n l (length area) refl (event.Cancel identifier) refl) z
+
   pub place-lowest : (e : Event) → stepOf d rows n l area e .answer ≡ answer.Admitted post place → Taken d (identifierOf (d .profile) l e) post place (stepOf d rows n l area e .desk)
   unfolding effectOf deskAfter
-  place-lowest (event.SetUp caller called identifier) z =
-      let e = event.SetUp caller called identifier in
-      let a = setup-admitted d rows n l (length area) caller called identifier post place (sym (step-answer d rows n l area e) ∙ z) in
+  place-lowest e z =
+      let a = admitted-so e z in
       record {
         first = lowest-free-exactly (placesOf d) place (a .spot);
         desk = step-desk d rows n l area e ∙ rw (z, a .spot) refl;
       }
-  place-lowest (event.Message p bits) z = not-admitted (event.Message p bits) (answer-ok never (λ s p. refl) d rows n l (length area) refl (event.Message p bits) (refl, ((λ k. refl), (refl, refl)))) z
-  place-lowest (event.Reject p identifier) z = not-admitted (event.Reject p identifier) (answer-ok never (λ s p. refl) d rows n l (length area) refl (event.Reject p identifier) refl) z
-  place-lowest (event.Cancel identifier) z = not-admitted (event.Cancel identifier) (answer-ok never (λ s p. refl) d rows n l (length area) refl (event.Cancel identifier) refl) z

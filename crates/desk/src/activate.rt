@@ -34,10 +34,11 @@ pub(crate) fn activate(
     let profile = desk.profile;
     let air = profile.air;
     let shares = profile.shares;
+    let sound = records::records_ok(rows, count, shares.posts);
     if out.len() < 300 {
         return kept::refused(desk, codec::refuse(14));
     }
-    if records::records_ok(rows, count, shares.posts) {} else {
+    if sound {} else {
         return kept::refused(desk, codec::refuse(15));
     }
     if names_dispatchers(air, value) {

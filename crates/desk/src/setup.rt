@@ -29,20 +29,22 @@ pub(crate) fn set_up(
     let profile = desk.profile;
     let shares = profile.shares;
     let places = desk.places;
-    if set_up_ok(caller, called, identifier) {} else {
+    let formed = set_up_ok(caller, called, identifier);
+    let sound = records::records_ok(rows, count, shares.posts);
+    let waiting = places::place_of(places, identifier);
+    let party = records::restricted(rows, count, caller, called);
+    if formed {} else {
         return kept::refused(desk, codec::refuse(16));
     }
     if out.len() < 300 {
         return kept::refused(desk, codec::refuse(14));
     }
-    if records::records_ok(rows, count, shares.posts) {} else {
+    if sound {} else {
         return kept::refused(desk, codec::refuse(15));
     }
-    let waiting = places::place_of(places, identifier);
     if waiting.found {
         return kept::refused(desk, codec::refuse(17));
     }
-    let party = records::restricted(rows, count, caller, called);
     if party.found {
         return admit(desk, party.post, identifier, out);
     }

@@ -1,6 +1,6 @@
 -- The numbers that reading gives: 1, and 3 to 13 without 8. Assumes nothing.
 use Prim.Native.Nat.{ℕ}
-use mathlib.Core.Path.{_≡_, refl, sym, _∙_, subst}
+use mathlib.Core.Path.{_≡_, refl, subst}
 use mathlib.Core.Bool.{Bool, true, false, cond}
 use mathlib.Core.List.{List}
 use native.Mathlib.Omega.{arith}
@@ -8,7 +8,7 @@ use lib.Dec.{eqb, leb}
 use borrow.Author.Tests.{le-leb, leb-true}
 use Rattle.bits.specs.Fields.{bitAt}
 use Rattle.codec.specs.Stops.{refusal, published}
-use Rattle.codec.specs.Codec.{Read, got, no, both, Codec, number, pure, guard, seq, choose, vec}
+use Rattle.codec.specs.Codec.{Read, no, both, number, pure, seq, choose}
 use Rattle.codec.specs.declared.Stop.{Stop}
 use Rattle.codec.proofs.Good.{both-left, both-right}
 use Rattle.codec.proofs.StopLaws.{StopsBy, Only, bind-only, test-only, only-number, only-pure, only-guard, only-seq, only-map, only-choose, only-vec, only-given, only-option}
@@ -20,7 +20,7 @@ use Rattle.message.specs.Elements as element
 use Rattle.message.specs.Addresses.{nobody, isZero, isNobody, isKind, kindC, extensionC, addressC}
 use Rattle.message.specs.Groups.{placesC, addressesIn, addressesC, allowedIn, endsOk, rangeC, groupC, noGroup, isNoGroup, spanOf}
 use Rattle.message.specs.Acks.{maskC, maskedC, resultC}
-use Rattle.message.specs.Values.{acceptedFits, plainV}
+use Rattle.message.specs.Values.{acceptedFits}
 use Rattle.message.specs.Messages.{activateC, ackC, interrogateC, interceptedC, callC, acceptedC, bodyC, isKnown, isCarried, headerC, messageC}
 use Rattle.message.specs.Reading.{wholeOf, lengthOk, readBits, readOf, isReading}
 use Rattle.message.specs.declared.Value.{Value}

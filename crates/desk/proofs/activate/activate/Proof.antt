@@ -6,6 +6,9 @@ use Rattle.desk.proofs.PostLaws.{acks-by, refused-by}
 use Rattle.desk.proofs.activate.activate.Statement.{statement}
 use Rattle.desk.proofs.activate.activate.Tie as tie
 
+records-ok-requires : tie.Need-records-ok-requires
+records-ok-requires c κs = search needs
+
 refuse-requires : tie.Need-refuse-requires
 refuse-requires c κs = search needs
 
@@ -14,9 +17,6 @@ refused-requires c κs = search needs
 
 returns : tie.Need-returns
 returns c = refused-by _ _ _ _ _ _ _ _ _ _ (c .refused .ensures) (c .before .refuse .ensures) (activate-14 _ _ _ _ _ (c .before .before .if1 .taken))
-
-records-ok-requires : tie.Need-records-ok-requires
-records-ok-requires c κs = search needs
 
 refuse-requires-2 : tie.Need-refuse-requires-2
 refuse-requires-2 c κs = search needs
@@ -27,7 +27,7 @@ refused-requires-2 c κs = search needs
 returns-2 : tie.Need-returns-2
 returns-2 c =
     refused-by _ _ _ _ _ _ _ _ _ _ (c .refused2 .ensures) (c .before .refuse2 .ensures)
-    (activate-15 _ _ _ _ _ (c .before .before .before .before .if1 .left) (sym (c .before .before .before .records-ok .ensures) ∙ c .before .before .if2 .left))
+    (activate-15 _ _ _ _ _ (c .before .before .before .if1 .left) (sym (c .before .before .before .before .records-ok .ensures) ∙ c .before .before .if2 .left))
 
 names-dispatchers-requires : tie.Need-names-dispatchers-requires
 names-dispatchers-requires c κs = search needs
@@ -41,12 +41,12 @@ refused-requires-3 c κs = search needs
 returns-3 : tie.Need-returns-3
 returns-3 c =
     refused-by _ _ _ _ _ _ _ _ _ _ (c .refused3 .ensures) (c .before .refuse3 .ensures)
-    (activate-21 _ _ _ _ _ (c .before .before .before .before .before .before .if1 .left) (sym (c .before .before .before .before .before .records-ok .ensures) ∙ c .before .before .before .before .if2 .taken) (sym (c .before .before .before .names-dispatchers .ensures) ∙ c .before .before .if3 .taken))
+    (activate-21 _ _ _ _ _ (c .before .before .before .before .before .if1 .left) (sym (c .before .before .before .before .before .before .records-ok .ensures) ∙ c .before .before .before .before .if2 .taken) (sym (c .before .before .before .names-dispatchers .ensures) ∙ c .before .before .if3 .taken))
 
 acks-requires : tie.Need-acks-requires
 acks-requires c κs =
     let a = c .before .before .before .before .before .before .before .before .before .before .before in
-    (a .pre .0, (activate-users _ _ (a .pre .1 .0) (a .pre .1 .1), c .before .before .before .before .before .before .if1 .left))
+    (a .pre .0, (activate-users _ _ (a .pre .1 .0) (a .pre .1 .1), c .before .before .before .before .before .if1 .left))
 
 same-length : tie.Need-same-length
 same-length c = search needs
@@ -54,17 +54,17 @@ same-length c = search needs
 returns-4 : tie.Need-returns-4
 returns-4 c =
     acks-by _ _ _ _ _ _ _ _ _
-    (activate-acks _ _ _ _ _ (c .before .before .before .before .before .before .before .before .before .if1 .left) (sym (c .before .before .before .before .before .before .before .before .records-ok .ensures) ∙ c .before .before .before .before .before .before .before .if2 .taken) (sym (c .before .before .before .before .before .before .names-dispatchers .ensures) ∙ c .before .before .before .before .before .if3 .left))
+    (activate-acks _ _ _ _ _ (c .before .before .before .before .before .before .before .before .if1 .left) (sym (c .before .before .before .before .before .before .before .before .before .records-ok .ensures) ∙ c .before .before .before .before .before .before .before .if2 .taken) (sym (c .before .before .before .before .before .before .names-dispatchers .ensures) ∙ c .before .before .before .before .before .if3 .left))
     (c .before .before .acks .ensures)
 
 pub activate-spec : {M : Type 1} → statement M
 activate-spec =
     tie.close
     (tie.spec
+    records-ok-requires
     refuse-requires
     refused-requires
     returns
-    records-ok-requires
     refuse-requires-2
     refused-requires-2
     returns-2

@@ -9,6 +9,15 @@ use Rattle.desk.proofs.setup.set_up.Tie as tie
 set-up-ok-requires : tie.Need-set-up-ok-requires
 set-up-ok-requires c κs = search needs
 
+records-ok-requires : tie.Need-records-ok-requires
+records-ok-requires c κs = search needs
+
+place-of-requires : tie.Need-place-of-requires
+place-of-requires c κs = search needs
+
+restricted-requires : tie.Need-restricted-requires
+restricted-requires c κs = search needs
+
 refuse-requires : tie.Need-refuse-requires
 refuse-requires c κs = search needs
 
@@ -16,7 +25,7 @@ refused-requires : tie.Need-refused-requires
 refused-requires c κs = search needs
 
 returns : tie.Need-returns
-returns c = refused-plain _ _ _ _ _ _ _ (c .refused .ensures) (c .before .refuse .ensures) (setup-16 _ _ _ _ _ _ _ (sym (c .before .before .before .set-up-ok .ensures) ∙ c .before .before .if1 .left))
+returns c = refused-plain _ _ _ _ _ _ _ (c .refused .ensures) (c .before .refuse .ensures) (setup-16 _ _ _ _ _ _ _ (sym (c .before .before .before .before .before .before .set-up-ok .ensures) ∙ c .before .before .if1 .left))
 
 refuse-requires-2 : tie.Need-refuse-requires-2
 refuse-requires-2 c κs = search needs
@@ -27,10 +36,7 @@ refused-requires-2 c κs = search needs
 returns-2 : tie.Need-returns-2
 returns-2 c =
     refused-plain _ _ _ _ _ _ _ (c .refused2 .ensures) (c .before .refuse2 .ensures)
-    (setup-14 _ _ _ _ _ _ _ (sym (c .before .before .before .before .set-up-ok .ensures) ∙ c .before .before .before .if1 .taken) (c .before .before .if2 .taken))
-
-records-ok-requires : tie.Need-records-ok-requires
-records-ok-requires c κs = search needs
+    (setup-14 _ _ _ _ _ _ _ (sym (c .before .before .before .before .before .before .before .set-up-ok .ensures) ∙ c .before .before .before .if1 .taken) (c .before .before .if2 .taken))
 
 refuse-requires-3 : tie.Need-refuse-requires-3
 refuse-requires-3 c κs = search needs
@@ -41,10 +47,7 @@ refused-requires-3 c κs = search needs
 returns-3 : tie.Need-returns-3
 returns-3 c =
     refused-plain _ _ _ _ _ _ _ (c .refused3 .ensures) (c .before .refuse3 .ensures)
-    (setup-15 _ _ _ _ _ _ _ (sym (c .before .before .before .before .before .before .set-up-ok .ensures) ∙ c .before .before .before .before .before .if1 .taken) (c .before .before .before .before .if2 .left) (sym (c .before .before .before .records-ok .ensures) ∙ c .before .before .if3 .left))
-
-place-of-requires : tie.Need-place-of-requires
-place-of-requires c κs = search needs
+    (setup-15 _ _ _ _ _ _ _ (sym (c .before .before .before .before .before .before .before .before .set-up-ok .ensures) ∙ c .before .before .before .before .if1 .taken) (c .before .before .before .if2 .left) (sym (c .before .before .before .before .before .before .before .records-ok .ensures) ∙ c .before .before .if3 .left))
 
 refuse-requires-4 : tie.Need-refuse-requires-4
 refuse-requires-4 c κs = search needs
@@ -55,25 +58,22 @@ refused-requires-4 c κs = search needs
 returns-4 : tie.Need-returns-4
 returns-4 c =
     refused-plain _ _ _ _ _ _ _ (c .refused4 .ensures) (c .before .refuse4 .ensures)
-    (setup-17 _ _ _ _ _ _ _ (sym (c .before .before .before .before .before .before .before .before .set-up-ok .ensures) ∙ c .before .before .before .before .before .before .before .if1 .taken) (c .before .before .before .before .before .before .if2 .left) (sym (c .before .before .before .before .before .records-ok .ensures) ∙ c .before .before .before .before .if3 .taken)
-    (c .before .before .before .place-of .result) (c .before .before .before .place-of .ensures) (c .before .before .if4 .taken))
-
-restricted-requires : tie.Need-restricted-requires
-restricted-requires c κs = search needs
+    (setup-17 _ _ _ _ _ _ _ (sym (c .before .before .before .before .before .before .before .before .before .set-up-ok .ensures) ∙ c .before .before .before .before .before .if1 .taken) (c .before .before .before .before .if2 .left) (sym (c .before .before .before .before .before .before .before .before .records-ok .ensures) ∙ c .before .before .before .if3 .taken)
+    (c .before .before .before .before .before .before .before .place-of .result) (c .before .before .before .before .before .before .before .place-of .ensures) (c .before .before .if4 .taken))
 
 admit-requires : tie.Need-admit-requires
 admit-requires c κs =
-    let k = setup-identifier _ _ _ (sym (c .before .before .before .before .before .before .before .before .before .set-up-ok .ensures) ∙ c .before .before .before .before .before .before .before .before .if1 .taken) in
-    (c .before .before .before .before .before .before .before .before .before .before .before .before .before .before .pre, (k, c .before .before .before .before .before .before .before .if2 .left))
+    let k = setup-identifier _ _ _ (sym (c .before .before .before .before .before .before .before .before .before .set-up-ok .ensures) ∙ c .before .before .before .before .before .if1 .taken) in
+    (c .before .before .before .before .before .before .before .before .before .before .before .before .before .before .pre, (k, c .before .before .before .before .if2 .left))
 
 same-length : tie.Need-same-length
 same-length c = search needs
 
 returns-5 : tie.Need-returns-5
 returns-5 c =
-    let p = c .before .before .before .before .before in
-    let e = setup-party _ _ _ _ _ _ _ (sym (c .before .before .before .before .before .before .before .before .before .before .before .before .set-up-ok .ensures) ∙ c .before .before .before .before .before .before .before .before .before .before .before .if1 .taken) (c .before .before .before .before .before .before .before .before .before .before .if2 .left) (sym (c .before .before .before .before .before .before .before .before .before .records-ok .ensures) ∙ c .before .before .before .before .before .before .before .before .if3 .taken)
-    (c .before .before .before .before .before .before .before .place-of .result) (c .before .before .before .before .before .before .before .place-of .ensures) (c .before .before .before .before .before .before .if4 .left) (p .restricted .result) (p .restricted .ensures)
+    let p = c .before .before .before .before .before .before .before .before .before in
+    let e = setup-party _ _ _ _ _ _ _ (sym (c .before .before .before .before .before .before .before .before .before .before .before .before .set-up-ok .ensures) ∙ c .before .before .before .before .before .before .before .before .if1 .taken) (c .before .before .before .before .before .before .before .if2 .left) (sym (c .before .before .before .before .before .before .before .before .before .before .before .records-ok .ensures) ∙ c .before .before .before .before .before .before .if3 .taken)
+    (c .before .before .before .before .before .before .before .before .before .before .place-of .result) (c .before .before .before .before .before .before .before .before .before .before .place-of .ensures) (c .before .before .before .before .before .if4 .left) (p .restricted .result) (p .restricted .ensures)
     ∙ party-admit _ (p .restricted .result) (c .before .before .before .before .if5 .taken) in
     same-plain _ _ _ _ _ _ _ e (c .before .before .admit .ensures)
 
@@ -82,9 +82,9 @@ keeps-requires c κs = search needs
 
 returns-6 : tie.Need-returns-6
 returns-6 c =
-    let p = c .before .before in
-    let e = setup-party _ _ _ _ _ _ _ (sym (c .before .before .before .before .before .before .before .before .before .set-up-ok .ensures) ∙ c .before .before .before .before .before .before .before .before .if1 .taken) (c .before .before .before .before .before .before .before .if2 .left) (sym (c .before .before .before .before .before .before .records-ok .ensures) ∙ c .before .before .before .before .before .if3 .taken)
-    (c .before .before .before .before .place-of .result) (c .before .before .before .before .place-of .ensures) (c .before .before .before .if4 .left) (p .restricted .result) (p .restricted .ensures)
+    let p = c .before .before .before .before .before .before in
+    let e = setup-party _ _ _ _ _ _ _ (sym (c .before .before .before .before .before .before .before .before .before .set-up-ok .ensures) ∙ c .before .before .before .before .before .if1 .taken) (c .before .before .before .before .if2 .left) (sym (c .before .before .before .before .before .before .before .before .records-ok .ensures) ∙ c .before .before .before .if3 .taken)
+    (c .before .before .before .before .before .before .before .place-of .result) (c .before .before .before .before .before .before .before .place-of .ensures) (c .before .before .if4 .left) (p .restricted .result) (p .restricted .ensures)
     ∙ party-free _ (p .restricted .result) (c .before .if5 .left) in
     free-plain _ _ _ _ _ (c .keeps .ensures) e
 
@@ -93,21 +93,21 @@ set-up-spec =
     tie.close
     (tie.spec
     set-up-ok-requires
+    records-ok-requires
+    place-of-requires
+    restricted-requires
     refuse-requires
     refused-requires
     returns
     refuse-requires-2
     refused-requires-2
     returns-2
-    records-ok-requires
     refuse-requires-3
     refused-requires-3
     returns-3
-    place-of-requires
     refuse-requires-4
     refused-requires-4
     returns-4
-    restricted-requires
     admit-requires
     same-length
     returns-5
