@@ -1,1 +1,3 @@
 pub mod WaitingLaws
+pub mod RunLaws
+pub mod Sharing

@@ -26,7 +26,7 @@ use Rattle.places.proofs.PlaceLaws.{Passes, passes}
 use Rattle.history.specs.Histories.{Waiting, without, countBy, isWaiting, heldBy, freeBy, owedBy, owedToOthers}
 
 -- the call in a place passes a test
-unfoldable hasSuch : (Waiting → Bool) → Place → Bool
+unfoldable pub hasSuch : (Waiting → Bool) → Place → Bool
 hasSuch test p = both (p .used) (test (p .identifier, p .post))
 
 -- as many used places pass a test as waiting calls do, whatever the test

@@ -1,0 +1,116 @@
+-- Along any history the desk stays one that 1 passes, and its used places are the calls that the history has waiting. Assumes nothing.
+use Prim.Native.Nat.{ℕ}
+use mathlib.Core.Path.{_≡_, refl, sym, ap, _∙_, subst}
+use mathlib.Core.Bool.{Bool, true, false, not}
+use mathlib.Core.List.{List, [], _∷_}
+use lib.Dec.{eqb}
+use lib.ListN.{length}
+use borrow.Author.Tests.{ne-eqb}
+use Rattle.codec.specs.Codec.{both}
+use Rattle.codec.specs.Stops.{refusal}
+use Rattle.codec.proofs.Good.{both-left, both-right, both-true, not-both}
+use Rattle.profile.specs.Rules.{profileOk}
+use Rattle.profile.specs.declared.Profile.{Profile}
+use Rattle.places.specs.Grounds.{placesOk}
+use Rattle.places.specs.Spots.{spotAt, placeOf, lowestFree}
+use Rattle.places.specs.declared.Spot.{Spot}
+use Rattle.places.proofs.HeldLaws.{length-take, length-clear, length-none}
+use Rattle.places.proofs.SpotLaws.{spot-found, lowest-free-exactly}
+use Rattle.places.proofs.PlaceLaws.{take-keeps, clear-keeps, none-waiting-ok}
+use Rattle.desk.specs.Desks.{deskWith, deskOk}
+use Rattle.desk.specs.Orders.{placesOf}
+use Rattle.desk.specs.Steps.{Effect, nothing, begins, ends, effectBy, effectOf, identifierOf, deskAfter}
+use Rattle.desk.specs.declared.Answer.{Answer}
+use Rattle.desk.specs.declared.Answer.the-variants as answer
+use Rattle.desk.specs.declared.Desk.{Desk}
+use Rattle.desk.proofs.SetUps.{step-desk, admitted-so}
+use Rattle.desk.proofs.Endings.{isEnding, ended-waits}
+use Rattle.history.specs.Histories.{Call, History, stepFor, runOf, leftBy, Waiting, afterwards, waitingAfter, waitingOf}
+use Rattle.history.proofs.WaitingLaws.{Same, same-none, same-take, same-clear}
+
+-- a desk along a history: 32 places that 1 passes, and the calls w wait in them
+pub record Along (d : Desk) (w : List Waiting) : Type 0 where
+  pub size : length (placesOf d) ≡ 32
+  pub sound : placesOk (d .profile .shares) (placesOf d) ≡ true
+  pub same : Same (placesOf d) w
+
+-- ---- one call
+
+module _ (d : Desk) (w : List Waiting) (a : Along d w) (c : Call) where
+  abbrev identifier : ℕ
+  identifier = identifierOf (d .profile) (c .message) (c .event)
+
+  along-ends : isEnding (stepFor d c .answer) ≡ true → Along (deskAfter d (ends identifier)) (afterwards w (ends identifier))
+  unfolding deskAfter
+  along-ends z =
+      let at = spot-found (placeOf (placesOf d) identifier) (ended-waits d (c .rows) (c .count) (c .message) (c .area) (c .event) z) in
+      record {
+        size = length-clear (placesOf d) _ ∙ a .size;
+        sound = clear-keeps (d .profile .shares) (placesOf d) (a .size) _ (a .sound);
+        same = same-clear (d .profile .shares) (placesOf d) w (a .size) (a .sound) (a .same) _ identifier at;
+      }
+
+  along-begins : (post place : ℕ) → stepFor d c .answer ≡ answer.Admitted post place → Along (deskAfter d (begins identifier post)) (afterwards w (begins identifier post))
+  unfolding deskAfter
+  along-begins post place z =
+      let k = admitted-so d (c .rows) (c .count) (c .message) (c .area) post place (c .event) z in
+      let at = spot-found (lowestFree (placesOf d)) (ap (λ (s : Spot). s .found) (k .spot)) in
+      let f = lowest-free-exactly (placesOf d) (lowestFree (placesOf d) .place) at in
+      record {
+        size = length-take (placesOf d) _ identifier post ∙ a .size;
+        sound = take-keeps (d .profile .shares) (placesOf d) (a .size) _ identifier post (a .sound) (k .small) (k .new) (k .below) (k .admits) at;
+        same = same-take (placesOf d) w (a .size) (a .same) _ identifier post (f .inside) (f .free);
+      }
+
+  along-nothing : Along (deskAfter d nothing) (afterwards w nothing)
+  unfolding deskAfter
+  along-nothing = record { size = a .size; sound = a .sound; same = a .same }
+
+  along-answer : (x : Answer) → stepFor d c .answer ≡ x → Along (deskAfter d (effectBy identifier x)) (afterwards w (effectBy identifier x))
+  along-answer (answer.Refused s) z = along-nothing
+  along-answer answer.Acks z = along-nothing
+  along-answer (answer.State k) z = along-nothing
+  along-answer answer.Free z = along-nothing
+  along-answer (answer.Admitted post place) z = along-begins post place z
+  along-answer answer.Proceed z = along-ends (ap isEnding z)
+  along-answer answer.Diverted z = along-ends (ap isEnding z)
+  along-answer answer.Rejected z = along-ends (ap isEnding z)
+  along-answer answer.Cancelled z = along-ends (ap isEnding z)
+
+  along-step : Along (stepFor d c .desk) (afterwards w (effectOf (d .profile) (c .message) (c .event) (stepFor d c .answer)))
+  unfolding effectOf
+  along-step =
+      subst (λ (x : Desk). Along x (afterwards w (effectBy identifier (stepFor d c .answer)))) (sym (step-desk d (c .rows) (c .count) (c .message) (c .area) (c .event)))
+      (along-answer (stepFor d c .answer) refl)
+
+-- a call leaves the profile as it is
+step-profile : (d : Desk) (c : Call) → stepFor d c .desk .profile ≡ d .profile
+unfolding deskAfter
+step-profile d c = ap (λ (x : Desk). x .profile) (step-desk d (c .rows) (c .count) (c .message) (c .area) (c .event))
+
+-- ---- any number of them
+
+pub run-profile : (calls : List Call) (d : Desk) → leftBy d calls .profile ≡ d .profile
+unfolding leftBy
+run-profile [] d = refl
+run-profile (c ∷ calls) d = run-profile calls (stepFor d c .desk) ∙ step-profile d c
+
+pub along-run : (calls : List Call) (d : Desk) (w : List Waiting) → Along d w → Along (leftBy d calls) (waitingAfter (d .profile) w (runOf d calls))
+unfolding leftBy runOf waitingAfter
+along-run [] d w a = a
+along-run (c ∷ calls) d w a =
+    subst
+    (λ (p : Profile). Along (leftBy (stepFor d c .desk) calls)
+    (waitingAfter p (afterwards w (effectOf (d .profile) (c .message) (c .event) (stepFor d c .answer))) (runOf (stepFor d c .desk) calls)))
+    (step-profile d c)
+    (along-run calls (stepFor d c .desk) _ (along-step d w a c))
+
+-- ---- from an opened desk
+
+module _ (p : Profile) (opens : profileOk p ≡ true) where
+  along-open : Along (deskWith p) []
+  unfolding profileOk
+  along-open = record { size = length-none; sound = none-waiting-ok (p .shares) (both-right _ _ opens); same = same-none }
+
+  pub along : (calls : List Call) → Along (leftBy (deskWith p) calls) (waitingOf p (runOf (deskWith p) calls))
+  along calls = along-run calls (deskWith p) [] along-open

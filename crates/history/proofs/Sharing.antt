@@ -1,0 +1,195 @@
+-- Demand 3: the 32 places are shared as paid for, over any history from an opened desk, counted from the history alone. Assumes nothing.
+use Prim.Native.Nat.{ℕ, _<_, _≤_}
+use mathlib.Core.Path.{_≡_, refl, sym, ap, _∙_, subst}
+use mathlib.Core.Bool.{Bool, true, false, not, cond, _||_}
+use mathlib.Core.List.{List, [], _∷_}
+use mathlib.Core.Logic.{_⊎_, inl, inr, ⊎-elim}
+use native.Mathlib.Omega.{arith}
+use lib.Dec.{eqb, ltb}
+use lib.ListN.{length}
+use borrow.Author.Tests.{ne-eqb, leb-true, lt-ltb, le-ltb}
+use Rattle.codec.specs.Codec.{both}
+use Rattle.codec.specs.Stops.{refusal}
+use Rattle.codec.proofs.Good.{both-left, both-right, both-true, not-both}
+use Rattle.profile.specs.Rules.{shareIn, profileOk}
+use Rattle.profile.specs.declared.Profile.{Profile}
+use Rattle.profile.specs.declared.Share.{Share}
+use Rattle.places.specs.Held.{admitsOf, heldOf, owedOthers, freeOf}
+use Rattle.places.specs.Grounds.{placesOk}
+use Rattle.places.specs.Spots.{placeOf, lowestFree}
+use Rattle.places.proofs.PlaceLaws.{passes, admits-rule, rule-admits, reserved-admitted}
+use Rattle.records.specs.Records.{recordsOk}
+use Rattle.records.specs.declared.Identity.{Identity}
+use Rattle.records.specs.declared.Party.{Party}
+use Rattle.records.proofs.PartyLaws.{party-below}
+use Rattle.desk.specs.Desks.{deskWith, deskOk}
+use Rattle.desk.specs.Grounds.{waits, partyFor, noneOf, isNew}
+use Rattle.desk.specs.Orders.{numberOf, unless, postsOf, placesOf, setUpOk, admitAnswer, partyAnswer, eventAnswer, answerOf}
+use Rattle.desk.specs.declared.Answer.{Answer}
+use Rattle.desk.specs.declared.Answer.the-variants as answer
+use Rattle.desk.specs.declared.Desk.{Desk}
+use Rattle.desk.specs.declared.Event.{Event}
+use Rattle.desk.specs.declared.Event.the-variants as event
+use Rattle.desk.proofs.AnswerLaws.{step-answer, pastOne, Can, event-ok}
+use Rattle.desk.proofs.SetUps.{new-call}
+use Rattle.history.specs.Histories.{Call, History, stepFor, runOf, leftBy, Waiting, waitingOf, isWaiting, heldBy, freeBy, owedToOthers, isRestrictedCall}
+use Rattle.history.proofs.WaitingLaws.{Same, held-same, free-same, owed-same, waiting-same}
+use Rattle.history.proofs.RunLaws.{Along, along, run-profile}
+
+-- ---- past 1
+
+abbrev notOne : Answer → Bool
+notOne a = not (eqb (numberOf a) 1)
+
+past-not-one : (c : ℕ) → pastOne c ≡ true → not (eqb c 1) ≡ true
+unfolding pastOne
+past-not-one c e = let low = leb-true 2 c (both-left _ _ e) in rw (ne-eqb c 1 (λ k. absurd (omega (arith, k)))) refl
+
+can-not-one : (e : Event) → Can notOne e
+can-not-one (event.Message post bits) = (refl, ((λ k. refl), (refl, refl)))
+can-not-one (event.SetUp caller called identifier) = (refl, λ post place. refl)
+can-not-one (event.Reject post identifier) = refl
+can-not-one (event.Cancel identifier) = refl
+
+-- on a desk that passes, 1 is not given
+passes-not-one : (d : Desk) (c : Call) → deskOk d ≡ true → notOne (stepFor d c .answer) ≡ true
+unfolding answerOf deskOk
+passes-not-one d c ok =
+    ap notOne (step-answer d (c .rows) (c .count) (c .message) (c .area) (c .event))
+    ∙ rw ok (event-ok notOne (λ s e. past-not-one (s .number) e) d (c .rows) (c .count) (c .message) (length (c .area)) (c .event) (both-left _ _ ok) (can-not-one (c .event)))
+
+-- ---- the places rule, as numbers
+
+-- which answer the rule gives to a call for a post
+rule-yes : (d : Desk) (post : ℕ) → admitsOf (d .profile .shares) (placesOf d) post ≡ true → admitAnswer d post ≡ answer.Admitted post (lowestFree (placesOf d) .place)
+unfolding admitAnswer
+rule-yes d post e = rw e refl
+
+rule-no : (d : Desk) (post : ℕ) → admitsOf (d .profile .shares) (placesOf d) post ≡ false → admitAnswer d post ≡ answer.Refused (refusal 18)
+unfolding admitAnswer
+rule-no d post e = rw e refl
+
+-- ---- the history, its desk and its waiting calls
+
+module _ (p : Profile) (opens : profileOk p ≡ true) (calls : List Call) where
+  -- what was written down, and the calls that wait by it
+  abbrev pub history : History
+  history = runOf (deskWith p) calls
+
+  abbrev pub waiting : List Waiting
+  waiting = waitingOf p history
+
+  -- the desk on which the next call comes
+  abbrev pub next : Desk
+  next = leftBy (deskWith p) calls
+
+  abbrev pub share : ℕ → Share
+  share post = shareIn (p .shares .share) post
+
+  kept : next .profile ≡ p
+  kept = run-profile calls (deskWith p)
+
+  sound : placesOk (p .shares) (placesOf next) ≡ true
+  sound = subst (λ (x : Profile). placesOk (x .shares) (placesOf next) ≡ true) kept (along p opens calls .sound)
+
+  held : (post : ℕ) → heldBy waiting post ≡ heldOf (placesOf next) post
+  held post = held-same (p .shares) (placesOf next) waiting (along p opens calls .size) sound (along p opens calls .same) post
+
+  free : freeBy waiting ≡ freeOf (placesOf next)
+  free = free-same (p .shares) (placesOf next) waiting (along p opens calls .size) sound (along p opens calls .same)
+
+  owed : (post : ℕ) → owedToOthers (p .shares) waiting post ≡ owedOthers (p .shares) (placesOf next) post
+  owed post = owed-same (p .shares) (placesOf next) waiting (along p opens calls .size) sound (along p opens calls .same) post
+
+  -- the waiting calls of the history are those of the desk
+  pub waiting-is : (identifier : ℕ) → isWaiting waiting identifier ≡ waits next identifier
+  waiting-is identifier = waiting-same (p .shares) (placesOf next) waiting (along p opens calls .size) sound (along p opens calls .same) identifier
+
+  stays-ok : deskOk next ≡ true
+  unfolding deskOk
+  stays-ok = both-true _ _ (ap profileOk kept ∙ opens) (along p opens calls .sound)
+
+  -- no call along a history gets 1
+  pub never-one : (c : Call) → numberOf (stepFor next c .answer) ≡ 1 → ⊥
+  never-one c z = not-both (sym (ap (λ (k : ℕ). not (eqb k 1)) z) ∙ passes-not-one next c stays-ok)
+
+  -- no post passes its ceiling
+  pub under-ceiling : (post : ℕ) → post < p .shares .posts → heldBy waiting post ≤ share post .ceiling
+  under-ceiling post h = omega (arith, held post, passes (p .shares) (placesOf next) sound .under post h)
+
+  -- ---- the next call, if it is a well-formed new restricted one
+
+  module _ (c : Call) (caller called : Identity) (identifier : ℕ) (event-is : c .event ≡ event.SetUp caller called identifier)
+      (formed : isRestrictedCall p waiting c caller called identifier ≡ true) where
+    -- the post that it is for
+    abbrev pub post : ℕ
+    post = partyFor (c .rows) (c .count) caller called .post
+
+    pub record Formed : Type 0 where
+      pub call : setUpOk caller called identifier ≡ true
+      pub area : not (ltb (length (c .area)) 300) ≡ true
+      pub records : recordsOk (c .rows) (c .count) (p .shares .posts) ≡ true
+      pub new : not (isWaiting waiting identifier) ≡ true
+      pub restricted : partyFor (c .rows) (c .count) caller called .found ≡ true
+
+    facts : Formed
+    unfolding isRestrictedCall
+    facts =
+        let a = both-right (setUpOk caller called identifier) _ formed in
+        let b = both-right (not (ltb (length (c .area)) 300)) _ a in
+        let e = both-right (recordsOk (c .rows) (c .count) (p .shares .posts)) _ b in
+        record { call = both-left _ _ formed; area = both-left _ _ a; records = both-left _ _ b; new = both-left _ _ e; restricted = both-right (not (isWaiting waiting identifier)) _ e }
+
+    below : post < p .shares .posts
+    below = party-below (c .rows) (c .count) (p .shares .posts) caller called (facts .records) (facts .restricted)
+
+    is-new : isNew next (c .rows) (c .count) (length (c .area)) caller called identifier ≡ true
+    unfolding isNew noneOf both
+    is-new =
+        rw (stays-ok, facts .call, facts .area, ap (λ (x : Profile). recordsOk (c .rows) (c .count) (x .shares .posts)) kept ∙ facts .records, ap not (sym (waiting-is identifier)) ∙ facts .new) refl
+
+    -- it goes by the places rule
+    by-rule : stepFor next c .answer ≡ admitAnswer next post
+    by-rule =
+        step-answer next (c .rows) (c .count) (c .message) (c .area) (c .event)
+        ∙ ap (λ (e : Event). answerOf next (c .rows) (c .count) (c .message) (length (c .area)) e) event-is
+        ∙ new-call next (c .rows) (c .count) (c .message) (length (c .area)) caller called identifier is-new
+        ∙ rw (facts .restricted) refl
+
+    yes : admitsOf (p .shares) (placesOf next) post ≡ true → stepFor next c .answer ≡ answer.Admitted post (lowestFree (placesOf next) .place)
+    yes e = by-rule ∙ rule-yes next post (ap (λ (x : Profile). admitsOf (x .shares) (placesOf next) post) kept ∙ e)
+
+    no : admitsOf (p .shares) (placesOf next) post ≡ false → stepFor next c .answer ≡ answer.Refused (refusal 18)
+    no e = by-rule ∙ rule-no next post (ap (λ (x : Profile). admitsOf (x .shares) (placesOf next) post) kept ∙ e)
+
+    -- the call is admitted for its post, at some place
+    pub record IsAdmitted : Type 0 where
+      pub place : ℕ
+      pub answer-is : stepFor next c .answer ≡ answer.Admitted post place
+
+    -- below its reserved number a post is never refused for want of a place, whatever the other posts did
+    pub reserved-never-refused : heldBy waiting post < share post .reserved → IsAdmitted
+    unfolding profileOk
+    reserved-never-refused h =
+        record {
+          place = lowestFree (placesOf next) .place;
+          answer-is = yes (reserved-admitted (p .shares) (placesOf next) (both-right _ _ opens) post below (omega (arith, held post)));
+        }
+
+    -- the post is at its ceiling, or the free places are no more than the other posts are owed
+    abbrev pub NoPlace : Type 0
+    NoPlace = (heldBy waiting post ≡ share post .ceiling) ⊎ (freeBy waiting ≤ owedToOthers (p .shares) waiting post)
+
+    -- otherwise it gets 18 if there is no place for it
+    pub refused-18 : share post .reserved ≤ heldBy waiting post → NoPlace → stepFor next c .answer ≡ answer.Refused (refusal 18)
+    refused-18 h k = no (go (admitsOf (p .shares) (placesOf next) post) refl)
+      where
+        go : (b : Bool) → admitsOf (p .shares) (placesOf next) post ≡ b → b ≡ false
+        go true e =
+            let r = admits-rule (p .shares) (placesOf next) post e in
+            let lt = r .0 in
+            ⊎-elim
+            (λ a. absurd (omega (arith, a, lt, held post)))
+            (λ a. ⊎-elim (λ g. absurd (omega (arith, g, h, held post))) (λ g. absurd (omega (arith, a, g, free, owed post))) (r .1))
+            k
+        go false e = refl
