@@ -1,8 +1,7 @@
 // A post's message.
 ghost use mathlib.Core.Path.{_≡_};
 ghost use mathlib.Core.Bool.{true};
-ghost use lib.ListN.{length, take, getD};
-ghost use Rattle.message.specs.Addresses.{nobody};
+ghost use lib.ListN.{length, take};
 ghost use Rattle.profile.specs.Rules.{profileOk};
 ghost use Rattle.message.specs.Reading.{readOf};
 ghost use Rattle.validity.specs.Validity.{validOf};
@@ -14,7 +13,6 @@ use crate::Stepped;
 use crate::activate;
 use crate::ending;
 use crate::kept;
-use message::Address;
 use message::Value;
 use records::Record;
 
@@ -81,18 +79,11 @@ fn interrogate(desk: Desk, rows: [Record; 128], count: usize, post: u8, value: V
     let air = profile.air;
     let shares = profile.shares;
     let users = value.users;
-    let list = users.addresses;
     if records::records_ok(rows, count, shares.posts) {} else {
         return kept::refused(desk, codec::refuse(15));
     }
     kept::keeps(
         desk,
-        Answer::State(records::state_of(air, rows, count, post, first(list))),
+        Answer::State(records::state_of(air, rows, count, post, message::first_of(users))),
     )
-}
-
-fn first(list: [Address; 15]) -> Address
-    ensures { λ r. ⌜ r ≡ getD list 0 nobody ⌝ }
-{
-    list[0]
 }

@@ -5,8 +5,10 @@
 ghost use mathlib.Core.Path.{_≡_};
 ghost use mathlib.Core.Bool.{Bool};
 ghost use Prim.Native.Nat.{ℕ, _+_, _-_};
+ghost use lib.ListN.{getD};
 ghost use Rattle.profile.specs.Rules.{listOk};
-ghost use Rattle.message.specs.Groups.{addressesIn, allowedIn, rangeOk, endsOk, noGroup, oneGroup, spanIn, spanOf};
+ghost use Rattle.message.specs.Addresses.{nobody};
+ghost use Rattle.message.specs.Groups.{addressesIn, allowedIn, rangeOk, endsOk, noGroup, oneGroup, firstOf, spanIn, spanOf};
 ghost use Rattle.message.specs.Values.{ackV, plainV};
 ghost use Rattle.message.specs.Messages.{isCarried};
 use profile::Air;
@@ -179,6 +181,20 @@ pub fn is_carried(pdu: u8) -> bool
 }
 
 // ---- groups and values
+
+// A group's first address.
+pub fn first_of(group: Group) -> Address
+    ensures { λ r. ⌜ r ≡ firstOf group ⌝ }
+{
+    let addresses = group.addresses;
+    first_in(addresses)
+}
+
+fn first_in(addresses: [Address; 15]) -> Address
+    ensures { λ r. ⌜ r ≡ getD addresses 0 nobody ⌝ }
+{
+    addresses[0]
+}
 
 pub fn no_group() -> Group
     ensures { λ r. ⌜ r ≡ noGroup ⌝ }

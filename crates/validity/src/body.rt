@@ -133,7 +133,7 @@ fn interrogate_ok(v: Value) -> bool
 {
     if interrogate_fits(v) {
         let users = v.users;
-        return address::address_ok(group::first_of(users));
+        return address::address_ok(message::first_of(users));
     }
     false
 }
@@ -152,7 +152,7 @@ fn interrogate_fits(v: Value) -> bool
             return false;
         }
         let dispatchers = v.dispatchers;
-        return address::is_nobody(group::first_of(dispatchers));
+        return address::is_nobody(message::first_of(dispatchers));
     }
     false
 }
@@ -167,7 +167,7 @@ fn intercepted_ok(pdu: u8, v: Value) -> bool
             return false;
         }
         let dispatchers = v.dispatchers;
-        return dispatcher_ok(v.option, group::first_of(dispatchers));
+        return dispatcher_ok(v.option, message::first_of(dispatchers));
     }
     false
 }
@@ -180,7 +180,7 @@ fn intercepted_fits(pdu: u8, v: Value) -> bool
             return false;
         }
         let users = v.users;
-        return address::is_nobody(group::first_of(users));
+        return address::is_nobody(message::first_of(users));
     }
     false
 }
@@ -217,9 +217,9 @@ fn call_fits(pdu: u8, v: Value) -> bool
             return false;
         }
         let users = v.users;
-        if address::is_nobody(group::first_of(users)) {
+        if address::is_nobody(message::first_of(users)) {
             let dispatchers = v.dispatchers;
-            return address::is_nobody(group::first_of(dispatchers));
+            return address::is_nobody(message::first_of(dispatchers));
         }
         return false;
     }

@@ -1,10 +1,10 @@
 // A range and its addresses in fifteen places.
 ghost use mathlib.Core.Path.{_≡_};
 ghost use Prim.Native.Nat.{_-_, _≤_};
-ghost use lib.ListN.{getD, take, drop};
+ghost use lib.ListN.{take, drop};
 ghost use Rattle.codec.specs.Codec.{vecOk};
-ghost use Rattle.message.specs.Addresses.{nobody, addressC};
-ghost use Rattle.message.specs.Groups.{addressesIn, areNobody, placesC, addressesC, rangeC, groupC, isNoGroup, isOneGroup, firstOf};
+ghost use Rattle.message.specs.Addresses.{addressC};
+ghost use Rattle.message.specs.Groups.{addressesIn, areNobody, placesC, addressesC, rangeC, groupC, isNoGroup, isOneGroup};
 use crate::address;
 use message::Address;
 use message::Group;
@@ -108,18 +108,4 @@ pub(crate) fn is_one_group(group: Group) -> bool
     }
     let list = group.addresses;
     rest_zero(list, 1)
-}
-
-// The group's first address.
-pub(crate) fn first_of(group: Group) -> Address
-    ensures { λ r. ⌜ r ≡ firstOf group ⌝ }
-{
-    let list = group.addresses;
-    first_in(list)
-}
-
-fn first_in(list: [Address; 15]) -> Address
-    ensures { λ r. ⌜ r ≡ getD list 0 nobody ⌝ }
-{
-    list[0]
 }

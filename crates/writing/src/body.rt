@@ -1,8 +1,6 @@
 // What each message has after the first 11 bits.
 ghost use mathlib.Core.Path.{_≡_};
 ghost use Prim.Native.Nat.{_≤_};
-ghost use lib.ListN.{getD};
-ghost use Rattle.message.specs.Addresses.{nobody};
 ghost use Rattle.message.specs.Groups.{spanOf};
 ghost use Rattle.message.specs.Messages.{activateC, interrogateC, interceptedC, callC, bodyC};
 ghost use Rattle.writing.specs.Wrote.{Wrote};
@@ -11,7 +9,6 @@ use crate::address;
 use crate::element;
 use crate::group;
 use crate::option;
-use message::Address;
 use message::Value;
 use profile::Air;
 
@@ -58,27 +55,19 @@ fn write_interrogate(value: Value, out: &mut [u8], at: usize) -> usize
     ensures { λ r. ⌜ Wrote (now (out .entry)) (now (out .exit)) at r (interrogateC .bits value) ⌝ }
 {
     let users = value.users;
-    let list = users.addresses;
-    address::write_address(first(list), out, at)
+    address::write_address(message::first_of(users), out, at)
 }
 
 fn write_intercepted(pdu: u8, value: Value, out: &mut [u8], at: usize) -> usize
     ensures { λ r. ⌜ Wrote (now (out .entry)) (now (out .exit)) at r (interceptedC pdu .bits value) ⌝ }
 {
     let dispatchers = value.dispatchers;
-    let list = dispatchers.addresses;
     let p = element::byte(out, at, 5, value.cause);
-    option::write_dispatcher(value.option, first(list), out, p)
+    option::write_dispatcher(value.option, message::first_of(dispatchers), out, p)
 }
 
 fn write_call(pdu: u8, value: Value, out: &mut [u8], at: usize) -> usize
     ensures { λ r. ⌜ Wrote (now (out .entry)) (now (out .exit)) at r (callC pdu .bits value) ⌝ }
 {
     element::word(out, at, 14, value.identifier)
-}
-
-fn first(list: [Address; 15]) -> Address
-    ensures { λ r. ⌜ r ≡ getD list 0 nobody ⌝ }
-{
-    list[0]
 }

@@ -9,8 +9,8 @@ use Rattle.writing.proofs.body.write_intercepted.Tie as tie
 byte-requires : tie.Need-byte-requires
 byte-requires c κs = search needs
 
-first-requires : tie.Need-first-requires
-first-requires c κs = search needs
+first-of-requires : tie.Need-first-of-requires
+first-of-requires c κs = search needs
 
 write-dispatcher-requires : tie.Need-write-dispatcher-requires
 write-dispatcher-requires c κs = search needs
@@ -24,8 +24,8 @@ returns c =
     let p1 = c .before .before .before .before .before .before .before in
     let p2 = c .before .before .before .before in
     let p3 = c .before .before in
-    wrote-join (p1 .byte .ensures) (rw (p2 .first .ensures) at (p3 .write-dispatcher .ensures))
+    wrote-join (p1 .byte .ensures) (rw (p2 .first-of .ensures) at (p3 .write-dispatcher .ensures))
 
 pub write-intercepted-spec : {M : Type 1} → statement M
 write-intercepted-spec =
-    tie.close (tie.spec byte-requires first-requires write-dispatcher-requires same-length returns)
+    tie.close (tie.spec byte-requires first-of-requires write-dispatcher-requires same-length returns)

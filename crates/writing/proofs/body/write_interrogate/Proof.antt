@@ -4,8 +4,8 @@ use Rattle.message.specs.Messages.{interrogateC}
 use Rattle.writing.proofs.body.write_interrogate.Statement.{statement}
 use Rattle.writing.proofs.body.write_interrogate.Tie as tie
 
-first-requires : tie.Need-first-requires
-first-requires c κs = search needs
+first-of-requires : tie.Need-first-of-requires
+first-of-requires c κs = search needs
 
 write-address-requires : tie.Need-write-address-requires
 write-address-requires c κs = search needs
@@ -18,8 +18,8 @@ unfolding interrogateC
 returns c =
     let p1 = c .before .before .before .before in
     let p2 = c .before .before in
-    rw (p1 .first .ensures) at (p2 .write-address .ensures)
+    rw (p1 .first-of .ensures) at (p2 .write-address .ensures)
 
 pub write-interrogate-spec : {M : Type 1} → statement M
 write-interrogate-spec =
-    tie.close (tie.spec first-requires write-address-requires same-length returns)
+    tie.close (tie.spec first-of-requires write-address-requires same-length returns)
