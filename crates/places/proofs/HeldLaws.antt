@@ -11,8 +11,8 @@ use lib.Seq.{getD-set-same, getD-set-other, set-out}
 use borrow.Author.Tests.{leb-true, leb-false, eqb-true, eqb-false, eq-eqb, ne-eqb}
 use Rattle.codec.specs.Codec.{both}
 use Rattle.codec.proofs.Good.{not-both}
-use Rattle.profile.specs.Counting.{sum}
-use Rattle.places.specs.Held.{noPlace, placeIn, noPlaces, one, waitsAt, heldOf, usedOf}
+use Rattle.profile.specs.Counting.{sum, one}
+use Rattle.places.specs.Held.{noPlace, placeIn, noPlaces, waitsAt, heldOf, usedOf}
 use Rattle.places.specs.Spots.{takeOf, clearOf}
 use Rattle.places.specs.declared.Place.{Place}
 use Rattle.places.proofs.SumLaws.{sum-same, sum-bump, sum-few, sum-full, sum-zero, sum-swap}

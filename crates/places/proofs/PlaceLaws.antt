@@ -11,11 +11,11 @@ use lib.ListN.{length, set}
 use borrow.Author.Tests.{eq-eqb, eqb-true, ltb-true, lt-ltb, leb-true, le-leb}
 use Rattle.codec.specs.Codec.{both}
 use Rattle.codec.proofs.Good.{both-true, both-left, both-right, not-both}
-use Rattle.profile.specs.Counting.{every, sum}
+use Rattle.profile.specs.Counting.{every, sum, one}
 use Rattle.profile.specs.Rules.{shareOk, shareIn, sharesOk}
 use Rattle.profile.specs.declared.Shares.{Shares}
 use Rattle.profile.proofs.CountLaws.{every-at}
-use Rattle.places.specs.Held.{noPlace, placeIn, noPlaces, one, waitsAt, heldOf, usedOf, freeOf, owedOf, owedAll, owedOthers, loadOf, admitsOf}
+use Rattle.places.specs.Held.{noPlace, placeIn, noPlaces, waitsAt, heldOf, usedOf, freeOf, owedOf, owedAll, owedOthers, loadOf, admitsOf}
 use Rattle.places.specs.Grounds.{callOk, apart, aloneAt, underCeiling, placesOk}
 use Rattle.places.specs.Spots.{spotAt, placeOf, lowestFree, takeOf, clearOf}
 use Rattle.places.specs.declared.Place.{Place}

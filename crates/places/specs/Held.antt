@@ -5,7 +5,7 @@ use mathlib.Core.List.{List}
 use lib.Dec.{eqb, ltb}
 use lib.ListN.{getD, replicate}
 use Rattle.codec.specs.Codec.{both}
-use Rattle.profile.specs.Counting.{sum}
+use Rattle.profile.specs.Counting.{sum, one}
 use Rattle.profile.specs.Rules.{shareIn}
 use Rattle.profile.specs.declared.Shares.{Shares}
 use Rattle.places.specs.declared.Place.{Place}
@@ -23,10 +23,6 @@ unfoldable pub noPlaces : List Place
 noPlaces = replicate 32 noPlace
 
 -- ---- held: a post's number of waiting calls
-
-abbrev pub one : Bool → ℕ
-one true = 1
-one false = 0
 
 -- a call waits here at this post
 unfoldable pub waitsAt : Place → ℕ → Bool

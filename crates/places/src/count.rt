@@ -2,8 +2,9 @@
 ghost use mathlib.Core.Path.{_≡_};
 ghost use mathlib.Core.Bool.{cond};
 ghost use Prim.Native.Nat.{_-_};
+ghost use Rattle.profile.specs.Counting.{one};
 ghost use Rattle.profile.specs.Rules.{shareIn};
-ghost use Rattle.places.specs.Held.{one, waitsAt, heldOf, usedOf, freeOf, owedOf, owedAll, owedOthers, loadOf};
+ghost use Rattle.places.specs.Held.{waitsAt, heldOf, usedOf, freeOf, owedOf, owedAll, owedOthers, loadOf};
 use crate::Place;
 use profile::Share;
 use profile::Shares;

@@ -1,6 +1,6 @@
--- A test of each of the first n numbers, and a sum over them: of range values, posts, places.
+-- A test of each of the first n numbers, a sum over them, and a test as a number: of range values, posts, places, outcomes.
 use Prim.Native.Nat.{ℕ, zero, suc, _+_}
-use mathlib.Core.Bool.{Bool, true}
+use mathlib.Core.Bool.{Bool, true, cond}
 use Rattle.codec.specs.Codec.{both}
 
 unfoldable pub every : ℕ → (ℕ → Bool) → Bool
@@ -10,3 +10,7 @@ every (suc n) test = both (every n test) (test n)
 unfoldable pub sum : ℕ → (ℕ → ℕ) → ℕ
 sum zero f = 0
 sum (suc n) f = sum n f + f n
+
+-- 1 if it holds, else 0: what a sum counts, and what stands in a mask
+abbrev pub one : Bool → ℕ
+one b = cond b 1 0

@@ -7,6 +7,7 @@ use mathlib.Core.List.{List, [], _∷_, _++_}
 use lib.ListN.{length, set, take, replicate}
 use Rattle.bits.specs.Fields.{fieldAt}
 use Rattle.codec.specs.Codec.{both}
+use Rattle.profile.specs.Counting.{one}
 use Rattle.profile.specs.Rules.{meaningIn}
 use Rattle.profile.specs.Sample.{sample, sampleMeanings}
 use Rattle.profile.specs.declared.Air.{Air}
@@ -17,7 +18,7 @@ use Rattle.records.specs.declared.Record.{Record}
 use Rattle.records.specs.declared.Identity.{Identity}
 use Rattle.records.specs.Identities.{identityOf, later, identityIn, identityAt, countOf, each, identitiesOf}
 use Rattle.records.specs.Records.{noRecord, rowOf, is, recordFrom, recordOf, recordOk, allOk, recordsOk, stateOf, restricts, partyOf, restrictedOf}
-use Rattle.records.specs.Outcomes.{outcomeOf, outcomesOf, has, oneIf, maskOf, someOf, sortedOf}
+use Rattle.records.specs.Outcomes.{outcomeOf, outcomesOf, has, maskOf, someOf, sortedOf}
 use Rattle.records.specs.Marking.{acceptedOf, unmarked, noMarks, withMark, markAll, marksOf}
 
 -- the last argument is what it must be
@@ -37,12 +38,12 @@ pub data Case : Type 0 where
 
 abbrev pub gives : Case → List ℕ
 gives (outcomes air rows post g w) = outcomesOf air g rows post
-gives (masks air rows post g w) = list.map oneIf (sortedOf (outcomesOf air g rows post) .some) ++ sortedOf (outcomesOf air g rows post) .mask
-gives (marks air rows post g w) = list.map oneIf (take 4 (marksOf rows post (identitiesOf air g) .at))
+gives (masks air rows post g w) = list.map one (sortedOf (outcomesOf air g rows post) .some) ++ sortedOf (outcomesOf air g rows post) .mask
+gives (marks air rows post g w) = list.map one (take 4 (marksOf rows post (identitiesOf air g) .at))
 gives (many air g w) = length (identitiesOf air g) ∷ []
 gives (state air rows post a w) = stateOf rows post (identityOf air a) ∷ []
-gives (party rows a b w) = oneIf (restrictedOf rows (a ∷ b ∷ []) .found) ∷ restrictedOf rows (a ∷ b ∷ []) .post ∷ []
-gives (lent rows n posts w) = oneIf (recordsOk rows n posts) ∷ []
+gives (party rows a b w) = one (restrictedOf rows (a ∷ b ∷ []) .found) ∷ restrictedOf rows (a ∷ b ∷ []) .post ∷ []
+gives (lent rows n posts w) = one (recordsOk rows n posts) ∷ []
 
 abbrev pub wants : Case → List ℕ
 wants (outcomes air rows post g w) = w

@@ -15,13 +15,14 @@ use Rattle.bits.proofs.FieldLaws.{field-lt, field-split, field-front}
 use Rattle.bits.proofs.SetLaws.{lt-or}
 use Rattle.codec.specs.Codec.{both, number}
 use Rattle.codec.proofs.Good.{both-true, not-both}
+use Rattle.profile.specs.Counting.{one}
 use Rattle.profile.specs.declared.Air.{Air}
 use Rattle.message.specs.Acks.{maskC}
 use Rattle.message.specs.Groups.{spanOf}
 use Rattle.message.specs.declared.Group.{Group}
 use Rattle.records.specs.declared.Record.{Record}
 use Rattle.records.specs.Identities.{identityAt, countOf}
-use Rattle.records.specs.Outcomes.{outcomesOf, has, oneIf, maskOf, someOf}
+use Rattle.records.specs.Outcomes.{outcomesOf, has, maskOf, someOf}
 use Rattle.records.proofs.OutcomeLaws.{one-lt, length-outcomes, outcomes-count, outcomes-le, outcome-at, outcome-lt}
 
 -- ---- fields of any bits
@@ -59,42 +60,42 @@ field-none f at (suc w) h =
 -- ---- the bits of a mask
 
 module _ (class : ℕ) (os : List ℕ) where
-  bit-lt : (i : ℕ) → oneIf (has class os i) < 2
+  bit-lt : (i : ℕ) → one (has class os i) < 2
   bit-lt i = one-lt (has class os i)
 
-  past-none : (i : ℕ) → length os ≤ i → oneIf (has class os i) ≡ 0
+  past-none : (i : ℕ) → length os ≤ i → one (has class os i) ≡ 0
   unfolding has both
   past-none i h = rw (le-ltb i (length os) h)
 
   -- the bit of identity i in the mask of a class is 1 exactly if its outcome is the class
-  pub mask-at : (i : ℕ) → i < length os → length os ≤ 64 → maskOf class os / 2 ^ (63 - i) % 2 ≡ oneIf (eqb (getD os i 0) class)
+  pub mask-at : (i : ℕ) → i < length os → length os ≤ 64 → maskOf class os / 2 ^ (63 - i) % 2 ≡ one (eqb (getD os i 0) class)
   unfolding maskOf has both
   mask-at i h l =
       let e : 63 - i ≡ 64 - suc i = omega arith in
-      rw e (field-bit (λ k. oneIf (has class os k)) bit-lt 0 64 i (omega arith) ∙ rw (zero-add i, lt-ltb i (length os) h) refl)
+      rw e (field-bit (λ k. one (has class os k)) bit-lt 0 64 i (omega arith) ∙ rw (zero-add i, lt-ltb i (length os) h) refl)
 
   module _ (n : ℕ) (c : length os ≡ n) (l : n ≤ 64) where
-    by-width : maskOf class os ≡ fieldAt (λ k. oneIf (has class os k)) 0 (n + (64 - n))
+    by-width : maskOf class os ≡ fieldAt (λ k. one (has class os k)) 0 (n + (64 - n))
     unfolding maskOf
-    by-width = let w : 64 ≡ n + (64 - n) = omega arith in ap (λ (w : ℕ). fieldAt (λ k. oneIf (has class os k)) 0 w) w
+    by-width = let w : 64 ≡ n + (64 - n) = omega arith in ap (λ (w : ℕ). fieldAt (λ k. one (has class os k)) 0 w) w
 
-    front : maskOf class os / 2 ^ (64 - n) ≡ fieldAt (λ k. oneIf (has class os k)) 0 n
-    front = rw by-width (field-front (λ k. oneIf (has class os k)) bit-lt 0 n (64 - n))
+    front : maskOf class os / 2 ^ (64 - n) ≡ fieldAt (λ k. one (has class os k)) 0 n
+    front = rw by-width (field-front (λ k. one (has class os k)) bit-lt 0 n (64 - n))
 
-    rest : fieldAt (λ k. oneIf (has class os k)) (0 + n) (64 - n) ≡ 0
-    rest = field-none (λ k. oneIf (has class os k)) (0 + n) (64 - n) (λ i a b. past-none i (omega arith))
+    rest : fieldAt (λ k. one (has class os k)) (0 + n) (64 - n) ≡ 0
+    rest = field-none (λ k. one (has class os k)) (0 + n) (64 - n) (λ i a b. past-none i (omega arith))
 
     whole : maskOf class os / 2 ^ (64 - n) * 2 ^ (64 - n) ≡ maskOf class os
-    whole = rw front (sym (by-width ∙ field-split (λ k. oneIf (has class os k)) 0 n (64 - n) ∙ rw rest (add-zero _)))
+    whole = rw front (sym (by-width ∙ field-split (λ k. one (has class os k)) 0 n (64 - n) ∙ rw rest (add-zero _)))
 
     -- a mask of n identities has no bit beyond the n-th
     pub mask-fits : maskC n .ok (maskOf class os) ≡ true
     unfolding maskC number
-    mask-fits = both-true _ _ (eq-eqb _ _ whole) (lt-ltb (maskOf class os / 2 ^ (64 - n)) (2 ^ n) (rw front (field-lt (λ k. oneIf (has class os k)) bit-lt 0 n)))
+    mask-fits = both-true _ _ (eq-eqb _ _ whole) (lt-ltb (maskOf class os / 2 ^ (64 - n)) (2 ^ n) (rw front (field-lt (λ k. one (has class os k)) bit-lt 0 n)))
 
 -- ---- each identity is in exactly one of the three masks
 
-one-of : (o : ℕ) → o < 3 → oneIf (eqb o 0) + oneIf (eqb o 1) + oneIf (eqb o 2) ≡ 1
+one-of : (o : ℕ) → o < 3 → one (eqb o 0) + one (eqb o 1) + one (eqb o 2) ≡ 1
 one-of zero h = refl
 one-of (suc zero) h = refl
 one-of (suc (suc zero)) h = refl
@@ -131,7 +132,7 @@ none-out class [] e i h = absurd (not-suc-le-zero h)
 none-out class (o ∷ os) e zero h = or-no (eqb o class) (someOf class os) e .0
 none-out class (o ∷ os) e (suc i) h = none-out class os (or-no (eqb o class) (someOf class os) e .1) i (le-of-suc-le-suc h)
 
-none-has : (class : ℕ) (os : List ℕ) → someOf class os ≡ false → (i : ℕ) → oneIf (has class os i) ≡ 0
+none-has : (class : ℕ) (os : List ℕ) → someOf class os ≡ false → (i : ℕ) → one (has class os i) ≡ 0
 unfolding has both
 none-has class os e i = ⊎-elim (λ h. rw (lt-ltb i (length os) h, none-out class os e i h)) (past-none class os i) (lt-or i (length os))
 
@@ -148,12 +149,12 @@ some-out class (o ∷ os) e = go (eqb o class) refl (λ f. some-out class os f)
 module _ (class : ℕ) (os : List ℕ) (l : length os ≤ 64) where
   none-mask : someOf class os ≡ false → maskOf class os ≡ 0
   unfolding maskOf
-  none-mask e = field-none (λ k. oneIf (has class os k)) 0 64 (λ i a b. none-has class os e i)
+  none-mask e = field-none (λ k. one (has class os k)) 0 64 (λ i a b. none-has class os e i)
 
   mask-not : someOf class os ≡ true → maskOf class os ≡ 0 → ⊥
   mask-not e z =
       let s = some-out class os e in
-      let one : 0 / 2 ^ (63 - s .0) % 2 ≡ 1 = rw (z, s .1 .1) at (mask-at class os (s .0) (s .1 .0) l) in
+      let bit : 0 / 2 ^ (63 - s .0) % 2 ≡ 1 = rw (z, s .1 .1) at (mask-at class os (s .0) (s .1 .0) l) in
       let none : 0 / 2 ^ (63 - s .0) ≡ 0 = zero-div (2 ^ (63 - s .0)) in
       omega arith
 

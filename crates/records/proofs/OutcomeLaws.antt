@@ -17,6 +17,7 @@ use Rattle.bits.proofs.FieldLaws.{field-lt}
 use Rattle.bits.proofs.SetLaws.{lt-or}
 use Rattle.codec.specs.Codec.{both}
 use Rattle.codec.proofs.Good.{not-both}
+use Rattle.profile.specs.Counting.{one}
 use Rattle.profile.specs.declared.Air.{Air}
 use Rattle.message.specs.Groups.{spanOf}
 use Rattle.message.specs.declared.Group.{Group}
@@ -27,7 +28,7 @@ use Rattle.records.specs.declared.search.Found.the-variants as found
 use Rattle.records.specs.declared.outcome.Outcomes.{Outcomes}
 use Rattle.records.specs.Identities.{noIdentity, identityAt, countOf, identitiesOf}
 use Rattle.records.specs.Records.{rowOf, recordOf}
-use Rattle.records.specs.Outcomes.{outcomeBy, outcomeOf, outcomesOf, has, oneIf, maskOf, someOf, sortedOf, zeros, keptOf, listOf}
+use Rattle.records.specs.Outcomes.{outcomeBy, outcomeOf, outcomesOf, has, maskOf, someOf, sortedOf, zeros, keptOf, listOf}
 use Rattle.records.proofs.IdentityLaws.{length-identities, identities-at, count-le}
 
 -- ---- the outcome of one identity
@@ -192,12 +193,12 @@ module _ (x : Bool) (class : ℕ) (os : List ℕ) (i : ℕ) (v : x ≡ someLeft 
 
 -- ---- the mask: its first i bits
 
-pub one-lt : (b : Bool) → oneIf b < 2
+pub one-lt : (b : Bool) → one b < 2
 one-lt true = omega arith
 one-lt false = omega arith
 
 unfoldable pub maskTo : ℕ → List ℕ → ℕ → ℕ
-maskTo class os i = fieldAt (λ k. oneIf (has class os k)) 0 i
+maskTo class os i = fieldAt (λ k. one (has class os k)) 0 i
 
 pub mask-start : (class : ℕ) (os : List ℕ) → 0 ≡ maskTo class os (64 - 64)
 unfolding maskTo fieldAt
@@ -208,12 +209,12 @@ module _ (class : ℕ) (os : List ℕ) (bit v : ℕ) (e : v ≡ maskTo class os 
   unfolding maskTo maskOf
   mask-end h = let z : 64 - bit ≡ 64 = omega arith in e ∙ rw z
 
-  module _ (b : Bool) (y : ℕ) (w : y ≡ oneIf b) (h : 0 < bit) (k : bit ≤ 64) where
+  module _ (b : Bool) (y : ℕ) (w : y ≡ one b) (h : 0 < bit) (k : bit ≤ 64) where
     -- a number of 64 bits has room for the next
     pub mask-room : v * 2 + y < 2 ^ 64
     unfolding maskTo
     mask-room =
-        let a : v < 2 ^ (64 - bit) = rw e (field-lt (λ i. oneIf (has class os i)) (λ i. one-lt (has class os i)) 0 (64 - bit)) in
+        let a : v < 2 ^ (64 - bit) = rw e (field-lt (λ i. one (has class os i)) (λ i. one-lt (has class os i)) 0 (64 - bit)) in
         let m : 2 ^ (64 - bit) ≤ 2 ^ 63 = pow-mono {i = 64 - bit} {j = 63} (omega arith) in
         let o : y < 2 = rw w (one-lt b) in
         omega arith
@@ -223,6 +224,6 @@ module _ (class : ℕ) (os : List ℕ) (bit v : ℕ) (e : v ≡ maskTo class os 
     mask-more d =
         let s : 64 - (bit - 1) ≡ suc (63 - (bit - 1)) = omega arith in
         let t : 64 - bit ≡ 63 - (bit - 1) = omega arith in
-        let u : v ≡ fieldAt (λ i. oneIf (has class os i)) 0 (63 - (bit - 1)) = rw t at e in
-        let z : y ≡ oneIf (has class os (0 + (63 - (bit - 1)))) = rw (zero-add (63 - (bit - 1))) (w ∙ ap oneIf d) in
+        let u : v ≡ fieldAt (λ i. one (has class os i)) 0 (63 - (bit - 1)) = rw t at e in
+        let z : y ≡ one (has class os (0 + (63 - (bit - 1)))) = rw (zero-add (63 - (bit - 1))) (w ∙ ap one d) in
         rw (s, u, z)

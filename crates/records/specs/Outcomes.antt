@@ -7,6 +7,7 @@ use lib.ListN.{getD, length, take, replicate}
 use lib.Seq.{sets}
 use Rattle.bits.specs.Fields.{fieldAt}
 use Rattle.codec.specs.Codec.{both}
+use Rattle.profile.specs.Counting.{one}
 use Rattle.profile.specs.declared.Air.{Air}
 use Rattle.message.specs.declared.Group.{Group}
 use Rattle.records.specs.declared.Record.{Record}
@@ -38,12 +39,9 @@ outcomesOf air g rows post = map (outcomeOf rows post (eqb (air .unknown) (air .
 unfoldable pub has : ℕ → List ℕ → ℕ → Bool
 has class os i = both (ltb i (length os)) (eqb (getD os i 0) class)
 
-abbrev pub oneIf : Bool → ℕ
-oneIf b = cond b 1 0
-
 -- 64 bits: identity i, from 0, is bit 63 − i, a one just where its outcome is the class
 unfoldable pub maskOf : ℕ → List ℕ → ℕ
-maskOf class os = fieldAt (λ i. oneIf (has class os i)) 0 64
+maskOf class os = fieldAt (λ i. one (has class os i)) 0 64
 
 -- there is an identity with the outcome
 unfoldable pub someOf : ℕ → List ℕ → Bool

@@ -1,7 +1,8 @@
 // The outcomes of ACTIVATE, one for each identity of its group, and their masks.
 ghost use mathlib.Core.Path.{_≡_};
 ghost use lib.ListN.{take};
-ghost use Rattle.records.specs.Outcomes.{outcomeOf, outcomesOf, has, oneIf, maskOf, someOf, sortedOf, keptOf};
+ghost use Rattle.profile.specs.Counting.{one};
+ghost use Rattle.records.specs.Outcomes.{outcomeOf, outcomesOf, has, maskOf, someOf, sortedOf, keptOf};
 use crate::Identity;
 use crate::Record;
 use crate::Sorted;
@@ -74,7 +75,7 @@ fn has_outcome(list: [u8; 64], count: usize, i: usize, class: u8) -> bool
 }
 
 fn one_if(b: bool) -> u64
-    ensures { λ r. ⌜ r ≡ oneIf b ⌝ }
+    ensures { λ r. ⌜ r ≡ one b ⌝ }
 {
     if b { 1 } else { 0 }
 }

@@ -5,6 +5,7 @@ use mathlib.Core.Bool.{Bool, true, false, cond}
 use mathlib.Core.List.{List, [], _∷_, _++_}
 use lib.Dec.{eqb, ltb}
 use lib.ListN.{getD}
+use Rattle.profile.specs.Counting.{one}
 use Rattle.profile.specs.declared.Air.{Air}
 use Rattle.message.specs.Values.{ackV}
 use Rattle.message.specs.declared.Group.{Group}
@@ -24,9 +25,6 @@ resultOf class = cond (eqb class 0) 1 0
 
 unfoldable pub reasonOf : Air → ℕ → ℕ
 reasonOf air class = cond (eqb class 0) 0 (cond (eqb class 1) (air .unknown) (air .other))
-
-abbrev pub one : Bool → ℕ
-one b = cond b 1 0
 
 -- more than one outcome
 unfoldable pub severalIn : List Bool → Bool

@@ -6,9 +6,9 @@ use lib.ListN.{length}
 use borrow.Author.Needs.{needs}
 use Rattle.places.proofs.HeldLaws.{one-few}
 use Rattle.places.proofs.SumLaws.{sum-turn, sum-end}
-use Rattle.places.specs.Held.{placeIn, one, waitsAt, heldOf}
+use Rattle.places.specs.Held.{placeIn, waitsAt, heldOf}
 use Rattle.profile.proofs.CountLaws.{sum-none}
-use Rattle.profile.specs.Counting.{sum}
+use Rattle.profile.specs.Counting.{sum, one}
 use Rattle.places.proofs.count.held.Statement.{statement}
 use Rattle.places.proofs.count.held.Tie as tie
 
