@@ -24,6 +24,11 @@ unfolding both
 both-right true b e = e
 both-right false b e = let z : _≡_ {A = ℕ} 0 1 = cc in absurd (omega arith)
 
+pub both-none : (a : Bool) → both a false ≡ false
+unfolding both
+both-none true = refl
+both-none false = refl
+
 pub not-both : {A : Type 0} → false ≡ true → A
 not-both e = let z : _≡_ {A = ℕ} 0 1 = cc in absurd (omega arith)
 

@@ -13,17 +13,17 @@ use Rattle.profile.specs.Rules.{profileOk}
 use Rattle.profile.specs.declared.Air.{Air}
 use Rattle.message.specs.Groups.{groupC, spanOf}
 use Rattle.message.specs.Acks.{maskC}
-use Rattle.message.specs.Messages.{activateC, bodyC, messageC}
+use Rattle.message.specs.Messages.{activateC, bodyC}
 use Rattle.message.proofs.GroupLaws.{few-identities}
 use Rattle.message.specs.declared.Group.{Group}
 use Rattle.message.specs.declared.Value.{Value}
 use Rattle.validity.specs.Validity.{validOf}
+use Rattle.writing.proofs.LengthLaws.{valid-body}
 use Rattle.records.specs.Identities.{identitiesOf}
 use Rattle.records.specs.Records.{recordsOk}
 use Rattle.records.specs.Outcomes.{maskOf, outcomesOf, sortedOf}
 use Rattle.records.specs.Marking.{marksOf}
-use Rattle.records.proofs.OutcomeLaws.{length-outcomes}
-use Rattle.records.proofs.MaskLaws.{mask-fits}
+use Rattle.records.proofs.MaskLaws.{mask-carried}
 use Rattle.records.specs.declared.Marks.{Marks}
 use Rattle.records.specs.declared.Record.{Record}
 use Rattle.records.specs.declared.Sorted.{Sorted}
@@ -59,10 +59,6 @@ module _ (d : Desk) (rows : List Record) (n room : ℕ) (v : Value) where
   activate-acks h e k = rw (le-ltb room 300 h, e, k) refl
 
 -- the users of a valid ACTIVATE
-valid-body : (air : Air) (v : Value) → validOf air v ≡ true → bodyC air (v .pdu) .ok v ≡ true
-unfolding validOf messageC
-valid-body air v z = both-right _ _ (both-right true _ z)
-
 activate-body : (air : Air) (v : Value) → v .pdu ≡ 2 → bodyC air (v .pdu) ≡ activateC air
 unfolding bodyC
 activate-body air v e = rw e
@@ -86,19 +82,13 @@ request d rows post users ok =
     air : Air
     air = d .profile .air
 
-    os : List ℕ
-    os = outcomesOf air users rows post
-
     few : spanOf air users ≤ 64
     few = few-identities air false users ok
 
-    count : length os ≡ spanOf air users
-    count = omega (arith, length-outcomes air users rows post, few)
-
-    masks : (class : ℕ) → class < 3 → maskC (spanOf air users) .ok (maskAt (sortedOf os) class) ≡ true
-    masks zero h = mask-fits 0 os (spanOf air users) count few
-    masks (suc zero) h = mask-fits 1 os (spanOf air users) count few
-    masks (suc (suc zero)) h = mask-fits 2 os (spanOf air users) count few
+    masks : (class : ℕ) → class < 3 → maskC (spanOf air users) .ok (maskAt (sortedOf (outcomesOf air users rows post)) class) ≡ true
+    masks zero h = mask-carried air users rows post 0 few
+    masks (suc zero) h = mask-carried air users rows post 1 few
+    masks (suc (suc zero)) h = mask-carried air users rows post 2 few
     masks (suc (suc (suc k))) h = absurd (omega arith)
 
 pub acks-are : (d : Desk) (rows : List Record) (post : ℕ) (users : Group) → profileOk (d .profile) ≡ true → groupC (d .profile .air) false .ok users ≡ true

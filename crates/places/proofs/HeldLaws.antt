@@ -10,7 +10,7 @@ use lib.ListN.{length, getD, set, length-set, replicate, List·getD-eq-default}
 use lib.Seq.{getD-set-same, getD-set-other, set-out}
 use borrow.Author.Tests.{leb-true, leb-false, eqb-true, eqb-false, eq-eqb, ne-eqb}
 use Rattle.codec.specs.Codec.{both}
-use Rattle.codec.proofs.Good.{not-both}
+use Rattle.codec.proofs.Good.{both-none, not-both}
 use Rattle.profile.specs.Counting.{sum, one}
 use Rattle.places.specs.Held.{noPlace, placeIn, noPlaces, waitsAt, heldOf, usedOf}
 use Rattle.places.specs.Spots.{takeOf, clearOf}
@@ -120,11 +120,6 @@ waits-not p post e = rw e
 pub waits-call : (identifier post q : ℕ) → waitsAt (call identifier post) q ≡ eqb post q
 unfolding waitsAt both
 waits-call identifier post q = refl
-
-both-none : (b : Bool) → both b false ≡ false
-unfolding both
-both-none true = refl
-both-none false = refl
 
 pub waits-other : (p : Place) (q : ℕ) → (q ≡ p .post → ⊥) → waitsAt p q ≡ false
 unfolding waitsAt

@@ -2,7 +2,7 @@
 -- its reserved number is admitted. Assumes nothing.
 use Prim.Native.Nat.{ℕ, _+_, _-_, _^_, _≤_, _<_}
 use mathlib.Core.Path.{_≡_, refl, sym, _∙_}
-use mathlib.Core.Bool.{Bool, true, false, not, cond, _||_}
+use mathlib.Core.Bool.{Bool, true, false, not, cond, _||_, or-true}
 use mathlib.Core.List.{List}
 use mathlib.Core.Logic.{_⊎_, inl, inr, ⊎-elim}
 use native.Mathlib.Omega.{arith}
@@ -115,10 +115,6 @@ module _ (shares : Shares) (l : List Place) where
       (λ k. rw (lt-ltb (heldOf l p) (shareIn (shares .share) p .reserved) k))
       (λ k. rw (lt-ltb (owedOthers shares l p) (freeOf l) k) (or-true (ltb (heldOf l p) (shareIn (shares .share) p .reserved))))
       r)
-    where
-      or-true : (b : Bool) → (b || true) ≡ true
-      or-true true = refl
-      or-true false = refl
 
   -- what all are owed is what the others are owed, and the post's own part
   owed-parts : (p : ℕ) → p < shares .posts → owedOthers shares l p + owedOf shares l p ≡ owedAll shares l

@@ -7,13 +7,8 @@ use native.Mathlib.Nat.{eq-or-lt-of-le, le-of-suc-le-suc}
 use native.Mathlib.Numerals.{add-one}
 use native.Mathlib.Omega.{arith}
 use Rattle.codec.specs.Codec.{both}
-use Rattle.codec.proofs.Good.{both-true, both-left, both-right}
+use Rattle.codec.proofs.Good.{both-true, both-left, both-right, both-none}
 use Rattle.profile.specs.Counting.{every, sum}
-
-both-none : (a : Bool) → both a false ≡ false
-unfolding both
-both-none true = refl
-both-none false = refl
 
 -- ---- every, as a loop going up takes it
 

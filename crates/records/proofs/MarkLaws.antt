@@ -1,7 +1,7 @@
 -- The walk over the identities that marks records, and what it leaves. Assumes nothing.
 use Prim.Native.Nat.{ℕ, _+_, _<_, _≤_}
 use mathlib.Core.Path.{_≡_, refl, sym, _∙_}
-use mathlib.Core.Bool.{Bool, true, false, _||_}
+use mathlib.Core.Bool.{Bool, true, false, _||_, or-true, or-false, or-assoc}
 use mathlib.Core.List.{List, [], _∷_}
 use mathlib.Core.Logic.{⊎-elim}
 use native.Mathlib.Numerals.{add-one}
@@ -79,23 +79,11 @@ module _ (x : Marks) (air : Air) (g : Group) (rows : List Record) (post : ℕ) (
 
 -- ---- marks-at: record j's mark is wanted exactly if it is the accepted record of one of the identities
 
-or-assoc : (a b c : Bool) → (a || b) || c ≡ a || (b || c)
-or-assoc true b c = refl
-or-assoc false b c = refl
-
-or-false : (a : Bool) → a ≡ a || false
-or-false true = refl
-or-false false = refl
-
-or-true : (a : Bool) → true ≡ a || true
-or-true true = refl
-or-true false = refl
-
 one-at : (at : List Bool) (f : Found) (j : ℕ) → j < length at → getD (withBy at f) j false ≡ getD at j false || isAt j f
-one-at at found.Nobody j h = or-false (getD at j false)
+one-at at found.Nobody j h = sym (or-false (getD at j false))
 one-at at (found.At i) j h =
-    ⊎-elim (λ e. rw (eq-eqb i j e, e) (getD-set-same at j true false h ∙ or-true (getD at j false)))
-    (λ n. rw (ne-eqb i j n, getD-set-other at i j true false (λ e. n (sym e))) (or-false (getD at j false))) (eq-or i j)
+    ⊎-elim (λ e. rw (eq-eqb i j e, e) (getD-set-same at j true false h ∙ sym (or-true (getD at j false))))
+    (λ n. rw (ne-eqb i j n, getD-set-other at i j true false (λ e. n (sym e))) (sym (or-false (getD at j false)))) (eq-or i j)
 
 one-length : (at : List Bool) (f : Found) → length (withBy at f) ≡ length at
 one-length at found.Nobody = refl
@@ -104,7 +92,7 @@ one-length at (found.At i) = length-set at i true
 all-at : (rows : List Record) (post : ℕ) (ms : Marks) (ids : List Identity) (j : ℕ) → j < length (ms .at)
     → getD (markAll rows post ms ids .at) j false ≡ getD (ms .at) j false || wanted rows post ids j
 unfolding markAll withMark wanted
-all-at rows post ms [] j h = or-false (getD (ms .at) j false)
+all-at rows post ms [] j h = sym (or-false (getD (ms .at) j false))
 all-at rows post ms (id ∷ ids) j h =
     all-at rows post (withMark ms (acceptedOf rows post id)) ids j (rw (one-length (ms .at) (acceptedOf rows post id)) h)
     ∙ rw (one-at (ms .at) (acceptedOf rows post id) j h) (or-assoc (getD (ms .at) j false) (isAt j (acceptedOf rows post id)) (wanted rows post ids j))

@@ -18,11 +18,12 @@ use Rattle.message.specs.Addresses.{nobody, isNobody}
 use Rattle.message.specs.Groups.{groupC, spanOf, nobodies, areNobody, oneGroup, isOneGroup}
 use Rattle.message.specs.Acks.{maskC, maskedC, resultC}
 use Rattle.message.specs.Values.{ackV, plainV, plainFits, interceptedFits, callFits, acceptedFits}
-use Rattle.message.specs.Messages.{ackC, interceptedC, acceptedC, bodyC, isKnown, isCarried, headerC, messageC}
+use Rattle.message.specs.Messages.{ackC, interceptedC, acceptedC, bodyC, isCarried, headerC, messageC}
 use Rattle.message.proofs.ValueLaws.{ack-fits}
 use Rattle.message.specs.declared.Group.{Group}
 use Rattle.message.specs.declared.Value.{Value}
 use Rattle.validity.specs.Validity.{validOf}
+use Rattle.validity.proofs.ValidLaws.{carried-ok}
 use Rattle.writing.specs.Writing.{bitsOf, bytesFor}
 use Rattle.writing.proofs.LengthLaws.{ack-bytes-most}
 use Rattle.records.specs.declared.Sorted.{Sorted}
@@ -48,22 +49,11 @@ module _ (p : Profile) (passes : profileOk p ≡ true) where
   unfolding airOk
   other-most = leb-true _ _ (both-left _ _ (both-right _ _ (both-right _ _ (both-right _ _ air-ok))))
 
--- ---- the header
-
-header-valid : (ss t : ℕ) → ss ≤ 63 → t < 32 → isKnown t ≡ true → isCarried t ≡ true → headerC ss .ok (ss, t) ≡ true
-unfolding headerC number
-header-valid ss t h k known carried =
-    both-true _ _ (both-true _ _ (both-true _ _ (both-true _ _ (lt-ltb ss 64 (omega arith)) (lt-ltb t 32 k)) (eq-eqb ss ss refl)) known) carried
-
-known-3 : isKnown 3 ≡ true
-unfolding isKnown both
-known-3 = refl
+-- ---- the ACKs
 
 carried-3 : isCarried 3 ≡ true
 unfolding isCarried
 carried-3 = refl
-
--- ---- the ACKs
 
 -- the result and the reason of a class
 result-valid : (p : Profile) → profileOk p ≡ true → (class : ℕ) → resultC .ok (resultOf class, reasonOf (p .air) class) ≡ true
@@ -89,7 +79,7 @@ ack-valid : (p : Profile) → profileOk p ≡ true → (users : Group) → group
 unfolding validOf messageC bodyC ackC ackV
 ack-valid p passes users g b m e class =
     both-true true _ refl
-    (both-true _ _ (header-valid (p .air .ss) 3 (ss-most p passes) (omega arith) known-3 carried-3)
+    (both-true _ _ (carried-ok (p .air .ss) 3 (omega (arith, ss-most p passes)) carried-3)
     (both-true _ _ (ack-fits users b (cond b m 0) (resultOf class) (reasonOf (p .air) class))
     (both-true _ _ g (both-true _ _ (masked-valid (spanOf (p .air) users) b m e) (result-valid p passes class)))))
 
@@ -134,21 +124,21 @@ module _ (p : Profile) (passes : profileOk p ≡ true) (users : Group) (s : Sort
 
 -- ---- INTERCEPTED, ACCEPTED, DIVERTED
 
-plain-sends : (p : Profile) → profileOk p ≡ true → (t : ℕ) → t < 32 → isKnown t ≡ true → isCarried t ≡ true → bodyC (p .air) t .ok (plainV t nobody 0 0 false nobody) ≡ true
+plain-sends : (p : Profile) → profileOk p ≡ true → (t : ℕ) → isCarried t ≡ true → bodyC (p .air) t .ok (plainV t nobody 0 0 false nobody) ≡ true
     → length (bitsOf (p .air) (plainV t nobody 0 0 false nobody)) ≤ 100 → Sends p (plainV t nobody 0 0 false nobody)
 unfolding validOf messageC plainV
-plain-sends p passes t h known carried body short =
-    record { valid = both-true true _ refl (both-true _ _ (header-valid (p .air .ss) t (ss-most p passes) h known carried) body); short = omega arith }
+plain-sends p passes t carried body short =
+    record { valid = both-true true _ refl (both-true _ _ (carried-ok (p .air .ss) t (omega (arith, ss-most p passes)) carried) body); short = omega arith }
 
 module _ (p : Profile) (passes : profileOk p ≡ true) where
   pub intercepted-sends : Sends p (plainV 10 nobody 0 0 false nobody)
-  unfolding isKnown isCarried both bodyC interceptedC interceptedFits plainFits plainV oneGroup isOneGroup nobodies areNobody isNobody flag number bitsOf messageC headerC
-  intercepted-sends = plain-sends p passes 10 (omega arith) refl refl refl (simp (length-append, length-binary) (omega arith))
+  unfolding isCarried both bodyC interceptedC interceptedFits plainFits plainV oneGroup isOneGroup nobodies areNobody isNobody flag number bitsOf messageC headerC
+  intercepted-sends = plain-sends p passes 10 refl refl (simp (length-append, length-binary) (omega arith))
 
   pub accepted-sends : Sends p (plainV 13 nobody 0 0 false nobody)
-  unfolding isKnown isCarried both bodyC acceptedC acceptedFits callFits plainFits plainV oneGroup isOneGroup nobodies areNobody isNobody number bitsOf messageC headerC
-  accepted-sends = plain-sends p passes 13 (omega arith) refl refl refl (simp (length-append, length-binary) (omega arith))
+  unfolding isCarried both bodyC acceptedC acceptedFits callFits plainFits plainV oneGroup isOneGroup nobodies areNobody isNobody number bitsOf messageC headerC
+  accepted-sends = plain-sends p passes 13 refl refl (simp (length-append, length-binary) (omega arith))
 
   pub diverted-sends : Sends p (plainV 16 nobody 0 0 false nobody)
-  unfolding isKnown isCarried both bodyC interceptedC interceptedFits plainFits plainV oneGroup isOneGroup nobodies areNobody isNobody flag number bitsOf messageC headerC
-  diverted-sends = plain-sends p passes 16 (omega arith) refl refl refl (simp (length-append, length-binary) (omega arith))
+  unfolding isCarried both bodyC interceptedC interceptedFits plainFits plainV oneGroup isOneGroup nobodies areNobody isNobody flag number bitsOf messageC headerC
+  diverted-sends = plain-sends p passes 16 refl refl (simp (length-append, length-binary) (omega arith))

@@ -6,13 +6,12 @@ use mathlib.Core.List.{List, [], _∷_}
 use native.Mathlib.Omega.{arith}
 use lib.ListN.{length}
 use borrow.Author.Tests.{lt-ltb}
-use Rattle.bits.proofs.PutLaws.{length-put}
 use Rattle.profile.specs.Rules.{profileOk}
 use Rattle.profile.specs.declared.Profile.{Profile}
 use Rattle.message.specs.declared.Value.{Value}
 use Rattle.validity.specs.Validity.{validOf}
-use Rattle.writing.specs.Writing.{Write, laid, bitsOf, bytesFor, padded, layOf, writeOf, areaOf}
-use Rattle.writing.proofs.RoundTrips.{Can, can-write}
+use Rattle.writing.specs.Writing.{Write, laid, bitsOf, bytesFor, layOf, writeOf, areaOf}
+use Rattle.writing.proofs.RoundTrips.{Can, can-write, laid-length}
 use Rattle.sending.specs.Sending.{layFrom, layAll, noLaid, laidMore, laidNext, laidFrom, laidOf, sendLaid, sendArea, allLaid, allArea}
 use Rattle.sending.specs.declared.Laid.{Laid}
 
@@ -24,10 +23,6 @@ pub record Sends (p : Profile) (v : Value) : Type 0 where
 abbrev pub AllSend : Profile → List Value → Type 0
 AllSend p [] = Unit
 AllSend p (v ∷ vs) = Sends p v × AllSend p vs
-
-lay-length : (l : List ℕ) (b : ℕ) (bs : List ℕ) → length (layOf l b bs) ≡ length l
-unfolding layOf
-lay-length l b bs = length-put l (8 * b) (padded bs)
 
 module _ (p : Profile) (passes : profileOk p ≡ true) where
   module _ (x : Laid) (l : List ℕ) (v : Value) (few : x .count < 3) (room : 300 ≤ length l) (s : Sends p v) where
@@ -50,7 +45,7 @@ module _ (p : Profile) (passes : profileOk p ≡ true) where
       let one = laid-one x l v (omega arith) room (s .0) in
       let area = area-one x l v (omega arith) room (s .0) in
       rw (one, area)
-      (sent (laidMore x (length (bitsOf (p .air) v))) (layOf l (100 * x .count) (bitsOf (p .air) v)) vs (omega arith) (omega (arith, lay-length l (100 * x .count) (bitsOf (p .air) v))) (s .1))
+      (sent (laidMore x (length (bitsOf (p .air) v))) (layOf l (100 * x .count) (bitsOf (p .air) v)) vs (omega arith) (omega (arith, laid-length l (100 * x .count) (bitsOf (p .air) v))) (s .1))
 
   -- what a call sends, all of it
   pub all-sent : (l : List ℕ) (vs : List Value) → length vs ≤ 3 → 300 ≤ length l → AllSend p vs

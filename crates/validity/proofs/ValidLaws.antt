@@ -12,7 +12,7 @@ use lib.Seq.{drop-cons, getD-take}
 use borrow.Author.Tests.{eqb-true, eqb-false, eq-eqb, ne-eqb, lt-ltb, le-ltb, le-leb}
 use Rattle.codec.specs.Codec.{Codec, both, number, vecOk}
 use Rattle.codec.specs.Options.{flag, option}
-use Rattle.codec.proofs.Good.{both-true}
+use Rattle.codec.proofs.Good.{both-true, both-none}
 use Rattle.message.specs.Addresses.{nobody, isZero, isNobody, kindC, addressC}
 use Rattle.message.specs.Groups.{areNobody}
 use Rattle.message.specs.Acks.{maskC, maskedC}
@@ -33,11 +33,6 @@ both-all : (a : Bool) → both a true ≡ a
 unfolding both
 both-all true = refl
 both-all false = refl
-
-both-none : (a : Bool) → both a false ≡ false
-unfolding both
-both-none true = refl
-both-none false = refl
 
 -- ---- the kind
 
@@ -164,7 +159,8 @@ carried-small t e =
     (or-true (eqb t 13) _ (one-of t 13 (omega arith) (omega arith))
     (or-true (eqb t 15) _ (one-of t 15 (omega arith) (omega arith)) (one-of t 16 (omega arith) (omega arith)))))))) e
 
-carried-ok : (ss t : ℕ) → ss < 64 → isCarried t ≡ true → headerC ss .ok (ss, t) ≡ true
+-- so the header of a carried type is a good one
+pub carried-ok : (ss t : ℕ) → ss < 64 → isCarried t ≡ true → headerC ss .ok (ss, t) ≡ true
 unfolding headerC number isKnown
 carried-ok ss t h e =
     let s = carried-small t e in

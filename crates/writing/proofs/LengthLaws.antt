@@ -30,7 +30,7 @@ use Rattle.validity.specs.Validity.{validOf}
 
 -- ---- what a valid message's body is
 
-valid-body : (air : Air) (v : Value) → validOf air v ≡ true → bodyC air (v .pdu) .ok v ≡ true
+pub valid-body : (air : Air) (v : Value) → validOf air v ≡ true → bodyC air (v .pdu) .ok v ≡ true
 unfolding validOf messageC
 valid-body air v e = both-right _ _ (both-right true _ e)
 

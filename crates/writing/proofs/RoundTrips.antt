@@ -80,7 +80,8 @@ laid-stands l C G a ok h =
     let inside : 0 + length (bs ++ rest) ≤ 8 * length l = omega (arith, length-append bs rest, length-binary (spare (length bs)) 0) in
     stands-left (bitAt (putBits l 0 (bs ++ rest))) 0 bs rest (put-stands l 0 (bs ++ rest) (bits-join bs rest (G .are-bits a ok) (binary-bits (spare (length bs)) 0)) inside)
 
-laid-length : (l : List ℕ) (b : ℕ) (bs : List ℕ) → length (layOf l b bs) ≡ length l
+-- an area keeps its length
+pub laid-length : (l : List ℕ) (b : ℕ) (bs : List ℕ) → length (layOf l b bs) ≡ length l
 unfolding layOf
 laid-length l b bs = length-put l (8 * b) (padded bs)
 
