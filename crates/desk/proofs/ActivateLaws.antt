@@ -1,10 +1,9 @@
 -- ACTIVATE: its order, ground by ground, and its ACKs. Assumes nothing.
-use Prim.Native.Nat.{ℕ, zero, suc, _+_, _≤_, _<_, min}
-use mathlib.Core.Path.{_≡_, refl, sym, ap, _∙_, subst}
-use mathlib.Core.Bool.{Bool, true, false, not, cond}
-use mathlib.Core.List.{List, [], _∷_}
+use Prim.Native.Nat.{ℕ, zero, suc, _≤_, _<_}
+use mathlib.Core.Path.{_≡_, refl, _∙_}
+use mathlib.Core.Bool.{true, false}
+use mathlib.Core.List.{List}
 use native.Mathlib.Omega.{arith}
-use lib.Dec.{ltb, eqb}
 use lib.ListN.{length}
 use borrow.Author.Tests.{lt-ltb, le-ltb}
 use Rattle.codec.specs.Stops.{refusal}
@@ -21,7 +20,7 @@ use Rattle.validity.specs.Validity.{validOf}
 use Rattle.writing.proofs.LengthLaws.{valid-body}
 use Rattle.records.specs.Identities.{identitiesOf}
 use Rattle.records.specs.Records.{recordsOk}
-use Rattle.records.specs.Outcomes.{maskOf, outcomesOf, sortedOf}
+use Rattle.records.specs.Outcomes.{outcomesOf, sortedOf}
 use Rattle.records.specs.Marking.{marksOf}
 use Rattle.records.proofs.MaskLaws.{mask-carried}
 use Rattle.records.specs.declared.Marks.{Marks}
@@ -34,10 +33,8 @@ use Rattle.sending.proofs.SentLaws.{all-sent}
 use Rattle.sending.proofs.AckLaws.{Request, acks-send, acks-few}
 use Rattle.desk.specs.Orders.{postsOf, namesDispatchers, activateAnswer}
 use Rattle.desk.specs.Steps.{acksFor, acksStep, acksArea}
-use Rattle.desk.specs.declared.Answer.{Answer}
 use Rattle.desk.specs.declared.Answer.the-variants as answer
 use Rattle.desk.specs.declared.Desk.{Desk}
-use Rattle.desk.specs.declared.Stepped.{Stepped}
 
 module _ (d : Desk) (rows : List Record) (n room : ℕ) (v : Value) where
   pub activate-14 : room < 300 → activateAnswer d rows n room v ≡ answer.Refused (refusal 14)

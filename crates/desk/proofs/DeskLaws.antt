@@ -1,5 +1,4 @@
 -- Opening a desk, and 1. Assumes nothing.
-use Prim.Native.Nat.{ℕ}
 use mathlib.Core.Path.{_≡_, refl}
 use mathlib.Core.Bool.{Bool, true, false, cond}
 use Rattle.codec.specs.Stops.{refusal, noStop}

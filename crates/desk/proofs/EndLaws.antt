@@ -3,7 +3,7 @@ use Prim.Native.Nat.{ℕ, _^_, _≤_, _<_}
 use mathlib.Core.Path.{_≡_, refl, sym, ap, _∙_}
 use mathlib.Core.Bool.{Bool, true, false, not, cond}
 use mathlib.Core.List.{List, []}
-use lib.Dec.{eqb, ltb}
+use lib.Dec.{eqb}
 use borrow.Author.Tests.{eq-eqb, ne-eqb, lt-ltb, le-ltb}
 use Rattle.codec.specs.Stops.{refusal, noStop}
 use Rattle.codec.proofs.Good.{not-both}
@@ -17,7 +17,7 @@ use Rattle.codec.specs.declared.Stop.{Stop}
 use Rattle.sending.specs.Sending.{layAll, noLaid, laidFrom, laidOf}
 use Rattle.sending.specs.declared.Laid.{Laid}
 use Rattle.desk.specs.Orders.{postsOf, placesOf, endAnswer, decideAnswer, rejectAnswer, cancelAnswer, endingOf}
-use Rattle.desk.specs.Steps.{Effect, ends, effectBy, messagesBy, deskAfter, plainStep, plainArea, endedStep}
+use Rattle.desk.specs.Steps.{ends, effectBy, messagesBy, deskAfter, plainStep, plainArea, endedStep}
 use Rattle.desk.specs.declared.Answer.{Answer}
 use Rattle.desk.specs.declared.Answer.the-variants as answer
 use Rattle.desk.specs.declared.Desk.{Desk}

@@ -1,9 +1,8 @@
 -- Call set-up: its order, ground by ground, and an admission. Assumes nothing.
 use Prim.Native.Nat.{ℕ, _^_, _≤_, _<_}
 use mathlib.Core.Path.{_≡_, refl, sym, ap, _∙_}
-use mathlib.Core.Bool.{Bool, true, false, not, cond}
+use mathlib.Core.Bool.{true, false}
 use mathlib.Core.List.{List, [], _∷_}
-use lib.Dec.{ltb}
 use lib.ListN.{take}
 use borrow.Author.Tests.{lt-ltb, le-ltb, ltb-true}
 use Rattle.codec.proofs.Good.{both-left}
@@ -24,10 +23,8 @@ use Rattle.sending.specs.Sending.{layAll, laidOf}
 use Rattle.sending.specs.declared.Laid.{Laid}
 use Rattle.desk.specs.Orders.{postsOf, placesOf, setUpOk, admitAnswer, partyAnswer, setUpAnswer}
 use Rattle.desk.specs.Steps.{deskAfter, plainStep, plainArea}
-use Rattle.desk.specs.declared.Answer.{Answer}
 use Rattle.desk.specs.declared.Answer.the-variants as answer
 use Rattle.desk.specs.declared.Desk.{Desk}
-use Rattle.desk.specs.declared.Stepped.{Stepped}
 
 module _ (d : Desk) (rows : List Record) (n room : ℕ) (caller called : Identity) (identifier : ℕ) where
   pub setup-16 : setUpOk caller called identifier ≡ false → setUpAnswer d rows n room caller called identifier ≡ answer.Refused (refusal 16)

@@ -7,7 +7,6 @@ use lib.Dec.{eqb, ltb}
 use lib.ListN.{take}
 use Rattle.codec.specs.Stops.{refusal, noStop}
 use Rattle.codec.specs.Codec.{Read, got, no, both}
-use Rattle.codec.specs.declared.Stop.{Stop}
 use Rattle.profile.specs.Rules.{meaningIn}
 use Rattle.profile.specs.declared.Kind.{Kind}
 use Rattle.profile.specs.declared.Kind.the-variants as kind
@@ -18,7 +17,6 @@ use Rattle.message.specs.declared.Value.{Value}
 use Rattle.places.specs.Held.{placeIn, admitsOf}
 use Rattle.places.specs.Spots.{placeOf, lowestFree}
 use Rattle.places.specs.declared.Place.{Place}
-use Rattle.places.specs.declared.Spot.{Spot}
 use Rattle.records.specs.Identities.{identityOf}
 use Rattle.records.specs.Records.{recordsOk, stateOf, restrictedOf}
 use Rattle.records.specs.declared.Identity.{Identity}

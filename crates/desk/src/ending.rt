@@ -1,12 +1,10 @@
 // How a waiting call ends: by ACCEPT or DIVERT from its post, by a reject from it, by a cancel from the switch.
 ghost use mathlib.Core.Path.{_≡_};
 ghost use mathlib.Core.Bool.{true, false};
-ghost use Prim.Native.Nat.{_≤_};
 ghost use lib.ListN.{length};
 ghost use Rattle.profile.specs.Rules.{profileOk};
 ghost use Rattle.places.specs.Held.{placeIn};
-ghost use Rattle.places.specs.Spots.{clearOf};
-ghost use Rattle.desk.specs.Orders.{placesOf, decideAnswer, rejectAnswer, cancelAnswer, endingOf};
+ghost use Rattle.desk.specs.Orders.{decideAnswer, rejectAnswer, cancelAnswer, endingOf};
 ghost use Rattle.desk.specs.Steps.{plainStep, plainArea, endedStep};
 ghost use Rattle.desk.specs.declared.Answer.the-variants as answer;
 use crate::Answer;

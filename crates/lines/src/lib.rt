@@ -3,7 +3,6 @@
 // `said` equals `saidOf` for every line. Of a line that comes in pieces `keep` holds the first 518 bytes, one more than a line of the
 // right shape has, and `said_kept` of these says what the whole line says, however long it is (proofs/KeepLaws).
 ghost use mathlib.Core.Path.{_≡_};
-ghost use mathlib.Core.Bool.{Bool};
 ghost use mathlib.Core.List.{[]};
 ghost use Prim.Native.Nat.{_+_, _-_, _<_, _≤_, min};
 ghost use lib.ListN.{length, take, drop};

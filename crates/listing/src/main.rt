@@ -1,7 +1,7 @@
 // The listing program: for each line of standard input its number and what it says, on standard output (document 01, "Bits and calls
 // worked out"). All that is said of a line is `lines`' work; this reads and writes in blocks, numbers the lines, and finds their ends.
 ghost use mathlib.Core.Path.{_≡_};
-ghost use Prim.Native.Nat.{_+_, _*_, _^_, _≤_};
+ghost use Prim.Native.Nat.{_+_, _^_, _≤_};
 ghost use lib.ListN.{length};
 use lines::Kept;
 use lines::Text;

@@ -3,10 +3,8 @@
 //
 // The functions are the small ones that reading, validity, writing and the desk share. Each takes every input.
 ghost use mathlib.Core.Path.{_≡_};
-ghost use mathlib.Core.Bool.{Bool};
-ghost use Prim.Native.Nat.{ℕ, _+_, _-_};
+ghost use Prim.Native.Nat.{_+_, _-_};
 ghost use lib.ListN.{getD};
-ghost use Rattle.profile.specs.Rules.{listOk};
 ghost use Rattle.message.specs.Addresses.{nobody};
 ghost use Rattle.message.specs.Groups.{addressesIn, allowedIn, rangeOk, endsOk, noGroup, oneGroup, firstOf, spanIn, spanOf};
 ghost use Rattle.message.specs.Values.{ackV, plainV};

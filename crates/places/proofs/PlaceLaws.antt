@@ -1,6 +1,6 @@
 -- The laws that demand 3 rests on: taking and clearing a place keep the desk's places good, an admitted call has a place, and a post below
 -- its reserved number is admitted. Assumes nothing.
-use Prim.Native.Nat.{ℕ, _+_, _-_, _^_, _≤_, _<_}
+use Prim.Native.Nat.{ℕ, _+_, _^_, _≤_, _<_}
 use mathlib.Core.Path.{_≡_, refl, sym, _∙_}
 use mathlib.Core.Bool.{Bool, true, false, not, cond, _||_, or-true}
 use mathlib.Core.List.{List}

@@ -4,11 +4,10 @@
 // `Profile::new` gives the profile, or refusal 1 exactly if a rule is broken; `profile_ok` is the same test for a profile that is
 // handed in, since its fields are public and every call checks again. `SAMPLE` is document 01's sample profile, which passes.
 ghost use mathlib.Core.Path.{_≡_};
-ghost use mathlib.Core.Bool.{Bool, true};
-ghost use Prim.Native.Nat.{ℕ, _<_, _≤_};
+ghost use Prim.Native.Nat.{_≤_};
 ghost use Rattle.profile.specs.Counting.{every, sum};
 ghost use Rattle.profile.specs.Rules.{listOk, meaningOk, meaningIn, airOk, shareOk, shareIn, sharesOk, profileOk, noProfile, newOf};
-ghost use Rattle.profile.specs.Sample.{sampleMeanings, sampleShare, sample};
+ghost use Rattle.profile.specs.Sample.{sample};
 use codec::Stop;
 
 // How many identities follow a range value. (An array holds the first variant past its end.)

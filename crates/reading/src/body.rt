@@ -1,6 +1,5 @@
 // What each message has after the first 11 bits.
 ghost use mathlib.Core.Path.{_≡_};
-ghost use mathlib.Core.Bool.{Bool};
 ghost use Rattle.bits.specs.Fields.{bitAt};
 ghost use Rattle.codec.specs.Codec.{got, no};
 ghost use Rattle.message.specs.Values.{activateV, noValue};

@@ -1,18 +1,16 @@
 -- What the desk sends can be sent: its ACKs, of a valid request, and the messages that say nothing but their type. Assumes nothing.
-use Prim.Native.Nat.{ℕ, zero, suc, _+_, _*_, _≤_, _<_}
-use mathlib.Core.Path.{_≡_, refl, sym, ap, _∙_}
+use Prim.Native.Nat.{ℕ, zero, suc, _+_, _≤_, _<_}
+use mathlib.Core.Path.{_≡_, refl}
 use mathlib.Core.Bool.{Bool, true, false, cond}
 use mathlib.Core.List.{List, [], _∷_, _++_}
 use native.Mathlib.Omega.{arith}
-use lib.Dec.{eqb, ltb, leb}
 use lib.ListN.{length, length-append}
 use Rattle.bits.proofs.PutLaws.{length-binary}
-use borrow.Author.Tests.{lt-ltb, eq-eqb, ne-eqb, leb-true}
-use Rattle.codec.specs.Codec.{Codec, both, number, pure, choose}
+use borrow.Author.Tests.{lt-ltb, ne-eqb, leb-true}
+use Rattle.codec.specs.Codec.{both, number}
 use Rattle.codec.specs.Options.{flag}
 use Rattle.codec.proofs.Good.{both-true, both-left, both-right}
 use Rattle.profile.specs.Rules.{airOk, profileOk}
-use Rattle.profile.specs.declared.Air.{Air}
 use Rattle.profile.specs.declared.Profile.{Profile}
 use Rattle.message.specs.Addresses.{nobody, isNobody}
 use Rattle.message.specs.Groups.{groupC, spanOf, nobodies, areNobody, oneGroup, isOneGroup}
@@ -24,10 +22,10 @@ use Rattle.message.specs.declared.Group.{Group}
 use Rattle.message.specs.declared.Value.{Value}
 use Rattle.validity.specs.Validity.{validOf}
 use Rattle.validity.proofs.ValidLaws.{carried-ok}
-use Rattle.writing.specs.Writing.{bitsOf, bytesFor}
+use Rattle.writing.specs.Writing.{bitsOf}
 use Rattle.writing.proofs.LengthLaws.{ack-bytes-most}
 use Rattle.records.specs.declared.Sorted.{Sorted}
-use Rattle.sending.specs.Acks.{isThere, maskAt, resultOf, reasonOf, severalIn, ackOf, ackIf, acksOf}
+use Rattle.sending.specs.Acks.{isThere, maskAt, resultOf, reasonOf, severalIn, ackOf, acksOf}
 use Rattle.sending.proofs.SentLaws.{Sends, AllSend}
 
 -- ---- what a profile that passes says of its numbers

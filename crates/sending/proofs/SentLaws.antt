@@ -1,7 +1,7 @@
 -- Of valid messages of up to 100 bytes, at most three, none is left out: the area is the one that the paper describes. Assumes nothing.
 use Prim.Native.Nat.{ℕ, _+_, _*_, _≤_, _<_}
-use mathlib.Core.Path.{_≡_, refl, sym, ap, _∙_}
-use mathlib.Core.Bool.{Bool, true}
+use mathlib.Core.Path.{_≡_, refl, _∙_}
+use mathlib.Core.Bool.{true}
 use mathlib.Core.List.{List, [], _∷_}
 use native.Mathlib.Omega.{arith}
 use lib.ListN.{length}
@@ -10,9 +10,9 @@ use Rattle.profile.specs.Rules.{profileOk}
 use Rattle.profile.specs.declared.Profile.{Profile}
 use Rattle.message.specs.declared.Value.{Value}
 use Rattle.validity.specs.Validity.{validOf}
-use Rattle.writing.specs.Writing.{Write, laid, bitsOf, bytesFor, layOf, writeOf, areaOf}
-use Rattle.writing.proofs.RoundTrips.{Can, can-write, laid-length}
-use Rattle.sending.specs.Sending.{layFrom, layAll, noLaid, laidMore, laidNext, laidFrom, laidOf, sendLaid, sendArea, allLaid, allArea}
+use Rattle.writing.specs.Writing.{laid, bitsOf, bytesFor, layOf, writeOf, areaOf}
+use Rattle.writing.proofs.RoundTrips.{can-write, laid-length}
+use Rattle.sending.specs.Sending.{layFrom, layAll, noLaid, laidMore, laidFrom, laidOf, sendLaid, sendArea, allLaid, allArea}
 use Rattle.sending.specs.declared.Laid.{Laid}
 
 -- a message that can be sent

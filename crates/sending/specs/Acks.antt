@@ -1,7 +1,7 @@
 -- The ACTIVATE ACKs of a request: one for each different outcome, in the order accepted, U, N. Each repeats the request's users. With one
 -- outcome the mask is absent; with several each mask has a one just at the identities with that outcome.
 use Prim.Native.Nat.{ℕ, _+_}
-use mathlib.Core.Bool.{Bool, true, false, cond}
+use mathlib.Core.Bool.{Bool, false, cond}
 use mathlib.Core.List.{List, [], _∷_, _++_}
 use lib.Dec.{eqb, ltb}
 use lib.ListN.{getD}

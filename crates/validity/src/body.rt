@@ -1,6 +1,5 @@
 // Each message after the first 11 bits: what it carries is good, and all that it doesn't carry is zero.
 ghost use mathlib.Core.Path.{_≡_};
-ghost use mathlib.Core.Bool.{true};
 ghost use Rattle.message.specs.Values.{activateFits, ackFits, plainFits, interrogateFits, interceptedFits, callFits};
 ghost use Rattle.message.specs.Messages.{dispatchersC, dispatcherC, activateC, ackC, interrogateC, interceptedC, callC, acceptedC, bodyC};
 use crate::ack;
