@@ -67,7 +67,7 @@ none-holds [] a e = refl
 none-holds ((c, true) ∷ rest) a e = not-both (both-left false _ e)
 none-holds ((c, false) ∷ rest) a e = none-holds rest a (both-right true _ e)
 
-abbrev isRefused : Answer → Bool
+abbrev pub isRefused : Answer → Bool
 isRefused (answer.Refused s) = true
 isRefused answer.Acks = false
 isRefused (answer.State k) = false

@@ -8,6 +8,7 @@ use native.Mathlib.Omega.{arith}
 use lib.Dec.{eqb, ltb}
 use lib.ListN.{length}
 use borrow.Author.Tests.{ne-eqb, leb-true, lt-ltb, le-ltb}
+use Rattle.bits.proofs.SetLaws.{lt-or}
 use Rattle.codec.specs.Codec.{both}
 use Rattle.codec.specs.Stops.{refusal}
 use Rattle.codec.proofs.Good.{both-left, both-right, both-true, not-both}
@@ -31,7 +32,7 @@ use Rattle.desk.specs.declared.Desk.{Desk}
 use Rattle.desk.specs.declared.Event.{Event}
 use Rattle.desk.specs.declared.Event.the-variants as event
 use Rattle.desk.proofs.AnswerLaws.{step-answer, pastOne, Can, event-ok}
-use Rattle.desk.proofs.SetUps.{new-call}
+use Rattle.desk.proofs.SetUps.{isRefused, new-call}
 use Rattle.history.specs.Histories.{Call, History, stepFor, runOf, leftBy, Waiting, waitingOf, isWaiting, heldBy, freeBy, owedToOthers, isRestrictedCall}
 use Rattle.history.proofs.WaitingLaws.{Same, held-same, free-same, owed-same, waiting-same}
 use Rattle.history.proofs.RunLaws.{Along, along, run-profile}
@@ -167,14 +168,13 @@ module _ (p : Profile) (opens : profileOk p ≡ true) (calls : List Call) where
       pub place : ℕ
       pub answer-is : stepFor next c .answer ≡ answer.Admitted post place
 
+    reserved-in : heldBy waiting post < share post .reserved → admitsOf (p .shares) (placesOf next) post ≡ true
+    unfolding profileOk
+    reserved-in h = reserved-admitted (p .shares) (placesOf next) (both-right _ _ opens) post below (omega (arith, h, held post))
+
     -- below its reserved number a post is never refused for want of a place, whatever the other posts did
     pub reserved-never-refused : heldBy waiting post < share post .reserved → IsAdmitted
-    unfolding profileOk
-    reserved-never-refused h =
-        record {
-          place = lowestFree (placesOf next) .place;
-          answer-is = yes (reserved-admitted (p .shares) (placesOf next) (both-right _ _ opens) post below (omega (arith, held post)));
-        }
+    reserved-never-refused h = record { place = lowestFree (placesOf next) .place; answer-is = yes (reserved-in h) }
 
     -- the post is at its ceiling, or the free places are no more than the other posts are owed
     abbrev pub NoPlace : Type 0
@@ -193,3 +193,41 @@ module _ (p : Profile) (opens : profileOk p ≡ true) (calls : List Call) where
             (λ a. ⊎-elim (λ g. absurd (omega (arith, g, h, held post))) (λ g. absurd (omega (arith, a, g, free, owed post))) (r .1))
             k
         go false e = refl
+
+    -- it gets 18 only then: not below its reserved number, and with no place for it
+    pub only-then-18 : stepFor next c .answer ≡ answer.Refused (refusal 18) → (share post .reserved ≤ heldBy waiting post) × NoPlace
+    only-then-18 z = (enough, go (lt-or (heldOf (placesOf next) post) (share post .ceiling)))
+      where
+        not-yes : admitsOf (p .shares) (placesOf next) post ≡ true → ⊥
+        not-yes e = not-both (ap (λ (a : Answer). isRefused a) (sym (yes e) ∙ z))
+
+        enough : share post .reserved ≤ heldBy waiting post
+        enough = ⊎-elim (λ h. absurd (not-yes (reserved-in h))) (λ h. h) (lt-or (heldBy waiting post) (share post .reserved))
+
+        go : (heldOf (placesOf next) post < share post .ceiling) ⊎ (share post .ceiling ≤ heldOf (placesOf next) post) → NoPlace
+        go (inl h) =
+            ⊎-elim
+            (λ k. absurd (not-yes (rule-admits (p .shares) (placesOf next) post h (inr k))))
+            (λ k. inr (omega (arith, k, free, owed post)))
+            (lt-or (owedOthers (p .shares) (placesOf next) post) (freeOf (placesOf next)))
+        go (inr h) = inl (omega (arith, h, held post, under-ceiling post below))
+
+    -- and is admitted else
+    pub admitted-else : share post .reserved ≤ heldBy waiting post → (NoPlace → ⊥) → IsAdmitted
+    admitted-else h k =
+        record {
+          place = lowestFree (placesOf next) .place;
+          answer-is = yes (rule-admits (p .shares) (placesOf next) post room (inr more));
+        }
+      where
+        room : heldOf (placesOf next) post < share post .ceiling
+        room =
+            ⊎-elim (λ a. a) (λ a. absurd (k (inl (omega (arith, a, held post, under-ceiling post below))))) (lt-or (heldOf (placesOf next) post) (share post .ceiling))
+
+        more : owedOthers (p .shares) (placesOf next) post < freeOf (placesOf next)
+        more = ⊎-elim (λ a. a) (λ a. absurd (k (inr (omega (arith, a, free, owed post))))) (lt-or (owedOthers (p .shares) (placesOf next) post) (freeOf (placesOf next)))
+
+    -- so: at its reserved number or above, a call gets 18 exactly if there is no place for it
+    pub refused-exactly : share post .reserved ≤ heldBy waiting post
+        → (NoPlace → stepFor next c .answer ≡ answer.Refused (refusal 18)) × (stepFor next c .answer ≡ answer.Refused (refusal 18) → NoPlace)
+    refused-exactly h = (refused-18 h, λ z. only-then-18 z .1)
