@@ -1,31 +1,27 @@
 -- Along any history the desk stays one that 1 passes, and its used places are the calls that the history has waiting. Assumes nothing.
 use Prim.Native.Nat.{ℕ}
 use mathlib.Core.Path.{_≡_, refl, sym, ap, _∙_, subst}
-use mathlib.Core.Bool.{Bool, true, false, not}
+use mathlib.Core.Bool.{true}
 use mathlib.Core.List.{List, [], _∷_}
-use lib.Dec.{eqb}
 use lib.ListN.{length}
-use borrow.Author.Tests.{ne-eqb}
-use Rattle.codec.specs.Codec.{both}
-use Rattle.codec.specs.Stops.{refusal}
-use Rattle.codec.proofs.Good.{both-left, both-right, both-true, not-both}
+use Rattle.codec.proofs.Good.{both-right}
 use Rattle.profile.specs.Rules.{profileOk}
 use Rattle.profile.specs.declared.Profile.{Profile}
 use Rattle.places.specs.Grounds.{placesOk}
-use Rattle.places.specs.Spots.{spotAt, placeOf, lowestFree}
+use Rattle.places.specs.Spots.{placeOf, lowestFree}
 use Rattle.places.specs.declared.Spot.{Spot}
 use Rattle.places.proofs.HeldLaws.{length-take, length-clear, length-none}
 use Rattle.places.proofs.SpotLaws.{spot-found, lowest-free-exactly}
 use Rattle.places.proofs.PlaceLaws.{take-keeps, clear-keeps, none-waiting-ok}
-use Rattle.desk.specs.Desks.{deskWith, deskOk}
+use Rattle.desk.specs.Desks.{deskWith}
 use Rattle.desk.specs.Orders.{placesOf}
-use Rattle.desk.specs.Steps.{Effect, nothing, begins, ends, effectBy, effectOf, identifierOf, deskAfter}
+use Rattle.desk.specs.Steps.{nothing, begins, ends, effectBy, effectOf, identifierOf, deskAfter}
 use Rattle.desk.specs.declared.Answer.{Answer}
 use Rattle.desk.specs.declared.Answer.the-variants as answer
 use Rattle.desk.specs.declared.Desk.{Desk}
 use Rattle.desk.proofs.SetUps.{step-desk, admitted-so}
 use Rattle.desk.proofs.Endings.{isEnding, ended-waits}
-use Rattle.history.specs.Histories.{Call, History, stepFor, runOf, leftBy, Waiting, afterwards, waitingAfter, waitingOf}
+use Rattle.history.specs.Histories.{Call, stepFor, runOf, leftBy, Waiting, afterwards, waitingAfter, waitingOf}
 use Rattle.history.proofs.WaitingLaws.{Same, same-none, same-take, same-clear}
 
 -- a desk along a history: 32 places that 1 passes, and the calls w wait in them
