@@ -26,7 +26,7 @@ pub enum ResultTook {
     Refused(Stop),
 }
 
-pub fn read_ack(air: Air, buf: &[u8], bits: usize, at: usize) -> Body
+pub(crate) fn read_ack(air: Air, buf: &[u8], bits: usize, at: usize) -> Body
     ensures { λ r. ⌜ r ≡ bodyOf (ackC air .read (bitAt (now (buf .entry))) bits at) ⌝ }
 {
     let u = group::read_group(air, false, buf, bits, at);

@@ -14,7 +14,7 @@ pub enum AddressTook {
     Refused(Stop),
 }
 
-pub fn read_address(buf: &[u8], bits: usize, at: usize) -> AddressTook
+pub(crate) fn read_address(buf: &[u8], bits: usize, at: usize) -> AddressTook
     ensures { λ r. ⌜ addressOf r ≡ addressC .read (bitAt (now (buf .entry))) bits at ⌝ }
 {
     match read_kind(buf, bits, at) {

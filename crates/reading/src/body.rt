@@ -26,7 +26,7 @@ pub struct Body {
     pub value: Value,
 }
 
-pub fn read_body(air: Air, pdu: u8, buf: &[u8], bits: usize, at: usize) -> Body
+pub(crate) fn read_body(air: Air, pdu: u8, buf: &[u8], bits: usize, at: usize) -> Body
     ensures { λ r. ⌜ r ≡ bodyOf (bodyC air pdu .read (bitAt (now (buf .entry))) bits at) ⌝ }
 {
     if pdu == 2 {
@@ -136,7 +136,7 @@ fn activate_value(users: Group, option: bool, dispatchers: Group) -> Value
     }
 }
 
-pub fn carried(value: Value, next: usize) -> Body
+pub(crate) fn carried(value: Value, next: usize) -> Body
     ensures { λ r. ⌜ r ≡ bodyOf (got value next) ⌝ }
 {
     Body {
@@ -147,7 +147,7 @@ pub fn carried(value: Value, next: usize) -> Body
     }
 }
 
-pub fn no_body(s: Stop) -> Body
+pub(crate) fn no_body(s: Stop) -> Body
     ensures { λ r. ⌜ r ≡ bodyOf (no s) ⌝ }
 {
     let value = no_value();
@@ -160,7 +160,7 @@ pub fn no_body(s: Stop) -> Body
 }
 
 // What stands beside a refusal: all zero.
-pub fn no_value() -> Value
+pub(crate) fn no_value() -> Value
     ensures { λ r. ⌜ r ≡ noValue ⌝ }
 {
     message::plain_value(0, message::NOBODY, 0, 0, false, message::NOBODY)

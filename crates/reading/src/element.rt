@@ -50,7 +50,7 @@ pub enum FlagTook {
     Refused(Stop),
 }
 
-pub fn byte(element: u8, buf: &[u8], bits: usize, at: usize, width: usize) -> ByteTook
+pub(crate) fn byte(element: u8, buf: &[u8], bits: usize, at: usize, width: usize) -> ByteTook
     ensures { λ r. ⌜ byteOf r ≡ upTo 8 element (now (buf .entry)) bits at width ⌝ }
 {
     if width > 8 {
@@ -62,7 +62,7 @@ pub fn byte(element: u8, buf: &[u8], bits: usize, at: usize, width: usize) -> By
     }
 }
 
-pub fn word(element: u8, buf: &[u8], bits: usize, at: usize, width: usize) -> WordTook
+pub(crate) fn word(element: u8, buf: &[u8], bits: usize, at: usize, width: usize) -> WordTook
     ensures { λ r. ⌜ wordOf r ≡ upTo 32 element (now (buf .entry)) bits at width ⌝ }
 {
     if width > 32 {
@@ -74,7 +74,7 @@ pub fn word(element: u8, buf: &[u8], bits: usize, at: usize, width: usize) -> Wo
     }
 }
 
-pub fn bit(element: u8, buf: &[u8], bits: usize, at: usize) -> FlagTook
+pub(crate) fn bit(element: u8, buf: &[u8], bits: usize, at: usize) -> FlagTook
     ensures { λ r. ⌜ flagOf r ≡ flag element .read (bitAt (now (buf .entry))) bits at ⌝ }
 {
     match byte(element, buf, bits, at, 1) {

@@ -30,7 +30,7 @@ pub struct GroupRead {
 }
 
 // `none` says whether the range may mean "none".
-pub fn read_group(air: Air, none: bool, buf: &[u8], bits: usize, at: usize) -> GroupRead
+pub(crate) fn read_group(air: Air, none: bool, buf: &[u8], bits: usize, at: usize) -> GroupRead
     ensures { λ r. ⌜ r ≡ groupOf (groupC air none .read (bitAt (now (buf .entry))) bits at) ⌝ }
 {
     let meanings = air.meanings;

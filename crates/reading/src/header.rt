@@ -12,7 +12,7 @@ pub enum HeaderTook {
     Refused(Stop),
 }
 
-pub fn read_header(ss: u8, buf: &[u8], bits: usize, at: usize) -> HeaderTook
+pub(crate) fn read_header(ss: u8, buf: &[u8], bits: usize, at: usize) -> HeaderTook
     ensures { λ r. ⌜ headerOf r ≡ headerC ss .read (bitAt (now (buf .entry))) bits at ⌝ }
 {
     match element::byte(element::SS_TYPE, buf, bits, at, 6) {

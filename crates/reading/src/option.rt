@@ -29,7 +29,7 @@ pub enum OptionTook {
     Refused(Stop),
 }
 
-pub fn read_dispatchers(air: Air, buf: &[u8], bits: usize, at: usize) -> OptionRead
+pub(crate) fn read_dispatchers(air: Air, buf: &[u8], bits: usize, at: usize) -> OptionRead
     ensures { λ r. ⌜ r ≡ optionOf (dispatchersC air .read (bitAt (now (buf .entry))) bits at) ⌝ }
 {
     match element::bit(element::O_BIT, buf, bits, at) {
@@ -97,7 +97,7 @@ fn no_option(s: Stop) -> OptionRead
     }
 }
 
-pub fn read_dispatcher(buf: &[u8], bits: usize, at: usize) -> OptionTook
+pub(crate) fn read_dispatcher(buf: &[u8], bits: usize, at: usize) -> OptionTook
     ensures { λ r. ⌜ optionAddressOf r ≡ dispatcherC .read (bitAt (now (buf .entry))) bits at ⌝ }
 {
     match element::bit(element::O_BIT, buf, bits, at) {

@@ -1,0 +1,17 @@
+-- The one law that every lemma here cites, `same`, in the three forms that contracts have: they say the answer alone, the last value of a
+-- `&mut` alone, or both. Assumes nothing.
+use mathlib.Core.Path.{_≡_, refl, ap, sym, _∙_}
+
+-- two outcomes that equal the same are equal
+pub same : {A : Type 0} {x y z : A} → x ≡ z → y ≡ z → x ≡ y
+same p q = p ∙ sym q
+
+pub same-answer : {A B : Type 0} {x y z : A} {v : B} → x ≡ z → y ≡ z → (x ≡ y) × (v ≡ v)
+same-answer p q = (same p q, refl)
+
+-- f puts the last value among those of the other arguments
+pub same-exit : {A B C : Type 0} (f : B → C) {x : A} {v w u : B} → v ≡ u → w ≡ u → (x ≡ x) × (f v ≡ f w)
+same-exit f p q = (refl, ap f (same p q))
+
+pub same-both : {A B C : Type 0} (f : B → C) {x y z : A} {v w u : B} → (x ≡ z) × (v ≡ u) → (y ≡ z) × (w ≡ u) → (x ≡ y) × (f v ≡ f w)
+same-both f p q = (same (p .0) (q .0), ap f (same (p .1) (q .1)))

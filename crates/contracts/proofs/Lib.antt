@@ -1,0 +1,13 @@
+pub mod Law
+pub mod Bits
+pub mod Codec
+pub mod Profile
+pub mod Message
+pub mod Reading
+pub mod Validity
+pub mod Writing
+pub mod Places
+pub mod Records
+pub mod Sending
+pub mod Desk
+pub mod Lines

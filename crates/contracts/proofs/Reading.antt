@@ -1,0 +1,8 @@
+-- What the contracts of `reading` decide: any two outcomes that one allows are equal. Assumes nothing.
+use mathlib.Core.Path.{refl}
+use Rattle.reading.proofs.read as read
+use Rattle.contracts.specs.Outcomes.{Decides}
+use Rattle.contracts.proofs.Law.{same-answer}
+
+pub decides-read : Decides read.ended (λ M. read.spec)
+decides-read = record { says = read.Reads.Learnt; is = refl; one = λ κs a x y v w. same-answer }
