@@ -39,6 +39,7 @@ use Rattle.desk.specs.declared.Answer.the-variants as answer
 use Rattle.desk.specs.declared.Desk.{Desk}
 use Rattle.desk.specs.declared.Event.{Event}
 use Rattle.desk.specs.declared.Event.the-variants as event
+use Rattle.desk.specs.declared.Stepped.{Stepped}
 
 -- ---- records, desks, areas
 
@@ -81,10 +82,15 @@ pub data Case : Type 0 where
 abbrev pub Outcome : Type 0
 Outcome = Answer × (List ℕ × (List Bool × List ℕ))
 
+-- the step of a case, and the area after it
+abbrev pub stepFor : Case → Stepped
+stepFor (on d r l e a lengths marks area) = stepOf d (rows r) (length r) l (untouched 300) e
+
+abbrev pub areaFor : Case → List ℕ
+areaFor (on d r l e a lengths marks area) = areaAfter d (rows r) (length r) l (untouched 300) e
+
 abbrev pub gives : Case → Outcome
-gives (on d r l e a lengths marks area) =
-    let s = stepOf d (rows r) (length r) l (untouched 300) e in
-    (s .answer, (take (s .laid .count) (s .laid .lengths), (take 4 (s .marks .at), areaAfter d (rows r) (length r) l (untouched 300) e)))
+gives c = (stepFor c .answer, (take (stepFor c .laid .count) (stepFor c .laid .lengths), (take 4 (stepFor c .marks .at), areaFor c)))
 
 abbrev pub wants : Case → Outcome
 wants (on d r l e a lengths marks area) = (a, (lengths, (marks, area)))

@@ -13,7 +13,7 @@ use Rattle.message.specs.declared.Value.{Value}
 use Rattle.records.specs.Records.{recordsOk}
 use Rattle.records.specs.declared.Record.{Record}
 use Rattle.desk.specs.Desks.{deskOk}
-use Rattle.desk.specs.Grounds.{waits, waitsHere}
+use Rattle.desk.specs.Grounds.{waits}
 use Rattle.desk.specs.Orders.{unless, postsOf, namesDispatchers, activateAnswer, interrogateAnswer, endAnswer, decideAnswer, sentAnswer, readAnswer, messageAnswer, identifierOk, rejectAnswer, cancelAnswer, eventAnswer, answerOf}
 use Rattle.desk.specs.Steps.{valueBy, identifierOf, stepOf}
 use Rattle.desk.specs.declared.Answer.{Answer}

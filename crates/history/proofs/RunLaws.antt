@@ -1,28 +1,26 @@
 -- Along any history the desk stays one that 1 passes, and its used places are the calls that the history has waiting. Assumes nothing.
 use Prim.Native.Nat.{ℕ}
 use mathlib.Core.Path.{_≡_, refl, sym, ap, _∙_, subst}
-use mathlib.Core.Bool.{Bool, true, false, not}
-use mathlib.Core.List.{List, [], _∷_}
-use lib.Dec.{eqb}
+use mathlib.Core.Bool.{Bool, true, false, cond}
+use mathlib.Core.List.{List, [], _∷_, _++_}
 use lib.ListN.{length}
-use borrow.Author.Tests.{ne-eqb}
-use Rattle.codec.specs.Codec.{both}
-use Rattle.codec.specs.Stops.{refusal}
-use Rattle.codec.proofs.Good.{both-left, both-right, both-true, not-both}
-use Rattle.profile.specs.Rules.{profileOk}
+use Rattle.codec.specs.Stops.{refusal, noStop}
+use Rattle.codec.proofs.Good.{both-right, not-both}
+use Rattle.profile.specs.Rules.{profileOk, noProfile}
 use Rattle.profile.specs.declared.Profile.{Profile}
 use Rattle.places.specs.Grounds.{placesOk}
-use Rattle.places.specs.Spots.{spotAt, placeOf, lowestFree}
+use Rattle.places.specs.Spots.{placeOf, lowestFree}
 use Rattle.places.specs.declared.Spot.{Spot}
 use Rattle.places.proofs.HeldLaws.{length-take, length-clear, length-none}
 use Rattle.places.proofs.SpotLaws.{spot-found, lowest-free-exactly}
 use Rattle.places.proofs.PlaceLaws.{take-keeps, clear-keeps, none-waiting-ok}
-use Rattle.desk.specs.Desks.{deskWith, deskOk}
+use Rattle.desk.specs.Desks.{deskWith, openOf}
 use Rattle.desk.specs.Orders.{placesOf}
-use Rattle.desk.specs.Steps.{Effect, nothing, begins, ends, effectBy, effectOf, identifierOf, deskAfter}
+use Rattle.desk.specs.Steps.{nothing, begins, ends, effectBy, effectOf, identifierOf, deskAfter}
 use Rattle.desk.specs.declared.Answer.{Answer}
 use Rattle.desk.specs.declared.Answer.the-variants as answer
 use Rattle.desk.specs.declared.Desk.{Desk}
+use Rattle.desk.specs.declared.Opened.{Opened}
 use Rattle.desk.proofs.SetUps.{step-desk, admitted-so}
 use Rattle.desk.proofs.Endings.{isEnding, ended-waits}
 use Rattle.history.specs.Histories.{Call, History, stepFor, runOf, leftBy, Waiting, afterwards, waitingAfter, waitingOf}
@@ -105,7 +103,25 @@ along-run (c ∷ calls) d w a =
     (step-profile d c)
     (along-run calls (stepFor d c .desk) _ (along-step d w a c))
 
+-- the history of the first calls is the first part of the history: what holds of any calls holds after each prefix of them
+pub run-parts : (xs ys : List Call) (d : Desk) → runOf d (xs ++ ys) ≡ runOf d xs ++ runOf (leftBy d xs) ys
+unfolding runOf leftBy
+run-parts [] ys d = refl
+run-parts (c ∷ xs) ys d = ap (λ (h : History). (c, stepFor d c .answer) ∷ h) (run-parts xs ys (stepFor d c .desk))
+
 -- ---- from an opened desk
+
+-- a profile that opens is one that passes, and its desk has every place free
+pub opened : (p : Profile) → openOf p .found ≡ true → (profileOk p ≡ true) × (openOf p .desk ≡ deskWith p)
+unfolding openOf
+opened p = go (profileOk p)
+  where
+    answer-by : Bool → Opened
+    answer-by b = cond b (record { found = true; stop = noStop; desk = deskWith p }) (record { found = false; stop = refusal 1; desk = deskWith noProfile })
+
+    go : (b : Bool) → answer-by b .found ≡ true → (b ≡ true) × (answer-by b .desk ≡ deskWith p)
+    go true e = (refl, refl)
+    go false e = not-both e
 
 module _ (p : Profile) (opens : profileOk p ≡ true) where
   along-open : Along (deskWith p) []

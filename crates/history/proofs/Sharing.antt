@@ -1,13 +1,13 @@
 -- Demand 3: the 32 places are shared as paid for, over any history from an opened desk, counted from the history alone. Assumes nothing.
 use Prim.Native.Nat.{ℕ, _<_, _≤_}
 use mathlib.Core.Path.{_≡_, refl, sym, ap, _∙_, subst}
-use mathlib.Core.Bool.{Bool, true, false, not, cond, _||_}
-use mathlib.Core.List.{List, [], _∷_}
+use mathlib.Core.Bool.{Bool, true, false, not}
+use mathlib.Core.List.{List}
 use mathlib.Core.Logic.{_⊎_, inl, inr, ⊎-elim}
 use native.Mathlib.Omega.{arith}
 use lib.Dec.{eqb, ltb}
 use lib.ListN.{length}
-use borrow.Author.Tests.{ne-eqb, leb-true, lt-ltb, le-ltb}
+use borrow.Author.Tests.{ne-eqb, leb-true}
 use Rattle.bits.proofs.SetLaws.{lt-or}
 use Rattle.codec.specs.Codec.{both}
 use Rattle.codec.specs.Stops.{refusal}
@@ -17,15 +17,14 @@ use Rattle.profile.specs.declared.Profile.{Profile}
 use Rattle.profile.specs.declared.Share.{Share}
 use Rattle.places.specs.Held.{admitsOf, heldOf, owedOthers, freeOf}
 use Rattle.places.specs.Grounds.{placesOk}
-use Rattle.places.specs.Spots.{placeOf, lowestFree}
+use Rattle.places.specs.Spots.{lowestFree}
 use Rattle.places.proofs.PlaceLaws.{passes, admits-rule, rule-admits, reserved-admitted}
 use Rattle.records.specs.Records.{recordsOk}
 use Rattle.records.specs.declared.Identity.{Identity}
-use Rattle.records.specs.declared.Party.{Party}
 use Rattle.records.proofs.PartyLaws.{party-below}
 use Rattle.desk.specs.Desks.{deskWith, deskOk}
 use Rattle.desk.specs.Grounds.{waits, partyFor, noneOf, isNew}
-use Rattle.desk.specs.Orders.{numberOf, unless, postsOf, placesOf, setUpOk, admitAnswer, partyAnswer, eventAnswer, answerOf}
+use Rattle.desk.specs.Orders.{numberOf, placesOf, setUpOk, admitAnswer, answerOf}
 use Rattle.desk.specs.declared.Answer.{Answer}
 use Rattle.desk.specs.declared.Answer.the-variants as answer
 use Rattle.desk.specs.declared.Desk.{Desk}
@@ -34,8 +33,8 @@ use Rattle.desk.specs.declared.Event.the-variants as event
 use Rattle.desk.proofs.AnswerLaws.{step-answer, pastOne, Can, event-ok}
 use Rattle.desk.proofs.SetUps.{isRefused, new-call}
 use Rattle.history.specs.Histories.{Call, History, stepFor, runOf, leftBy, Waiting, waitingOf, isWaiting, heldBy, freeBy, owedToOthers, isRestrictedCall}
-use Rattle.history.proofs.WaitingLaws.{Same, held-same, free-same, owed-same, waiting-same}
-use Rattle.history.proofs.RunLaws.{Along, along, run-profile}
+use Rattle.history.proofs.WaitingLaws.{held-same, free-same, owed-same, waiting-same}
+use Rattle.history.proofs.RunLaws.{along, run-profile}
 
 -- ---- past 1
 

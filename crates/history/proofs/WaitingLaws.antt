@@ -1,6 +1,6 @@
 -- The waiting calls of a history are the used places of the desk, however one counts them. Assumes nothing.
 use Prim.Native.Nat.{ℕ, _+_, _-_, _<_, _≤_}
-use mathlib.Core.Path.{_≡_, refl, sym, ap, _∙_, subst}
+use mathlib.Core.Path.{_≡_, refl, sym, ap, _∙_}
 use mathlib.Core.Bool.{Bool, true, false, not, cond}
 use mathlib.Core.List.{List, [], _∷_}
 use mathlib.Core.Logic.{⊎-elim}
@@ -8,21 +8,21 @@ use native.Mathlib.Nat.{eq-or-lt-of-le}
 use native.Mathlib.Omega.{arith}
 use lib.Dec.{eqb, ltb}
 use lib.ListN.{length}
-use borrow.Author.Tests.{eq-eqb, ne-eqb, lt-ltb, le-ltb, eqb-true}
+use borrow.Author.Tests.{eq-eqb, ne-eqb, lt-ltb, le-ltb}
 use Rattle.bits.proofs.SetLaws.{lt-or}
 use Rattle.codec.specs.Codec.{both}
-use Rattle.codec.proofs.Good.{both-left, both-right, both-true, not-both}
+use Rattle.codec.proofs.Good.{both-true}
 use Rattle.profile.specs.Counting.{one, sum}
 use Rattle.profile.specs.Rules.{shareIn}
 use Rattle.profile.specs.declared.Shares.{Shares}
-use Rattle.places.specs.Held.{noPlace, placeIn, noPlaces, waitsAt, heldOf, usedOf, freeOf, owedOf, owedOthers, admitsOf}
+use Rattle.places.specs.Held.{noPlace, placeIn, noPlaces, waitsAt, heldOf, usedOf, freeOf, owedOf, owedOthers}
 use Rattle.places.specs.Grounds.{placesOk}
-use Rattle.places.specs.Spots.{spotAt, hasCall, placeOf, takeOf, clearOf}
+use Rattle.places.specs.Spots.{spotAt, placeOf, takeOf, clearOf}
 use Rattle.places.specs.declared.Place.{Place}
 use Rattle.places.proofs.SumLaws.{sum-same, sum-bump, sum-zero, sum-without}
 use Rattle.places.proofs.HeldLaws.{call, count-set, count-clear, none-at, waiting-inside}
 use Rattle.places.proofs.SpotLaws.{place-of-exactly, no-place-exactly, spot-found}
-use Rattle.places.proofs.PlaceLaws.{Passes, passes}
+use Rattle.places.proofs.PlaceLaws.{passes}
 use Rattle.history.specs.Histories.{Waiting, without, countBy, isWaiting, heldBy, freeBy, owedBy, owedToOthers}
 
 -- the call in a place passes a test

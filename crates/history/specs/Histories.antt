@@ -1,7 +1,7 @@
 -- A history is what an outsider could have written down: each call with all that was lent, and its answer. No desk is in it. Which
 -- calls wait, and so what each post holds and is owed, is counted from it alone.
 use Prim.Native.Nat.{ℕ, _+_, _-_}
-use mathlib.Core.Bool.{Bool, true, not, cond, _||_}
+use mathlib.Core.Bool.{Bool, not, cond}
 use mathlib.Core.List.{List, [], _∷_}
 use lib.Dec.{eqb, ltb}
 use lib.ListN.{length}
@@ -13,14 +13,12 @@ use Rattle.profile.specs.declared.Shares.{Shares}
 use Rattle.records.specs.Records.{recordsOk}
 use Rattle.records.specs.declared.Identity.{Identity}
 use Rattle.records.specs.declared.Record.{Record}
-use Rattle.desk.specs.Desks.{deskWith}
 use Rattle.desk.specs.Grounds.{partyFor}
 use Rattle.desk.specs.Orders.{setUpOk}
 use Rattle.desk.specs.Steps.{Effect, nothing, begins, ends, effectOf, stepOf}
 use Rattle.desk.specs.declared.Answer.{Answer}
 use Rattle.desk.specs.declared.Desk.{Desk}
 use Rattle.desk.specs.declared.Event.{Event}
-use Rattle.desk.specs.declared.Event.the-variants as event
 use Rattle.desk.specs.declared.Stepped.{Stepped}
 
 -- ---- histories
