@@ -1,3 +1,4 @@
 pub mod ByteLaws
 pub mod PutLaws
 pub mod CallLaws
+pub mod LayoutLaws

@@ -1,5 +1,7 @@
 -- `console::values::put_value` meets its contract. Assumes nothing.
 use borrow.Author.Needs.{needs}
+use denote.Ref.{now}
+use Rattle.console.specs.Values.{valueBytes}
 use Rattle.console.proofs.PutLaws.{same-sets, value-put}
 use Rattle.console.proofs.values.put_value.Statement.{statement}
 use Rattle.console.proofs.values.put_value.Tie as tie
@@ -50,7 +52,7 @@ same-length c =
     let e2 = e3 .before .before .before .before in
     let e1 = e2 .before .before .before .before in
     let s = e1 .before .before .before .before .before in
-    same-sets _ _ _ _ (value-put (s .args .v) (e2 .put-group .ensures .1) _ _ _ _ _ _ _ _ _ _ _ (e1 .put-byte .ensures) (e2 .put-group .ensures .0) (e3 .put-flag .ensures) (e4 .put-number .ensures) (e5 .put-byte2 .ensures) (e6 .put-byte3 .ensures) (e7 .put-byte4 .ensures) (e8 .put-number2 .ensures) (e9 .put-flag2 .ensures) (e10 .put-group2 .ensures .0))
+    same-sets (now (s .args .out)) _ 0 (valueBytes (s .args .v)) (value-put (s .args .v) (e2 .put-group .ensures .1) (now (s .args .out)) _ _ _ _ _ _ _ _ _ _ (e1 .put-byte .ensures) (e2 .put-group .ensures .0) (e3 .put-flag .ensures) (e4 .put-number .ensures) (e5 .put-byte2 .ensures) (e6 .put-byte3 .ensures) (e7 .put-byte4 .ensures) (e8 .put-number2 .ensures) (e9 .put-flag2 .ensures) (e10 .put-group2 .ensures .0))
 
 returns : tie.Need-returns
 returns c =
@@ -65,7 +67,7 @@ returns c =
     let e2 = e3 .before .before .before .before in
     let e1 = e2 .before .before .before .before in
     let s = e1 .before .before .before .before .before in
-    value-put (s .args .v) (e2 .put-group .ensures .1) _ _ _ _ _ _ _ _ _ _ _ (e1 .put-byte .ensures) (e2 .put-group .ensures .0) (e3 .put-flag .ensures) (e4 .put-number .ensures) (e5 .put-byte2 .ensures) (e6 .put-byte3 .ensures) (e7 .put-byte4 .ensures) (e8 .put-number2 .ensures) (e9 .put-flag2 .ensures) (e10 .put-group2 .ensures .0)
+    value-put (s .args .v) (e2 .put-group .ensures .1) (now (s .args .out)) _ _ _ _ _ _ _ _ _ _ (e1 .put-byte .ensures) (e2 .put-group .ensures .0) (e3 .put-flag .ensures) (e4 .put-number .ensures) (e5 .put-byte2 .ensures) (e6 .put-byte3 .ensures) (e7 .put-byte4 .ensures) (e8 .put-number2 .ensures) (e9 .put-flag2 .ensures) (e10 .put-group2 .ensures .0)
 
 pub put-value-spec : {M : Type 1} → statement M
 put-value-spec =
