@@ -3,102 +3,39 @@
 --     profile-there, profile-back     for profiles
 --     value-there, value-back         for values
 -- So bytes that are taken are the bytes of exactly one profile or value. Assumes nothing.
-use Prim.Native.Nat.{ℕ, zero, suc, _+_, _*_, _/_, _%_, _^_, _≤_, _<_}
+use Prim.Native.Nat.{ℕ, zero, suc, _+_, _*_, _^_, _≤_, _<_}
 use mathlib.Core.Path.{_≡_, refl, sym, ap, _∙_}
-use mathlib.Core.Bool.{Bool, true, false}
-use mathlib.Core.List.{List, [], _∷_, _++_, append-assoc}
-use native.Mathlib.Nat.{add-zero}
-use native.Mathlib.Numerals.{add-one}
+use mathlib.Core.Bool.{Bool, true, false, cond}
+use mathlib.Core.Logic.{⊎-elim}
+use mathlib.Core.List.{List, [], _∷_, _++_, append-assoc, append-nil}
 use native.Mathlib.Omega.{arith}
 use lib.Dec.{eqb, leb}
-use lib.ListN.{length, getD, take, drop, length-append, length-drop, take-append-drop, List·getD-append}
-use lib.Pow.{pow-add}
-use lib.Seq.{take-add, take-suc, take-all, drop-cons, drop-drop, drop-at, getD-at, getD-drop, drop-append-add, getD-append-add}
-use borrow.Author.Tests.{eq-eqb, eqb-true, leb-true}
+use lib.ListN.{length, getD, take, drop, length-drop}
+use lib.Seq.{take-add, take-all, drop-cons, drop-drop, drop-at}
+use borrow.Author.Tests.{eqb-true, eqb-false, leb-true, leb-false}
+use Rattle.bits.proofs.SetLaws.{eq-or}
 use Rattle.codec.specs.Codec.{both}
 use Rattle.codec.proofs.Good.{both-left, both-right}
 use Rattle.profile.specs.Counting.{one}
+use Rattle.profile.specs.Rules.{reserved}
+use Rattle.profile.specs.declared.Kind.{Kind}
+use Rattle.profile.specs.declared.Kind.the-variants as kind
+use Rattle.profile.specs.declared.Meaning.{Meaning}
+use Rattle.profile.specs.declared.Air.{Air}
+use Rattle.profile.specs.declared.Share.{Share}
 use Rattle.message.specs.declared.Address.{Address}
 use Rattle.message.specs.declared.Group.{Group}
 use Rattle.message.specs.declared.Value.{Value}
+use Rattle.validity.specs.Validity.{validOf}
 use Rattle.console.specs.Bytes.{numberFrom, numberBytes, rowsFrom, rowsBytes}
+use Rattle.console.specs.Profiles.{byteBy, meaningBytes, meaningOf, meaningFrom, shareBytes, shareFrom}
 use Rattle.console.specs.Values.{addressBytes, addressFrom, groupBytes, groupFrom, valueBytes, valueFrom, isValue}
-use Rattle.console.proofs.ByteLaws.{byte-here, length-number}
+use Rattle.console.proofs.ByteLaws.{length-number}
 use Rattle.console.proofs.PutLaws.{length-address, length-group}
-
--- ---- bytes
-
-pub AreBytes : List ℕ → Type 0
-AreBytes l = (i : ℕ) → getD l i 0 < 256
-
-bytes-drop : (k : ℕ) (l : List ℕ) → AreBytes l → AreBytes (drop k l)
-unfolding AreBytes
-bytes-drop k l h i = rw (getD-drop k l i 0) (h (k + i))
-
--- ---- numbers
-
--- the number in n bytes is written as those bytes
-number-there : (n : ℕ) (l : List ℕ) → AreBytes l → n ≤ length l → numberBytes n (numberFrom n l) ≡ take n l
-unfolding numberBytes numberFrom AreBytes
-number-there zero l h k = refl
-number-there (suc n) l h k =
-    let b = h n in
-    let d : (numberFrom n l * 256 + getD l n 0) / 256 ≡ numberFrom n l = omega arith in
-    let m : (numberFrom n l * 256 + getD l n 0) % 256 ≡ getD l n 0 = omega arith in
-    rw (d, m, number-there n l h (omega arith)) (sym (take-suc l n 0 (omega arith)))
-
--- bytes beyond the number do not count
-number-front : (n : ℕ) (xs ys : List ℕ) → n ≤ length xs → numberFrom n (xs ++ ys) ≡ numberFrom n xs
-unfolding numberFrom
-number-front zero xs ys h = refl
-number-front (suc n) xs ys h = rw (number-front n xs ys (omega arith), List·getD-append xs ys 0 n (omega arith))
-
--- a number that fits n bytes is taken from them as it was
-number-back : (n v : ℕ) (ys : List ℕ) → v < 2 ^ (8 * n) → numberFrom n (numberBytes n v ++ ys) ≡ v
-unfolding numberBytes numberFrom
-number-back zero v ys h = omega arith
-number-back (suc n) v ys h =
-    let xs = numberBytes n (v / 256) in
-    let e : 8 * suc n ≡ 8 * n + 8 = omega arith in
-    let p : 2 ^ (8 * suc n) ≡ 2 ^ (8 * n) * 256 = ap (λ (k : ℕ). 2 ^ k) e ∙ pow-add 2 (8 * n) 8 in
-    let q : v / 256 < 2 ^ (8 * n) = omega (arith, p) in
-    let a : (xs ++ (v % 256 ∷ [])) ++ ys ≡ xs ++ (v % 256 ∷ ys) = append-assoc xs (v % 256 ∷ []) ys in
-    let b : getD (xs ++ (v % 256 ∷ ys)) n 0 ≡ v % 256 = getD-at xs (v % 256) ys 0 n (length-number n (v / 256)) in
-    rw (a, b, number-back n (v / 256) (v % 256 ∷ ys) q) (omega arith)
-
--- ---- things of one size
-
--- each in turn
-data All {A : Type 0} (P : A → Type 0) : List A → Type 0 where
-  none : All P []
-  more : {a : A} {l : List A} → P a → All P l → All P (a ∷ l)
-
-module _ {A : Type 0} (f : List ℕ → A) (g : A → List ℕ) (k : ℕ) where
-  rows-there : ((l : List ℕ) → AreBytes l → k ≤ length l → g (f l) ≡ take k l)
-      → (n : ℕ) (l : List ℕ) → AreBytes l → n * k ≤ length l → rowsBytes g (rowsFrom f k n l) ≡ take (n * k) l
-  unfolding rowsBytes rowsFrom
-  rows-there t zero l h m = let z : 0 * k ≡ 0 = omega arith in rw z
-  rows-there t (suc n) l h m =
-      let e : suc n * k ≡ k + n * k = omega arith in
-      let le : n * k ≤ length (drop k l) = omega (arith, length-drop k l) in
-      rw (t l h (omega arith), rows-there t n (drop k l) (bytes-drop k l h) le, e) (sym (take-add k (n * k) l))
-
-  rows-back : (P : A → Type 0) → ((a : A) → length (g a) ≡ k) → ((a : A) (ys : List ℕ) → P a → f (g a ++ ys) ≡ a)
-      → (n : ℕ) (l : List A) (ys : List ℕ) → length l ≡ n → All P l → rowsFrom f k n (rowsBytes g l ++ ys) ≡ l
-  unfolding rowsBytes rowsFrom
-  rows-back P s b zero [] ys e none = refl
-  rows-back P s b zero (a ∷ l) ys e p = absurd (omega arith)
-  rows-back P s b (suc n) [] ys e p = absurd (omega arith)
-  rows-back P s b (suc n) (a ∷ l) ys e (more p ps) =
-      let r : (g a ++ rowsBytes g l) ++ ys ≡ g a ++ (rowsBytes g l ++ ys) = append-assoc (g a) (rowsBytes g l) ys in
-      rw (r, b a (rowsBytes g l ++ ys) p, drop-at (g a) (rowsBytes g l ++ ys) k (s a), rows-back P s b n l ys (omega arith) ps)
+use Rattle.console.proofs.RowLaws.{AreBytes, bytes-drop, number-there, number-back, rows-there, rows-back, byte-front, run-front, past-byte, past-run, all-of}
+use Rattle.console.proofs.FitLaws.{Address-fits, Group-fits, Value-fits, valid-fits}
 
 -- ---- addresses and groups
-
--- an address in its bytes
-pub record Address-fits (a : Address) : Type 0 where
-  pub ssi : a .ssi < 2 ^ 24
-  pub extension : a .extension < 2 ^ 24
 
 address-there : (l : List ℕ) → AreBytes l → 7 ≤ length l → addressBytes (addressFrom l) ≡ take 7 l
 unfolding addressBytes addressFrom
@@ -121,14 +58,110 @@ group-there : (l : List ℕ) → AreBytes l → 106 ≤ length l → groupBytes 
 unfolding groupBytes groupFrom
 group-there l h k =
     let c : drop 0 l ≡ getD l 0 0 ∷ drop 1 l = drop-cons l 0 0 (omega arith) in
-    rw (rows-there addressFrom addressBytes 7 address-there 15 (drop 1 l) (bytes-drop 1 l h) (omega (arith, length-drop 1 l)))
-    (sym (ap (λ (x : List ℕ). take 106 x) c))
-
--- fifteen addresses, each in its bytes
-pub record Group-fits (g : Group) : Type 0 where
-  pub places : length (g .addresses) ≡ 15
-  pub each : All Address-fits (g .addresses)
+    rw (rows-there addressFrom addressBytes 7 15 (drop 1 l) each) (sym (ap (λ (x : List ℕ). take 106 x) c))
+  where
+    each : (i : ℕ) → i < 15 → addressBytes (addressFrom (drop (7 * i) (drop 1 l))) ≡ take 7 (drop (7 * i) (drop 1 l))
+    each i m =
+        address-there (drop (7 * i) (drop 1 l)) (bytes-drop (7 * i) (drop 1 l) (bytes-drop 1 l h)) (omega (arith, length-drop (7 * i) (drop 1 l), length-drop 1 l))
 
 group-back : (g : Group) (ys : List ℕ) → Group-fits g → groupFrom (groupBytes g ++ ys) ≡ g
 unfolding groupBytes groupFrom
 group-back g ys p = rw (rows-back addressFrom addressBytes 7 Address-fits length-address address-back 15 (g .addresses) ys (p .places) (p .each))
+
+-- ---- values
+
+flag-there : (b : ℕ) → b ≤ 1 → one (eqb b 1) ≡ b
+flag-there zero h = refl
+flag-there (suc zero) h = refl
+flag-there (suc (suc b)) h = absurd (omega arith)
+
+flag-back : (b : Bool) → eqb (one b) 1 ≡ b
+flag-back true = refl
+flag-back false = refl
+
+-- the bytes after the users, and after the mask
+abbrev afterMask : Value → List ℕ
+afterMask v = v .result ∷ (v .reason ∷ (v .cause ∷ (numberBytes 2 (v .identifier) ++ (one (v .option) ∷ groupBytes (v .dispatchers)))))
+
+abbrev afterUsers : Value → List ℕ
+afterUsers v = one (v .masked) ∷ (numberBytes 8 (v .mask) ++ afterMask v)
+
+value-is : (v : Value) → valueBytes v ≡ v .pdu ∷ (groupBytes (v .users) ++ afterUsers v)
+unfolding valueBytes
+value-is v = simp append-assoc
+
+-- what is taken from a value's bytes is written as those bytes
+pub value-there : (l : List ℕ) → AreBytes l → isValue l ≡ true → valueBytes (valueFrom l) ≡ l
+unfolding valueFrom isValue
+value-there l h e =
+    let n : length l ≡ 228 = eqb-true _ _ (both-left _ _ e) in
+    let flags = both-right (eqb (length l) 228) _ e in
+    let masked : one (eqb (getD l 107 0) 1) ≡ getD l 107 0 = flag-there _ (leb-true _ _ (both-left _ _ flags)) in
+    let option : one (eqb (getD l 121 0) 1) ≡ getD l 121 0 = flag-there _ (leb-true _ _ (both-right (leb (getD l 107 0) 1) _ flags)) in
+    let users = group-there (drop 1 l) (bytes-drop 1 l h) (omega (arith, length-drop 1 l)) in
+    let mask = number-there 8 (drop 108 l) (bytes-drop 108 l h) (omega (arith, length-drop 108 l)) in
+    let identifier = number-there 2 (drop 119 l) (bytes-drop 119 l h) (omega (arith, length-drop 119 l)) in
+    let d122 : groupBytes (groupFrom (drop 122 l)) ≡ drop 122 l =
+        group-there (drop 122 l) (bytes-drop 122 l h) (omega (arith, length-drop 122 l)) ∙ take-all 106 (drop 122 l) (omega (arith, length-drop 122 l)) in
+    let d119 = run-front l 119 2 _ _ identifier (byte-front l 121 _ _ (omega arith) option d122) in
+    let d116 = byte-front l 116 _ _ (omega arith) refl (byte-front l 117 _ _ (omega arith) refl (byte-front l 118 _ _ (omega arith) refl d119)) in
+    let d107 = byte-front l 107 _ _ (omega arith) masked (run-front l 108 8 _ _ mask d116) in
+    value-is (valueFrom l) ∙ byte-front l 0 _ _ (omega arith) refl (run-front l 1 106 _ _ users d107)
+
+fits-back : (v : Value) → Value-fits v → valueFrom (valueBytes v) ≡ v
+unfolding valueFrom
+fits-back v p =
+    let u = groupBytes (v .users) in
+    let y = afterUsers v in
+    let m = numberBytes 8 (v .mask) in
+    let z = afterMask v in
+    let i = numberBytes 2 (v .identifier) in
+    let d = groupBytes (v .dispatchers) in
+    let w = one (v .option) ∷ d in
+    let nu = length-group (v .users) (p .users .places) in
+    let nm = length-number 8 (v .mask) in
+    let ni = length-number 2 (v .identifier) in
+    let eu : groupFrom (u ++ y) ≡ v .users = group-back (v .users) y (p .users) in
+    let em : getD (u ++ y) 106 0 ≡ one (v .masked) = past-byte 106 u y nu 0 in
+    let ek : numberFrom 8 (drop 107 (u ++ y)) ≡ v .mask = ap (λ (x : List ℕ). numberFrom 8 x) (past-run 106 u y nu 1) ∙ number-back 8 (v .mask) z (p .mask) in
+    let er : getD (u ++ y) 115 0 ≡ v .result = past-byte 106 u y nu 9 ∙ past-byte 8 m z nm 0 in
+    let es : getD (u ++ y) 116 0 ≡ v .reason = past-byte 106 u y nu 10 ∙ past-byte 8 m z nm 1 in
+    let ec : getD (u ++ y) 117 0 ≡ v .cause = past-byte 106 u y nu 11 ∙ past-byte 8 m z nm 2 in
+    let ei : numberFrom 2 (drop 118 (u ++ y)) ≡ v .identifier =
+        ap (λ (x : List ℕ). numberFrom 2 x) (past-run 106 u y nu 12 ∙ past-run 8 m z nm 3) ∙ number-back 2 (v .identifier) w (p .identifier) in
+    let eo : getD (u ++ y) 120 0 ≡ one (v .option) = past-byte 106 u y nu 14 ∙ past-byte 8 m z nm 5 ∙ past-byte 2 i w ni 0 in
+    let ed : groupFrom (drop 121 (u ++ y)) ≡ v .dispatchers =
+        ap (λ (x : List ℕ). groupFrom x) (past-run 106 u y nu 15 ∙ past-run 8 m z nm 6 ∙ past-run 2 i w ni 1 ∙ sym (append-nil d))
+        ∙ group-back (v .dispatchers) [] (p .dispatchers) in
+    ap (λ (x : List ℕ). valueFrom x) (value-is v) ∙ rw (eu, em, ek, er, es, ec, ei, eo, ed, flag-back (v .masked), flag-back (v .option))
+
+-- a valid value is taken from its bytes as it was
+pub value-back : (air : Air) (v : Value) → validOf air v ≡ true → valueFrom (valueBytes v) ≡ v
+value-back air v e = fits-back v (valid-fits air v e)
+
+-- ---- meanings and shares
+
+meaning-byte : (b : ℕ) → b ≤ 17 → meaningBytes (meaningOf b) ≡ b ∷ []
+unfolding meaningBytes meaningOf
+meaning-byte b h = go (eqb b 0) refl (leb b 15) refl (eqb b 16) refl
+  where
+    go : (x : Bool) → eqb b 0 ≡ x → (y : Bool) → leb b 15 ≡ y → (z : Bool) → eqb b 16 ≡ z
+        → meaningBytes (cond x reserved (cond y (record { kind = kind.Listed; count = b }) (cond z (record { kind = kind.Nobody; count = 0 }) (record { kind = kind.FirstLast; count = 0 }))))
+        ≡ b ∷ []
+    go true ex y ey z ez = ap (λ (k : ℕ). k ∷ []) (sym (eqb-true b 0 ex))
+    go false ex true ey z ez = refl
+    go false ex false ey true ez = ap (λ (k : ℕ). k ∷ []) (sym (eqb-true b 16 ez))
+    go false ex false ey false ez =
+        let a = leb-false b 15 ey in
+        let c : b ≡ 17 = ⊎-elim (λ q. absurd (eqb-false b 16 ez q)) (λ q. omega arith) (eq-or b 16) in
+        ap (λ (k : ℕ). k ∷ []) (sym c)
+
+share-there : (l : List ℕ) → 2 ≤ length l → shareBytes (shareFrom l) ≡ take 2 l
+unfolding shareBytes shareFrom
+share-there [] h = absurd (omega arith)
+share-there (a ∷ []) h = absurd (omega arith)
+share-there (a ∷ (b ∷ l)) h = refl
+
+share-back : (s : Share) (ys : List ℕ) → ⊤ → shareFrom (shareBytes s ++ ys) ≡ s
+unfolding shareBytes shareFrom
+share-back s ys t = refl

@@ -1,4 +1,6 @@
 pub mod ByteLaws
 pub mod PutLaws
 pub mod CallLaws
+pub mod RowLaws
+pub mod FitLaws
 pub mod LayoutLaws
