@@ -98,10 +98,10 @@ places-fit k l h e =
     let p = ok-run k (take k l) (both-right (areNobody (15 - k) (drop k l)) _ e) in
     let q = zero-run (15 - k) (drop k l) (both-left _ _ e) in
     let w : Run 15 (take k l ++ drop k l) =
-        record {
-          long = omega (arith, length-append (take k l) (drop k l), p .long, q .long);
-          each = all-join (take k l) (drop k l) (p .each) (q .each);
-        } in
+    record {
+      long = omega (arith, length-append (take k l) (drop k l), p .long, q .long);
+      each = all-join (take k l) (drop k l) (p .each) (q .each);
+    } in
     subst (λ (x : List Address). Run 15 x) (take-append-drop k l) w
 
 group-of : (g : Group) → Run 15 (g .addresses) → Group-fits g

@@ -12,27 +12,31 @@ use native.Mathlib.Omega.{arith}
 use lib.Dec.{eqb, leb}
 use lib.ListN.{length, getD, take, drop, length-drop}
 use lib.Seq.{take-add, take-all, drop-cons, drop-drop, drop-at}
-use borrow.Author.Tests.{eqb-true, eqb-false, leb-true, leb-false}
+use borrow.Author.Tests.{eqb-true, eqb-false, ne-eqb, leb-true, leb-false, le-leb}
 use Rattle.bits.proofs.SetLaws.{eq-or}
 use Rattle.codec.specs.Codec.{both}
 use Rattle.codec.proofs.Good.{both-left, both-right}
-use Rattle.profile.specs.Counting.{one}
-use Rattle.profile.specs.Rules.{reserved}
+use Rattle.profile.specs.Counting.{every, one}
+use Rattle.profile.proofs.CountLaws.{every-at}
+use Rattle.profile.specs.Rules.{reserved, noShare, meaningOkBy, meaningOk, meaningIn, airOk, profileOk}
 use Rattle.profile.specs.declared.Kind.{Kind}
 use Rattle.profile.specs.declared.Kind.the-variants as kind
 use Rattle.profile.specs.declared.Meaning.{Meaning}
 use Rattle.profile.specs.declared.Air.{Air}
 use Rattle.profile.specs.declared.Share.{Share}
+use Rattle.profile.specs.declared.Profile.{Profile}
+use Rattle.message.specs.Addresses.{isZero}
+use Rattle.message.proofs.AddressLaws.{zero-is}
 use Rattle.message.specs.declared.Address.{Address}
 use Rattle.message.specs.declared.Group.{Group}
 use Rattle.message.specs.declared.Value.{Value}
 use Rattle.validity.specs.Validity.{validOf}
 use Rattle.console.specs.Bytes.{numberFrom, numberBytes, rowsFrom, rowsBytes}
-use Rattle.console.specs.Profiles.{byteBy, meaningBytes, meaningOf, meaningFrom, shareBytes, shareFrom}
+use Rattle.console.specs.Profiles.{byteBy, meaningBytes, meaningOf, meaningFrom, shareBytes, shareFrom, profileBytes, airFrom, sharesFrom, profileFrom, isProfile}
 use Rattle.console.specs.Values.{addressBytes, addressFrom, groupBytes, groupFrom, valueBytes, valueFrom, isValue}
-use Rattle.console.proofs.ByteLaws.{length-number}
+use Rattle.console.proofs.ByteLaws.{byte-here, length-number}
 use Rattle.console.proofs.PutLaws.{length-address, length-group}
-use Rattle.console.proofs.RowLaws.{AreBytes, bytes-drop, number-there, number-back, rows-there, rows-back, byte-front, run-front, past-byte, past-run, all-of}
+use Rattle.console.proofs.RowLaws.{AreBytes, bytes-drop, number-there, number-back, rows-there, rows-back, byte-front, run-front, past-byte, past-run, all-of, rows-length}
 use Rattle.console.proofs.FitLaws.{Address-fits, Group-fits, Value-fits, valid-fits}
 
 -- ---- addresses and groups
@@ -102,7 +106,7 @@ value-there l h e =
     let mask = number-there 8 (drop 108 l) (bytes-drop 108 l h) (omega (arith, length-drop 108 l)) in
     let identifier = number-there 2 (drop 119 l) (bytes-drop 119 l h) (omega (arith, length-drop 119 l)) in
     let d122 : groupBytes (groupFrom (drop 122 l)) ≡ drop 122 l =
-        group-there (drop 122 l) (bytes-drop 122 l h) (omega (arith, length-drop 122 l)) ∙ take-all 106 (drop 122 l) (omega (arith, length-drop 122 l)) in
+    group-there (drop 122 l) (bytes-drop 122 l h) (omega (arith, length-drop 122 l)) ∙ take-all 106 (drop 122 l) (omega (arith, length-drop 122 l)) in
     let d119 = run-front l 119 2 _ _ identifier (byte-front l 121 _ _ (omega arith) option d122) in
     let d116 = byte-front l 116 _ _ (omega arith) refl (byte-front l 117 _ _ (omega arith) refl (byte-front l 118 _ _ (omega arith) refl d119)) in
     let d107 = byte-front l 107 _ _ (omega arith) masked (run-front l 108 8 _ _ mask d116) in
@@ -128,11 +132,11 @@ fits-back v p =
     let es : getD (u ++ y) 116 0 ≡ v .reason = past-byte 106 u y nu 10 ∙ past-byte 8 m z nm 1 in
     let ec : getD (u ++ y) 117 0 ≡ v .cause = past-byte 106 u y nu 11 ∙ past-byte 8 m z nm 2 in
     let ei : numberFrom 2 (drop 118 (u ++ y)) ≡ v .identifier =
-        ap (λ (x : List ℕ). numberFrom 2 x) (past-run 106 u y nu 12 ∙ past-run 8 m z nm 3) ∙ number-back 2 (v .identifier) w (p .identifier) in
+    ap (λ (x : List ℕ). numberFrom 2 x) (past-run 106 u y nu 12 ∙ past-run 8 m z nm 3) ∙ number-back 2 (v .identifier) w (p .identifier) in
     let eo : getD (u ++ y) 120 0 ≡ one (v .option) = past-byte 106 u y nu 14 ∙ past-byte 8 m z nm 5 ∙ past-byte 2 i w ni 0 in
     let ed : groupFrom (drop 121 (u ++ y)) ≡ v .dispatchers =
-        ap (λ (x : List ℕ). groupFrom x) (past-run 106 u y nu 15 ∙ past-run 8 m z nm 6 ∙ past-run 2 i w ni 1 ∙ sym (append-nil d))
-        ∙ group-back (v .dispatchers) [] (p .dispatchers) in
+    ap (λ (x : List ℕ). groupFrom x) (past-run 106 u y nu 15 ∙ past-run 8 m z nm 6 ∙ past-run 2 i w ni 1 ∙ sym (append-nil d))
+    ∙ group-back (v .dispatchers) [] (p .dispatchers) in
     ap (λ (x : List ℕ). valueFrom x) (value-is v) ∙ rw (eu, em, ek, er, es, ec, ei, eo, ed, flag-back (v .masked), flag-back (v .option))
 
 -- a valid value is taken from its bytes as it was
@@ -162,6 +166,104 @@ share-there [] h = absurd (omega arith)
 share-there (a ∷ []) h = absurd (omega arith)
 share-there (a ∷ (b ∷ l)) h = refl
 
-share-back : (s : Share) (ys : List ℕ) → ⊤ → shareFrom (shareBytes s ++ ys) ≡ s
+share-back : (s : Share) (ys : List ℕ) → Unit {0} → shareFrom (shareBytes s ++ ys) ≡ s
 unfolding shareBytes shareFrom
 share-back s ys t = refl
+
+length-share : (s : Share) → length (shareBytes s) ≡ 2
+unfolding shareBytes
+length-share s = refl
+
+length-meaning : (m : Meaning) → length (meaningBytes m) ≡ 1
+unfolding meaningBytes
+length-meaning m = refl
+
+meaning-there : (l : List ℕ) → 1 ≤ length l → getD l 0 0 ≤ 17 → meaningBytes (meaningFrom l) ≡ take 1 l
+meaning-there [] h k = absurd (omega arith)
+meaning-there (b ∷ l) h k = meaning-byte b k
+
+-- the length beside a meaning that is no list is zero
+abbrev aloneBy : Kind → ℕ → Bool
+aloneBy kind.Reserved n = isZero n
+aloneBy kind.Nobody n = isZero n
+aloneBy kind.Listed n = true
+aloneBy kind.FirstLast n = isZero n
+
+unfoldable pub isAlone : Meaning → Bool
+isAlone m = aloneBy (m .kind) (m .count)
+
+back-by : (k : Kind) (n : ℕ) → meaningOkBy k n ≡ true → aloneBy k n ≡ true → meaningOf (byteBy k n) ≡ record { kind = k; count = n }
+unfolding meaningOf
+back-by kind.Reserved n e z = ap (λ (c : ℕ). record { kind = kind.Reserved; count = c }) (sym (zero-is n z))
+back-by kind.Nobody n e z = ap (λ (c : ℕ). record { kind = kind.Nobody; count = c }) (sym (zero-is n z))
+back-by kind.FirstLast n e z = ap (λ (c : ℕ). record { kind = kind.FirstLast; count = c }) (sym (zero-is n z))
+back-by kind.Listed n e z =
+    let a = leb-true 1 n (both-left _ _ e) in
+    let b = leb-true n 15 (both-right (leb 1 n) _ e) in
+    rw (ne-eqb n 0 (λ d. omega arith), le-leb n 15 b)
+
+-- ---- profiles
+
+-- the bytes after the home extension, and after the meanings
+abbrev afterMeanings : Profile → List ℕ
+afterMeanings p = p .shares .posts ∷ rowsBytes shareBytes (p .shares .share)
+
+abbrev afterHome : Profile → List ℕ
+afterHome p = p .air .unknown ∷ (p .air .other ∷ (rowsBytes meaningBytes (p .air .meanings) ++ afterMeanings p))
+
+profile-is : (p : Profile) → profileBytes p ≡ p .air .ss ∷ (numberBytes 3 (p .air .home) ++ afterHome p)
+unfolding profileBytes
+profile-is p = simp append-assoc
+
+-- what is taken from a profile's bytes is written as those bytes
+pub profile-there : (l : List ℕ) → AreBytes l → isProfile l ≡ true → profileBytes (profileFrom l) ≡ l
+unfolding profileFrom airFrom sharesFrom isProfile
+profile-there l h e =
+    let n : length l ≡ 39 = eqb-true _ _ (both-left _ _ e) in
+    let known = every-at 16 _ (both-left _ _ (both-right (eqb (length l) 39) _ e)) in
+    let rows = rows-there shareFrom shareBytes 2 8 (drop 23 l) (λ i k. share-there (drop (2 * i) (drop 23 l)) (omega (arith, length-drop (2 * i) (drop 23 l), length-drop 23 l))) in
+    let meanings = rows-there meaningFrom meaningBytes 1 16 (drop 6 l) (λ i k. meaning-there (drop (1 * i) (drop 6 l)) (omega (arith, length-drop (1 * i) (drop 6 l), length-drop 6 l)) (small i (known i k))) in
+    let home = number-there 3 (drop 1 l) (bytes-drop 1 l h) (omega (arith, length-drop 1 l)) in
+    let d23 = rows ∙ take-all 16 (drop 23 l) (omega (arith, length-drop 23 l)) in
+    let d6 = run-front l 6 16 _ _ meanings (byte-front l 22 _ _ (omega arith) refl d23) in
+    let d4 = byte-front l 4 _ _ (omega arith) refl (byte-front l 5 _ _ (omega arith) refl d6) in
+    profile-is (profileFrom l) ∙ byte-front l 0 _ _ (omega arith) refl (run-front l 1 3 _ _ home d4)
+  where
+    small : (i : ℕ) → leb (getD l (6 + i) 0) 17 ≡ true → getD (drop (1 * i) (drop 6 l)) 0 0 ≤ 17
+    small i t =
+        let z : 6 + 1 * i ≡ 6 + i = omega arith in
+        rw (drop-drop (1 * i) 6 l, z, byte-here l (6 + i)) (leb-true _ _ t)
+
+-- as a profile comes from its bytes: sixteen meanings, eight rows, and a length only beside a list
+pub record Plain (p : Profile) : Type 0 where
+  pub meanings : length (p .air .meanings) ≡ 16
+  pub rows : length (p .shares .share) ≡ 8
+  pub alone : every 16 (λ r. isAlone (meaningIn (p .air .meanings) r)) ≡ true
+
+-- such a profile that keeps every rule is taken from its bytes as it was
+pub profile-back : (p : Profile) → profileOk p ≡ true → Plain p → profileFrom (profileBytes p) ≡ p
+unfolding profileFrom airFrom sharesFrom profileOk airOk meaningIn meaningOk meaningBytes isAlone
+profile-back p ok plain =
+    let h = numberBytes 3 (p .air .home) in
+    let t = afterHome p in
+    let m = rowsBytes meaningBytes (p .air .meanings) in
+    let x = afterMeanings p in
+    let s = rowsBytes shareBytes (p .shares .share) in
+    let nh = length-number 3 (p .air .home) in
+    let nm : length m ≡ 16 = rows-length meaningFrom meaningBytes 1 length-meaning (p .air .meanings) ∙ ap (λ (k : ℕ). k * 1) (plain .meanings) in
+    let air = both-right (leb (p .air .ss) 63) _ (both-left _ _ ok) in
+    let small = leb-true (p .air .home) 0xFF_FFFF (both-left _ _ air) in
+    let good = every-at 16 _ (both-right (leb (p .air .other) 127) _ (both-right (leb (p .air .unknown) 127) _ (both-right (leb (p .air .home) 0xFF_FFFF) _ air))) in
+    let alone = every-at 16 _ (plain .alone) in
+    let each = all-of (λ (a : Meaning). meaningOf (byteBy (a .kind) (a .count)) ≡ a) reserved (p .air .meanings) (λ i k. back-by _ _ (good i (omega (arith, plain .meanings))) (alone i (omega (arith, plain .meanings)))) in
+    let eh : numberFrom 3 (h ++ t) ≡ p .air .home = number-back 3 (p .air .home) t (omega arith) in
+    let eu : getD (h ++ t) 3 0 ≡ p .air .unknown = past-byte 3 h t nh 0 in
+    let en : getD (h ++ t) 4 0 ≡ p .air .other = past-byte 3 h t nh 1 in
+    let em : rowsFrom meaningFrom 1 16 (drop 5 (h ++ t)) ≡ p .air .meanings =
+    ap (λ (y : List ℕ). rowsFrom meaningFrom 1 16 y) (past-run 3 h t nh 2)
+    ∙ rows-back meaningFrom meaningBytes 1 (λ (a : Meaning). meaningOf (byteBy (a .kind) (a .count)) ≡ a) length-meaning (λ a ys q. q) 16 (p .air .meanings) x (plain .meanings) each in
+    let ep : getD (h ++ t) 21 0 ≡ p .shares .posts = past-byte 3 h t nh 18 ∙ past-byte 16 m x nm 0 in
+    let es : rowsFrom shareFrom 2 8 (drop 22 (h ++ t)) ≡ p .shares .share =
+    ap (λ (y : List ℕ). rowsFrom shareFrom 2 8 y) (past-run 3 h t nh 19 ∙ past-run 16 m x nm 1 ∙ sym (append-nil s))
+    ∙ rows-back shareFrom shareBytes 2 (λ (a : Share). Unit {0}) length-share share-back 8 (p .shares .share) [] (plain .rows) (all-of (λ (a : Share). Unit {0}) noShare (p .shares .share) (λ i k. tt)) in
+    ap (λ (y : List ℕ). profileFrom y) (profile-is p) ∙ rw (eh, eu, en, em, ep, es)

@@ -77,6 +77,6 @@ module _ (v : Value) (users : length (v .users .addresses) ≡ 15) (l m₁ m₂ 
       let w₂ : Put l m₂ 0 107 (v .pdu ∷ u) = then-put (first-put l m₁ 0 (v .pdu) e₁) u e₂ (omega (arith, length-group (v .users) users)) in
       let w₄ : Put l m₄ 0 116 (((v .pdu ∷ u) ++ (one (v .masked) ∷ [])) ++ k) = then-put {p = 108} (then-put w₂ (one (v .masked) ∷ []) e₃ refl) k e₄ (omega (arith, length-number 8 (v .mask))) in
       let w₇ : Put l m₇ 0 119 ((((((v .pdu ∷ u) ++ (one (v .masked) ∷ [])) ++ k) ++ (v .result ∷ [])) ++ (v .reason ∷ [])) ++ (v .cause ∷ [])) =
-          then-put {p = 118} (then-put {p = 117} (then-put w₄ (v .result ∷ []) e₅ refl) (v .reason ∷ []) e₆ refl) (v .cause ∷ []) e₇ refl in
+      then-put {p = 118} (then-put {p = 117} (then-put w₄ (v .result ∷ []) e₅ refl) (v .reason ∷ []) e₆ refl) (v .cause ∷ []) e₇ refl in
       let w₉ = then-put {p = 121} {q = 122} (then-put {q = 121} w₇ i e₈ (omega (arith, length-number 2 (v .identifier)))) (one (v .option) ∷ []) e₉ refl in
       then-put {q = 122 + length (groupBytes (v .dispatchers))} w₉ (groupBytes (v .dispatchers)) e refl .area ∙ simp append-assoc
