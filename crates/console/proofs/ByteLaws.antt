@@ -25,9 +25,13 @@ pub number-none : (l : List ℕ) → 0 ≡ numberFrom 0 l
 unfolding numberFrom
 number-none l = refl
 
-pub number-more : (l : List ℕ) (at k v x b : ℕ) → v ≡ numberFrom k (drop at l) → b ≡ getD l (at + k) 0 → x ≡ b → v * 256 + x ≡ numberFrom (k + 1) (drop at l)
+-- the most significant byte stands first: each further byte is worth less
+number-step : (n : ℕ) (l : List ℕ) → numberFrom (suc n) l ≡ numberFrom n l * 256 + getD l n 0
 unfolding numberFrom
-number-more l at k v x b e f g = rw (add-one k, getD-drop at l k 0, ← f, ← e, g)
+number-step n l = refl
+
+pub number-more : (l : List ℕ) (at k v x b : ℕ) → v ≡ numberFrom k (drop at l) → b ≡ getD l (at + k) 0 → x ≡ b → v * 256 + x ≡ numberFrom (k + 1) (drop at l)
+number-more l at k v x b e f g = rw (add-one k, number-step k (drop at l), getD-drop at l k 0, ← f, ← e, g)
 
 -- a byte more leaves the number in its bytes
 pub more-lt : (k v b : ℕ) → v < 2 ^ (8 * k) → b < 256 → v * 256 + b < 2 ^ (8 * (k + 1))

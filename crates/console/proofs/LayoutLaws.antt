@@ -2,7 +2,9 @@
 -- was.
 --     profile-there, profile-back     for profiles
 --     value-there, value-back         for values
--- So bytes that are taken are the bytes of exactly one profile or value. Assumes nothing.
+-- So bytes that are taken are the bytes of exactly one profile or value. And no valid value is left out, nor profile that keeps the rules:
+--     profile-taken, value-taken      its bytes are taken
+-- Assumes nothing.
 use Prim.Native.Nat.{ℕ, zero, suc, _+_, _*_, _^_, _≤_, _<_}
 use mathlib.Core.Path.{_≡_, refl, sym, ap, _∙_}
 use mathlib.Core.Bool.{Bool, true, false, cond}
@@ -10,12 +12,12 @@ use mathlib.Core.Logic.{⊎-elim}
 use mathlib.Core.List.{List, [], _∷_, _++_, append-assoc, append-nil}
 use native.Mathlib.Omega.{arith}
 use lib.Dec.{eqb, leb}
-use lib.ListN.{length, getD, take, drop, length-drop}
-use lib.Seq.{take-add, take-all, drop-cons, drop-drop, drop-at}
-use borrow.Author.Tests.{eqb-true, eqb-false, ne-eqb, leb-true, leb-false, le-leb}
+use lib.ListN.{length, getD, take, drop, length-append, length-drop}
+use lib.Seq.{sets, sets-eq, take-add, take-all, drop-cons, drop-drop, drop-at, drop-nil, getD-drop}
+use borrow.Author.Tests.{eq-eqb, eqb-true, eqb-false, ne-eqb, leb-true, leb-false, le-leb}
 use Rattle.bits.proofs.SetLaws.{eq-or}
 use Rattle.codec.specs.Codec.{both}
-use Rattle.codec.proofs.Good.{both-left, both-right}
+use Rattle.codec.proofs.Good.{both-true, both-left, both-right}
 use Rattle.profile.specs.Counting.{every, one}
 use Rattle.profile.proofs.CountLaws.{every-at}
 use Rattle.profile.specs.Rules.{reserved, noShare, meaningOkBy, meaningOk, meaningIn, airOk, profileOk}
@@ -31,7 +33,7 @@ use Rattle.message.specs.declared.Address.{Address}
 use Rattle.message.specs.declared.Group.{Group}
 use Rattle.message.specs.declared.Value.{Value}
 use Rattle.validity.specs.Validity.{validOf}
-use Rattle.console.specs.Bytes.{numberFrom, numberBytes, rowsFrom, rowsBytes}
+use Rattle.console.specs.Bytes.{numberFrom, numberBytes, rowsFrom, rowsBytes, areZero}
 use Rattle.console.specs.Profiles.{byteBy, meaningBytes, meaningOf, meaningFrom, shareBytes, shareFrom, profileBytes, airFrom, sharesFrom, profileFrom, isProfile}
 use Rattle.console.specs.Values.{addressBytes, addressFrom, groupBytes, groupFrom, valueBytes, valueFrom, isValue}
 use Rattle.console.proofs.ByteLaws.{byte-here, length-number}
@@ -142,6 +144,52 @@ fits-back v p =
 -- a valid value is taken from its bytes as it was
 pub value-back : (air : Air) (v : Value) → validOf air v ≡ true → valueFrom (valueBytes v) ≡ v
 value-back air v e = fits-back v (valid-fits air v e)
+
+value-length : (v : Value) → Value-fits v → length (valueBytes v) ≡ 228
+value-length v p =
+    let u = groupBytes (v .users) in
+    let m = numberBytes 8 (v .mask) in
+    let i = numberBytes 2 (v .identifier) in
+    let d = groupBytes (v .dispatchers) in
+    ap (λ (x : List ℕ). length x) (value-is v)
+    ∙ omega (
+      arith,
+      length-append u (afterUsers v),
+      length-append m (afterMask v),
+      length-append i (one (v .option) ∷ d),
+      length-number 8 (v .mask),
+      length-number 2 (v .identifier),
+      length-group (v .users) (p .users .places),
+      length-group (v .dispatchers) (p .dispatchers .places),
+    )
+
+flag-small : (b : Bool) → leb (one b) 1 ≡ true
+flag-small true = refl
+flag-small false = refl
+
+fits-taken : (v : Value) → Value-fits v → isValue (valueBytes v) ≡ true
+unfolding isValue
+fits-taken v p =
+    let u = groupBytes (v .users) in
+    let y = afterUsers v in
+    let nu = length-group (v .users) (p .users .places) in
+    let masked : getD (valueBytes v) 107 0 ≡ one (v .masked) = ap (λ (x : List ℕ). getD x 107 0) (value-is v) ∙ past-byte 106 u y nu 0 in
+    let option : getD (valueBytes v) 121 0 ≡ one (v .option) =
+        ap (λ (x : List ℕ). getD x 121 0) (value-is v)
+        ∙ past-byte 106 u y nu 14
+        ∙ past-byte 8 (numberBytes 8 (v .mask)) (afterMask v) (length-number 8 (v .mask)) 5
+        ∙ past-byte 2 (numberBytes 2 (v .identifier)) (one (v .option) ∷ groupBytes (v .dispatchers)) (length-number 2 (v .identifier)) 0 in
+    both-true _ _ (eq-eqb _ _ (value-length v p)) (both-true _ _ (ap (λ (b : ℕ). leb b 1) masked ∙ flag-small (v .masked)) (ap (λ (b : ℕ). leb b 1) option ∙ flag-small (v .option)))
+
+-- the bytes of a valid value are taken
+pub value-taken : (air : Air) (v : Value) → validOf air v ≡ true → isValue (valueBytes v) ≡ true
+value-taken air v e = fits-taken v (valid-fits air v e)
+
+-- they fill 228 bytes of an area, and what it has beyond them stays
+pub value-area : (air : Air) (v : Value) (l : List ℕ) → validOf air v ≡ true → 228 ≤ length l → sets l 0 (valueBytes v) ≡ valueBytes v ++ drop 228 l
+value-area air v l e h =
+    let n = value-length v (valid-fits air v e) in
+    sets-eq (valueBytes v) l 0 (omega (arith, n)) ∙ ap (λ (k : ℕ). valueBytes v ++ drop k l) (let z : 0 + length (valueBytes v) ≡ 228 = omega (arith, n) in z)
 
 -- ---- meanings and shares
 
@@ -267,3 +315,62 @@ profile-back p ok plain =
     ap (λ (y : List ℕ). rowsFrom shareFrom 2 8 y) (past-run 3 h t nh 19 ∙ past-run 16 m x nm 1 ∙ sym (append-nil s))
     ∙ rows-back shareFrom shareBytes 2 (λ (a : Share). Unit {0}) length-share share-back 8 (p .shares .share) [] (plain .rows) (all-of (λ (a : Share). Unit {0}) noShare (p .shares .share) (λ i k. tt)) in
     ap (λ (y : List ℕ). profileFrom y) (profile-is p) ∙ rw (eh, eu, en, em, ep, es)
+
+-- ---- and its bytes are taken
+
+-- the bytes of the meanings, one each
+meaning-at : (l : List Meaning) (ys : List ℕ) (r : ℕ) → r < length l → getD (rowsBytes meaningBytes l ++ ys) r 0 ≡ byteBy (getD l r reserved .kind) (getD l r reserved .count)
+unfolding rowsBytes meaningBytes
+meaning-at [] ys r h = absurd (omega arith)
+meaning-at (m ∷ l) ys zero h = refl
+meaning-at (m ∷ l) ys (suc r) h = meaning-at l ys r (omega arith)
+
+byte-small : (k : Kind) (n : ℕ) → meaningOkBy k n ≡ true → leb (byteBy k n) 17 ≡ true
+byte-small kind.Reserved n e = refl
+byte-small kind.Nobody n e = refl
+byte-small kind.FirstLast n e = refl
+byte-small kind.Listed n e = let b = leb-true n 15 (both-right (leb 1 n) _ e) in le-leb n 17 (omega arith)
+
+-- the rows from the k-th on
+rows-drop : (k : ℕ) (l : List Share) → drop (2 * k) (rowsBytes shareBytes l) ≡ rowsBytes shareBytes (drop k l)
+unfolding rowsBytes shareBytes
+rows-drop zero l = refl
+rows-drop (suc k) [] = drop-nil (2 * suc k)
+rows-drop (suc k) (s ∷ l) = let z : 2 * suc k ≡ suc (suc (2 * k)) = omega arith in rw z (rows-drop k l)
+
+every-of : (n : ℕ) (test : ℕ → Bool) → ((i : ℕ) → i < n → test i ≡ true) → every n test ≡ true
+unfolding every
+every-of zero test h = refl
+every-of (suc n) test h = both-true _ _ (every-of n test (λ i k. h i (omega arith))) (h n (omega arith))
+
+-- the rows past the posts are zero
+pub isSpare : Profile → Bool
+isSpare p = areZero (rowsBytes shareBytes (drop (p .shares .posts) (p .shares .share)))
+
+pub profile-taken : (p : Profile) → profileOk p ≡ true → Plain p → isSpare p ≡ true → isProfile (profileBytes p) ≡ true
+unfolding isProfile profileOk airOk meaningIn meaningOk isSpare
+profile-taken p ok plain spare =
+    let h = numberBytes 3 (p .air .home) in
+    let t = afterHome p in
+    let m = rowsBytes meaningBytes (p .air .meanings) in
+    let x = afterMeanings p in
+    let s = rowsBytes shareBytes (p .shares .share) in
+    let b = profileBytes p in
+    let nh = length-number 3 (p .air .home) in
+    let nm : length m ≡ 16 = rows-length meaningFrom meaningBytes 1 length-meaning (p .air .meanings) ∙ ap (λ (k : ℕ). k * 1) (plain .meanings) in
+    let ns : length s ≡ 16 = rows-length shareFrom shareBytes 2 length-share (p .shares .share) ∙ ap (λ (k : ℕ). k * 2) (plain .rows) in
+    let air = both-right (leb (p .air .ss) 63) _ (both-left _ _ ok) in
+    let good = every-at 16 _ (both-right (leb (p .air .other) 127) _ (both-right (leb (p .air .unknown) 127) _ (both-right (leb (p .air .home) 0xFF_FFFF) _ air))) in
+    let long : length b ≡ 39 = ap (λ (y : List ℕ). length y) (profile-is p) ∙ omega (arith, length-append h t, length-append m x, nh, nm, ns) in
+    let posts : getD b 22 0 ≡ p .shares .posts = ap (λ (y : List ℕ). getD y 22 0) (profile-is p) ∙ past-byte 3 h t nh 18 ∙ past-byte 16 m x nm 0 in
+    let rows : (k : ℕ) → drop (23 + k) b ≡ drop k s =
+        λ k. sym (drop-drop k 23 b) ∙ ap (λ (y : List ℕ). drop k y) (ap (λ (y : List ℕ). drop 23 y) (profile-is p) ∙ past-run 3 h t nh 19 ∙ past-run 16 m x nm 1) in
+    let known : (r : ℕ) → r < 16 → leb (getD b (6 + r) 0) 17 ≡ true =
+        λ r k. ap (λ (c : ℕ). leb c 17)
+        (sym (getD-drop 6 b r 0) ∙ ap (λ (y : List ℕ). getD y r 0) (ap (λ (y : List ℕ). drop 6 y) (profile-is p) ∙ past-run 3 h t nh 2) ∙ meaning-at (p .air .meanings) x r (omega (arith, plain .meanings)))
+        ∙ byte-small _ _ (good r k) in
+    let zero-rest : areZero (drop (23 + 2 * getD b 22 0) b) ≡ true =
+        ap (λ (k : ℕ). areZero (drop (23 + 2 * k) b)) posts
+        ∙ ap (λ (y : List ℕ). areZero y) (rows (2 * p .shares .posts) ∙ rows-drop (p .shares .posts) (p .shares .share))
+        ∙ spare in
+    both-true _ _ (eq-eqb _ _ long) (both-true _ _ (every-of 16 _ known) zero-rest)

@@ -18,7 +18,7 @@ unfolding isValue both
 returns-2 c =
     let p1 = c .before .before in
     let p2 = c .before in
-    rw (eq-eqb _ _ (p1 .if1 .left), ← (p2 .byte-at .ensures), lt-leb _ _ (c .if2 .taken))
+    rw (eq-eqb _ _ (p1 .if1 .left), ← (p2 .byte-at .ensures), lt-leb _ 1 (c .if2 .taken))
 
 byte-at-requires-2 : tie.Need-byte-at-requires-2
 byte-at-requires-2 c κs = search needs
@@ -29,7 +29,7 @@ returns-3 c =
     let p1 = c .before .before .before in
     let p2 = c .before .before in
     let p3 = c .before in
-    rw (eq-eqb _ _ (p1 .if1 .left), ← (p2 .byte-at .ensures), le-leb _ _ (p3 .if2 .left), ← (c .byte-at2 .ensures))
+    rw (eq-eqb _ _ (p1 .if1 .left), ← (p2 .byte-at .ensures), le-leb _ 1 (p3 .if2 .left), ← (c .byte-at2 .ensures))
 
 pub is-value-spec : {M : Type 1} → statement M
 is-value-spec =
