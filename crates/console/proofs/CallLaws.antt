@@ -72,11 +72,11 @@ module _ (profile message : List ℕ) (n : ℕ) (l : List ℕ) where
 -- ---- writing
 
 -- the answer c, the area a and the length b afterwards, where l and b₀ stood, are those of a writing x
-abbrev Write-leaves : ℕ → List ℕ → List ℕ → ℕ → ℕ → Write → Type 0
+abbrev pub Write-leaves : ℕ → List ℕ → List ℕ → ℕ → ℕ → Write → Type 0
 Write-leaves c l a b₀ b x = (c ≡ writeNumber x) × ((a ≡ areaOf l x) × (b ≡ writeBits b₀ x))
 
 module _ (l a : List ℕ) (b : ℕ) (w : Written) where
-  done-leaves : (x : Write) → w ≡ writtenOf x → a ≡ areaOf l x → w .done ≡ true → Write-leaves 0 l a b (w .bits) x
+  pub done-leaves : (x : Write) → w ≡ writtenOf x → a ≡ areaOf l x → w .done ≡ true → Write-leaves 0 l a b (w .bits) x
   unfolding writtenOf writeNumber writeBits
   done-leaves (laid m n) e h d = (refl, (h, ap (λ (y : Written). y .bits) e))
   done-leaves (refused s) e h d = not-both (sym (ap (λ (y : Written). y .done) e) ∙ d)

@@ -4,3 +4,4 @@ pub mod CallLaws
 pub mod RowLaws
 pub mod FitLaws
 pub mod LayoutLaws
+pub mod RoundTrips
