@@ -175,10 +175,10 @@ fits-taken v p =
     let nu = length-group (v .users) (p .users .places) in
     let masked : getD (valueBytes v) 107 0 ≡ one (v .masked) = ap (λ (x : List ℕ). getD x 107 0) (value-is v) ∙ past-byte 106 u y nu 0 in
     let option : getD (valueBytes v) 121 0 ≡ one (v .option) =
-        ap (λ (x : List ℕ). getD x 121 0) (value-is v)
-        ∙ past-byte 106 u y nu 14
-        ∙ past-byte 8 (numberBytes 8 (v .mask)) (afterMask v) (length-number 8 (v .mask)) 5
-        ∙ past-byte 2 (numberBytes 2 (v .identifier)) (one (v .option) ∷ groupBytes (v .dispatchers)) (length-number 2 (v .identifier)) 0 in
+    ap (λ (x : List ℕ). getD x 121 0) (value-is v)
+    ∙ past-byte 106 u y nu 14
+    ∙ past-byte 8 (numberBytes 8 (v .mask)) (afterMask v) (length-number 8 (v .mask)) 5
+    ∙ past-byte 2 (numberBytes 2 (v .identifier)) (one (v .option) ∷ groupBytes (v .dispatchers)) (length-number 2 (v .identifier)) 0 in
     both-true _ _ (eq-eqb _ _ (value-length v p)) (both-true _ _ (ap (λ (b : ℕ). leb b 1) masked ∙ flag-small (v .masked)) (ap (λ (b : ℕ). leb b 1) option ∙ flag-small (v .option)))
 
 -- the bytes of a valid value are taken
@@ -364,13 +364,13 @@ profile-taken p ok plain spare =
     let long : length b ≡ 39 = ap (λ (y : List ℕ). length y) (profile-is p) ∙ omega (arith, length-append h t, length-append m x, nh, nm, ns) in
     let posts : getD b 22 0 ≡ p .shares .posts = ap (λ (y : List ℕ). getD y 22 0) (profile-is p) ∙ past-byte 3 h t nh 18 ∙ past-byte 16 m x nm 0 in
     let rows : (k : ℕ) → drop (23 + k) b ≡ drop k s =
-        λ k. sym (drop-drop k 23 b) ∙ ap (λ (y : List ℕ). drop k y) (ap (λ (y : List ℕ). drop 23 y) (profile-is p) ∙ past-run 3 h t nh 19 ∙ past-run 16 m x nm 1) in
+    λ k. sym (drop-drop k 23 b) ∙ ap (λ (y : List ℕ). drop k y) (ap (λ (y : List ℕ). drop 23 y) (profile-is p) ∙ past-run 3 h t nh 19 ∙ past-run 16 m x nm 1) in
     let known : (r : ℕ) → r < 16 → leb (getD b (6 + r) 0) 17 ≡ true =
-        λ r k. ap (λ (c : ℕ). leb c 17)
-        (sym (getD-drop 6 b r 0) ∙ ap (λ (y : List ℕ). getD y r 0) (ap (λ (y : List ℕ). drop 6 y) (profile-is p) ∙ past-run 3 h t nh 2) ∙ meaning-at (p .air .meanings) x r (omega (arith, plain .meanings)))
-        ∙ byte-small _ _ (good r k) in
+    λ r k. ap (λ (c : ℕ). leb c 17)
+    (sym (getD-drop 6 b r 0) ∙ ap (λ (y : List ℕ). getD y r 0) (ap (λ (y : List ℕ). drop 6 y) (profile-is p) ∙ past-run 3 h t nh 2) ∙ meaning-at (p .air .meanings) x r (omega (arith, plain .meanings)))
+    ∙ byte-small _ _ (good r k) in
     let zero-rest : areZero (drop (23 + 2 * getD b 22 0) b) ≡ true =
-        ap (λ (k : ℕ). areZero (drop (23 + 2 * k) b)) posts
-        ∙ ap (λ (y : List ℕ). areZero y) (rows (2 * p .shares .posts) ∙ rows-drop (p .shares .posts) (p .shares .share))
-        ∙ spare in
+    ap (λ (k : ℕ). areZero (drop (23 + 2 * k) b)) posts
+    ∙ ap (λ (y : List ℕ). areZero y) (rows (2 * p .shares .posts) ∙ rows-drop (p .shares .posts) (p .shares .share))
+    ∙ spare in
     both-true _ _ (eq-eqb _ _ long) (both-true _ _ (every-of 16 _ known) zero-rest)

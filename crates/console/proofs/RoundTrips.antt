@@ -100,7 +100,7 @@ module _ (profile : List ℕ) where
       let v = valueFrom value in
       let r = readingOf (readOf p a n) in
       let trip : r ≡ record { found = true; stop = noStop; value = v } =
-          read-write p v l a (writtenOf (laid a n)) r (ap (λ (x : Write). writtenOf x) (sym (w .write)), ap (λ (x : Write). areaOf l x) (sym (w .write))) refl refl in
+      read-write p v l a (writtenOf (laid a n)) r (ap (λ (x : Write). writtenOf x) (sym (w .write)), ap (λ (x : Write). areaOf l x) (sym (w .write))) refl refl in
       let back : valueBytes (r .value) ≡ value = ap (λ (x : Reading). valueBytes (x .value)) trip ∙ value-there value are (w .shape) in
       let got-it = read-0 profile a n area (w .ok) p refl r refl (ap (λ (x : Reading). x .found) trip) room (sets area 0 (valueBytes (r .value))) refl in
       (sym (got-it .0), sym (got-it .1) ∙ ap (λ (x : List ℕ). sets area 0 x) back)
