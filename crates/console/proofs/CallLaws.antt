@@ -1,0 +1,115 @@
+-- What `cad_read` and `cad_write` answer and leave at each of their returns. Assumes nothing.
+use Prim.Native.Nat.{ℕ, _≤_, _<_}
+use mathlib.Core.Path.{_≡_, refl, sym, ap, _∙_}
+use mathlib.Core.Bool.{Bool, true, false}
+use mathlib.Core.List.{List}
+use lib.Dec.{leb}
+use lib.ListN.{length}
+use lib.Seq.{sets}
+use borrow.Author.Tests.{le-leb, lt-leb}
+use Rattle.codec.specs.Stops.{refusal}
+use Rattle.codec.specs.Codec.{Read, got, no}
+use Rattle.codec.proofs.Good.{not-both}
+use Rattle.profile.specs.declared.Profile.{Profile}
+use Rattle.message.specs.Reading.{readOf}
+use Rattle.message.specs.declared.Value.{Value}
+use Rattle.reading.specs.Answers.{readingOf}
+use Rattle.reading.specs.declared.Reading.{Reading}
+use Rattle.writing.specs.Writing.{Write, laid, refused, writeOf, writtenOf, areaOf}
+use Rattle.writing.specs.declared.Written.{Written}
+use Rattle.console.specs.Profiles.{passes, profileFrom}
+use Rattle.console.specs.Values.{valueBytes, valueFrom, isValue}
+use Rattle.console.specs.Console.{roomFor, cadRead, readNumber, readArea, cadReadOf, cadReadArea, cadWrite, writeNumber, writeBits, cadWriteOf, cadWriteArea, cadWriteBits}
+
+-- ---- reading
+
+-- the answer c, and the area a afterwards, where l stood, are those of a reading x
+abbrev Read-leaves : ℕ → List ℕ → List ℕ → Read Value → Type 0
+Read-leaves c l a x = (c ≡ readNumber x) × (a ≡ readArea l x)
+
+module _ (l : List ℕ) (r : Reading) where
+  found-short : (x : Read Value) → r ≡ readingOf x → r .found ≡ true → length l < 228 → Read-leaves 14 l l (roomFor (length l) x)
+  unfolding readingOf roomFor readNumber readArea refusal
+  found-short (got v q) e f h = rw (lt-leb 228 (length l) h) (refl, refl)
+  found-short (no s) e f h = not-both (sym (ap (λ (y : Reading). y .found) e) ∙ f)
+
+  found-room : (x : Read Value) → r ≡ readingOf x → r .found ≡ true → 228 ≤ length l → (a : List ℕ) → a ≡ sets l 0 (valueBytes (r .value))
+      → Read-leaves 0 l a (roomFor (length l) x)
+  unfolding readingOf roomFor readNumber readArea
+  found-room (got v q) e f h a w = rw (le-leb 228 (length l) h) (refl, w ∙ ap (λ (y : Reading). sets l 0 (valueBytes (y .value))) e)
+  found-room (no s) e f h a w = not-both (sym (ap (λ (y : Reading). y .found) e) ∙ f)
+
+  found-not : (x : Read Value) → r ≡ readingOf x → r .found ≡ false → Read-leaves (r .stop .number) l l (roomFor (length l) x)
+  unfolding readingOf roomFor readNumber readArea
+  found-not (got v q) e f = not-both (sym f ∙ ap (λ (y : Reading). y .found) e)
+  found-not (no s) e f = (ap (λ (y : Reading). y .stop .number) e, refl)
+
+module _ (profile message : List ℕ) (n : ℕ) (l : List ℕ) where
+  -- by the contract of `cad_read`
+  abbrev pub CadRead : ℕ → List ℕ → Type 0
+  CadRead c a = (c ≡ cadReadOf profile message n l) × (a ≡ cadReadArea profile message n l)
+
+  pub read-1 : passes profile ≡ false → CadRead 1 l
+  unfolding cadReadOf cadReadArea cadRead readNumber readArea refusal
+  read-1 e = rw e (refl, refl)
+
+  module _ (ok : passes profile ≡ true) (p : Profile) (is : p ≡ profileFrom profile) (r : Reading) (said : r ≡ readingOf (readOf p message n)) where
+    same : readingOf (readOf p message n) ≡ readingOf (readOf (profileFrom profile) message n)
+    same = ap (λ (x : Profile). readingOf (readOf x message n)) is
+
+    pub read-14 : r .found ≡ true → length l < 228 → CadRead 14 l
+    unfolding cadReadOf cadReadArea cadRead
+    read-14 f h = rw ok (found-short l r (readOf (profileFrom profile) message n) (said ∙ same) f h)
+
+    pub read-0 : r .found ≡ true → 228 ≤ length l → (a : List ℕ) → a ≡ sets l 0 (valueBytes (r .value)) → CadRead 0 a
+    unfolding cadReadOf cadReadArea cadRead
+    read-0 f h a w = rw ok (found-room l r (readOf (profileFrom profile) message n) (said ∙ same) f h a w)
+
+    pub read-no : r .found ≡ false → CadRead (r .stop .number) l
+    unfolding cadReadOf cadReadArea cadRead
+    read-no f = rw ok (found-not l r (readOf (profileFrom profile) message n) (said ∙ same) f)
+
+-- ---- writing
+
+-- the answer c, the area a and the length b afterwards, where l and b₀ stood, are those of a writing x
+abbrev pub Write-leaves : ℕ → List ℕ → List ℕ → ℕ → ℕ → Write → Type 0
+Write-leaves c l a b₀ b x = (c ≡ writeNumber x) × ((a ≡ areaOf l x) × (b ≡ writeBits b₀ x))
+
+module _ (l a : List ℕ) (b : ℕ) (w : Written) where
+  pub done-leaves : (x : Write) → w ≡ writtenOf x → a ≡ areaOf l x → w .done ≡ true → Write-leaves 0 l a b (w .bits) x
+  unfolding writtenOf writeNumber writeBits
+  done-leaves (laid m n) e h d = (refl, (h, ap (λ (y : Written). y .bits) e))
+  done-leaves (refused s) e h d = not-both (sym (ap (λ (y : Written). y .done) e) ∙ d)
+
+  not-leaves : (x : Write) → w ≡ writtenOf x → a ≡ areaOf l x → w .done ≡ false → Write-leaves (w .stop .number) l a b b x
+  unfolding writtenOf writeNumber writeBits
+  not-leaves (laid m n) e h d = not-both (sym d ∙ ap (λ (y : Written). y .done) e)
+  not-leaves (refused s) e h d = (ap (λ (y : Written). y .stop .number) e, (h, refl))
+
+module _ (profile value l : List ℕ) (b₀ : ℕ) where
+  -- by the contract of `cad_write`
+  abbrev pub CadWrite : ℕ → List ℕ → ℕ → Type 0
+  CadWrite c a b = (c ≡ cadWriteOf profile value l) × ((a ≡ cadWriteArea profile value l) × (b ≡ cadWriteBits profile value l b₀))
+
+  pub write-1 : passes profile ≡ false → CadWrite 1 l b₀
+  unfolding cadWriteOf cadWriteArea cadWriteBits cadWrite writeNumber writeBits areaOf refusal
+  write-1 e = rw e (refl, (refl, refl))
+
+  pub write-22 : passes profile ≡ true → isValue value ≡ false → CadWrite 22 l b₀
+  unfolding cadWriteOf cadWriteArea cadWriteBits cadWrite writeNumber writeBits areaOf refusal
+  write-22 e f = rw (e, f) (refl, (refl, refl))
+
+  module _ (ok : passes profile ≡ true) (shape : isValue value ≡ true) (p : Profile) (is : p ≡ profileFrom profile) (v : Value) (are : v ≡ valueFrom value)
+      (w : Written) (a : List ℕ) (said : (w ≡ writtenOf (writeOf p v l 0)) × (a ≡ areaOf l (writeOf p v l 0))) where
+    same-write : writeOf p v l 0 ≡ writeOf (profileFrom profile) (valueFrom value) l 0
+    same-write = ap (λ (x : Profile). writeOf x v l 0) is ∙ ap (λ (x : Value). writeOf (profileFrom profile) x l 0) are
+
+    pub write-0 : w .done ≡ true → CadWrite 0 a (w .bits)
+    unfolding cadWriteOf cadWriteArea cadWriteBits cadWrite
+    write-0 d =
+        rw (ok, shape) (done-leaves l a b₀ w _ (said .0 ∙ ap (λ (x : Write). writtenOf x) same-write) (said .1 ∙ ap (λ (x : Write). areaOf l x) same-write) d)
+
+    pub write-no : w .done ≡ false → CadWrite (w .stop .number) a b₀
+    unfolding cadWriteOf cadWriteArea cadWriteBits cadWrite
+    write-no d =
+        rw (ok, shape) (not-leaves l a b₀ w _ (said .0 ∙ ap (λ (x : Write). writtenOf x) same-write) (said .1 ∙ ap (λ (x : Write). areaOf l x) same-write) d)

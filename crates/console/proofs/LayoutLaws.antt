@@ -1,0 +1,376 @@
+-- The two layouts lose nothing: what is taken from bytes is written as those bytes, and what is written as bytes is taken from them as it
+-- was.
+--     profile-there, profile-back     for profiles
+--     value-there, value-back         for values
+-- So bytes that are taken are the bytes of exactly one profile or value. And no valid value is left out, nor profile that keeps the rules:
+--     profile-taken, value-taken      its bytes are taken
+-- Assumes nothing.
+use Prim.Native.Nat.{ℕ, zero, suc, _+_, _*_, _^_, _≤_, _<_}
+use mathlib.Core.Path.{_≡_, refl, sym, ap, _∙_}
+use mathlib.Core.Bool.{Bool, true, false, cond}
+use mathlib.Core.Logic.{⊎-elim}
+use mathlib.Core.List.{List, [], _∷_, _++_, append-assoc, append-nil}
+use native.Mathlib.Omega.{arith}
+use lib.Dec.{eqb, leb}
+use lib.ListN.{length, getD, take, drop, length-append, length-drop}
+use lib.Seq.{sets, sets-eq, take-add, take-all, drop-cons, drop-drop, drop-at, drop-nil, getD-drop}
+use borrow.Author.Tests.{eq-eqb, eqb-true, eqb-false, ne-eqb, leb-true, leb-false, le-leb}
+use Rattle.bits.proofs.SetLaws.{eq-or}
+use Rattle.codec.specs.Codec.{both}
+use Rattle.codec.proofs.Good.{both-true, both-left, both-right}
+use Rattle.profile.specs.Counting.{every, one}
+use Rattle.profile.proofs.CountLaws.{every-at}
+use Rattle.profile.specs.Rules.{reserved, noShare, meaningOkBy, meaningOk, meaningIn, airOk, profileOk}
+use Rattle.profile.specs.declared.Kind.{Kind}
+use Rattle.profile.specs.declared.Kind.the-variants as kind
+use Rattle.profile.specs.declared.Meaning.{Meaning}
+use Rattle.profile.specs.declared.Air.{Air}
+use Rattle.profile.specs.declared.Share.{Share}
+use Rattle.profile.specs.declared.Profile.{Profile}
+use Rattle.message.specs.Addresses.{isZero}
+use Rattle.message.proofs.AddressLaws.{zero-is}
+use Rattle.message.specs.declared.Address.{Address}
+use Rattle.message.specs.declared.Group.{Group}
+use Rattle.message.specs.declared.Value.{Value}
+use Rattle.validity.specs.Validity.{validOf}
+use Rattle.console.specs.Bytes.{numberFrom, numberBytes, rowsFrom, rowsBytes, areZero}
+use Rattle.console.specs.Profiles.{byteBy, meaningBytes, meaningOf, meaningFrom, shareBytes, shareFrom, profileBytes, airFrom, sharesFrom, profileFrom, isProfile}
+use Rattle.console.specs.Values.{addressBytes, addressFrom, groupBytes, groupFrom, valueBytes, valueFrom, isValue}
+use Rattle.console.proofs.ByteLaws.{byte-here, length-number}
+use Rattle.console.proofs.PutLaws.{length-address, length-group}
+use Rattle.console.proofs.RowLaws.{AreBytes, bytes-drop, number-there, number-back, rows-there, rows-back, byte-front, run-front, past-byte, past-run, all-of, rows-length}
+use Rattle.console.proofs.FitLaws.{Address-fits, Group-fits, Value-fits, valid-fits}
+
+-- ---- addresses and groups
+
+address-there : (l : List ℕ) → AreBytes l → 7 ≤ length l → addressBytes (addressFrom l) ≡ take 7 l
+unfolding addressBytes addressFrom
+address-there l h k =
+    let a : 3 ≤ length (drop 1 l) = omega (arith, length-drop 1 l) in
+    let b : 3 ≤ length (drop 4 l) = omega (arith, length-drop 4 l) in
+    let c : drop 0 l ≡ getD l 0 0 ∷ drop 1 l = drop-cons l 0 0 (omega arith) in
+    rw (number-there 3 (drop 1 l) (bytes-drop 1 l h) a, number-there 3 (drop 4 l) (bytes-drop 4 l h) b)
+    (ap (λ (x : List ℕ). getD l 0 0 ∷ x) (sym (take-add 3 3 (drop 1 l) ∙ rw (drop-drop 3 1 l))) ∙ sym (ap (λ (x : List ℕ). take 7 x) c))
+
+address-back : (a : Address) (ys : List ℕ) → Address-fits a → addressFrom (addressBytes a ++ ys) ≡ a
+unfolding addressBytes addressFrom
+address-back a ys p =
+    let xs = numberBytes 3 (a .ssi) in
+    let zs = numberBytes 3 (a .extension) in
+    let r : (xs ++ zs) ++ ys ≡ xs ++ (zs ++ ys) = append-assoc xs zs ys in
+    rw (r, number-back 3 (a .ssi) (zs ++ ys) (p .ssi), drop-at xs (zs ++ ys) 3 (length-number 3 (a .ssi)), number-back 3 (a .extension) ys (p .extension))
+
+group-there : (l : List ℕ) → AreBytes l → 106 ≤ length l → groupBytes (groupFrom l) ≡ take 106 l
+unfolding groupBytes groupFrom
+group-there l h k =
+    let c : drop 0 l ≡ getD l 0 0 ∷ drop 1 l = drop-cons l 0 0 (omega arith) in
+    rw (rows-there addressFrom addressBytes 7 15 (drop 1 l) each) (sym (ap (λ (x : List ℕ). take 106 x) c))
+  where
+    each : (i : ℕ) → i < 15 → addressBytes (addressFrom (drop (7 * i) (drop 1 l))) ≡ take 7 (drop (7 * i) (drop 1 l))
+    each i m =
+        address-there (drop (7 * i) (drop 1 l)) (bytes-drop (7 * i) (drop 1 l) (bytes-drop 1 l h)) (omega (arith, length-drop (7 * i) (drop 1 l), length-drop 1 l))
+
+group-back : (g : Group) (ys : List ℕ) → Group-fits g → groupFrom (groupBytes g ++ ys) ≡ g
+unfolding groupBytes groupFrom
+group-back g ys p = rw (rows-back addressFrom addressBytes 7 Address-fits length-address address-back 15 (g .addresses) ys (p .places) (p .each))
+
+-- ---- values
+
+flag-there : (b : ℕ) → b ≤ 1 → one (eqb b 1) ≡ b
+flag-there zero h = refl
+flag-there (suc zero) h = refl
+flag-there (suc (suc b)) h = absurd (omega arith)
+
+flag-back : (b : Bool) → eqb (one b) 1 ≡ b
+flag-back true = refl
+flag-back false = refl
+
+-- the bytes after the users, and after the mask
+abbrev afterMask : Value → List ℕ
+afterMask v = v .result ∷ (v .reason ∷ (v .cause ∷ (numberBytes 2 (v .identifier) ++ (one (v .option) ∷ groupBytes (v .dispatchers)))))
+
+abbrev afterUsers : Value → List ℕ
+afterUsers v = one (v .masked) ∷ (numberBytes 8 (v .mask) ++ afterMask v)
+
+value-is : (v : Value) → valueBytes v ≡ v .pdu ∷ (groupBytes (v .users) ++ afterUsers v)
+unfolding valueBytes
+value-is v = simp append-assoc
+
+-- what is taken from a value's bytes is written as those bytes
+pub value-there : (l : List ℕ) → AreBytes l → isValue l ≡ true → valueBytes (valueFrom l) ≡ l
+unfolding valueFrom isValue
+value-there l h e =
+    let n : length l ≡ 228 = eqb-true _ _ (both-left _ _ e) in
+    let flags = both-right (eqb (length l) 228) _ e in
+    let masked : one (eqb (getD l 107 0) 1) ≡ getD l 107 0 = flag-there _ (leb-true _ _ (both-left _ _ flags)) in
+    let option : one (eqb (getD l 121 0) 1) ≡ getD l 121 0 = flag-there _ (leb-true _ _ (both-right (leb (getD l 107 0) 1) _ flags)) in
+    let users = group-there (drop 1 l) (bytes-drop 1 l h) (omega (arith, length-drop 1 l)) in
+    let mask = number-there 8 (drop 108 l) (bytes-drop 108 l h) (omega (arith, length-drop 108 l)) in
+    let identifier = number-there 2 (drop 119 l) (bytes-drop 119 l h) (omega (arith, length-drop 119 l)) in
+    let d122 : groupBytes (groupFrom (drop 122 l)) ≡ drop 122 l =
+    group-there (drop 122 l) (bytes-drop 122 l h) (omega (arith, length-drop 122 l)) ∙ take-all 106 (drop 122 l) (omega (arith, length-drop 122 l)) in
+    let d119 = run-front l 119 2 _ _ identifier (byte-front l 121 _ _ (omega arith) option d122) in
+    let d116 = byte-front l 116 _ _ (omega arith) refl (byte-front l 117 _ _ (omega arith) refl (byte-front l 118 _ _ (omega arith) refl d119)) in
+    let d107 = byte-front l 107 _ _ (omega arith) masked (run-front l 108 8 _ _ mask d116) in
+    value-is (valueFrom l) ∙ byte-front l 0 _ _ (omega arith) refl (run-front l 1 106 _ _ users d107)
+
+fits-back : (v : Value) → Value-fits v → valueFrom (valueBytes v) ≡ v
+unfolding valueFrom
+fits-back v p =
+    let u = groupBytes (v .users) in
+    let y = afterUsers v in
+    let m = numberBytes 8 (v .mask) in
+    let z = afterMask v in
+    let i = numberBytes 2 (v .identifier) in
+    let d = groupBytes (v .dispatchers) in
+    let w = one (v .option) ∷ d in
+    let nu = length-group (v .users) (p .users .places) in
+    let nm = length-number 8 (v .mask) in
+    let ni = length-number 2 (v .identifier) in
+    let eu : groupFrom (u ++ y) ≡ v .users = group-back (v .users) y (p .users) in
+    let em : getD (u ++ y) 106 0 ≡ one (v .masked) = past-byte 106 u y nu 0 in
+    let ek : numberFrom 8 (drop 107 (u ++ y)) ≡ v .mask = ap (λ (x : List ℕ). numberFrom 8 x) (past-run 106 u y nu 1) ∙ number-back 8 (v .mask) z (p .mask) in
+    let er : getD (u ++ y) 115 0 ≡ v .result = past-byte 106 u y nu 9 ∙ past-byte 8 m z nm 0 in
+    let es : getD (u ++ y) 116 0 ≡ v .reason = past-byte 106 u y nu 10 ∙ past-byte 8 m z nm 1 in
+    let ec : getD (u ++ y) 117 0 ≡ v .cause = past-byte 106 u y nu 11 ∙ past-byte 8 m z nm 2 in
+    let ei : numberFrom 2 (drop 118 (u ++ y)) ≡ v .identifier =
+    ap (λ (x : List ℕ). numberFrom 2 x) (past-run 106 u y nu 12 ∙ past-run 8 m z nm 3) ∙ number-back 2 (v .identifier) w (p .identifier) in
+    let eo : getD (u ++ y) 120 0 ≡ one (v .option) = past-byte 106 u y nu 14 ∙ past-byte 8 m z nm 5 ∙ past-byte 2 i w ni 0 in
+    let ed : groupFrom (drop 121 (u ++ y)) ≡ v .dispatchers =
+    ap (λ (x : List ℕ). groupFrom x) (past-run 106 u y nu 15 ∙ past-run 8 m z nm 6 ∙ past-run 2 i w ni 1 ∙ sym (append-nil d))
+    ∙ group-back (v .dispatchers) [] (p .dispatchers) in
+    ap (λ (x : List ℕ). valueFrom x) (value-is v) ∙ rw (eu, em, ek, er, es, ec, ei, eo, ed, flag-back (v .masked), flag-back (v .option))
+
+-- a valid value is taken from its bytes as it was
+pub value-back : (air : Air) (v : Value) → validOf air v ≡ true → valueFrom (valueBytes v) ≡ v
+value-back air v e = fits-back v (valid-fits air v e)
+
+value-length : (v : Value) → Value-fits v → length (valueBytes v) ≡ 228
+value-length v p =
+    let u = groupBytes (v .users) in
+    let m = numberBytes 8 (v .mask) in
+    let i = numberBytes 2 (v .identifier) in
+    let d = groupBytes (v .dispatchers) in
+    ap (λ (x : List ℕ). length x) (value-is v)
+    ∙ omega (
+      arith,
+      length-append u (afterUsers v),
+      length-append m (afterMask v),
+      length-append i (one (v .option) ∷ d),
+      length-number 8 (v .mask),
+      length-number 2 (v .identifier),
+      length-group (v .users) (p .users .places),
+      length-group (v .dispatchers) (p .dispatchers .places),
+    )
+
+flag-small : (b : Bool) → leb (one b) 1 ≡ true
+flag-small true = refl
+flag-small false = refl
+
+fits-taken : (v : Value) → Value-fits v → isValue (valueBytes v) ≡ true
+unfolding isValue
+fits-taken v p =
+    let u = groupBytes (v .users) in
+    let y = afterUsers v in
+    let nu = length-group (v .users) (p .users .places) in
+    let masked : getD (valueBytes v) 107 0 ≡ one (v .masked) = ap (λ (x : List ℕ). getD x 107 0) (value-is v) ∙ past-byte 106 u y nu 0 in
+    let option : getD (valueBytes v) 121 0 ≡ one (v .option) =
+    ap (λ (x : List ℕ). getD x 121 0) (value-is v)
+    ∙ past-byte 106 u y nu 14
+    ∙ past-byte 8 (numberBytes 8 (v .mask)) (afterMask v) (length-number 8 (v .mask)) 5
+    ∙ past-byte 2 (numberBytes 2 (v .identifier)) (one (v .option) ∷ groupBytes (v .dispatchers)) (length-number 2 (v .identifier)) 0 in
+    both-true _ _ (eq-eqb _ _ (value-length v p)) (both-true _ _ (ap (λ (b : ℕ). leb b 1) masked ∙ flag-small (v .masked)) (ap (λ (b : ℕ). leb b 1) option ∙ flag-small (v .option)))
+
+-- the bytes of a valid value are taken
+pub value-taken : (air : Air) (v : Value) → validOf air v ≡ true → isValue (valueBytes v) ≡ true
+value-taken air v e = fits-taken v (valid-fits air v e)
+
+-- they fill 228 bytes of an area, and what it has beyond them stays
+pub value-area : (air : Air) (v : Value) (l : List ℕ) → validOf air v ≡ true → 228 ≤ length l → sets l 0 (valueBytes v) ≡ valueBytes v ++ drop 228 l
+value-area air v l e h =
+    let n = value-length v (valid-fits air v e) in
+    sets-eq (valueBytes v) l 0 (omega (arith, n)) ∙ ap (λ (k : ℕ). valueBytes v ++ drop k l) (let z : 0 + length (valueBytes v) ≡ 228 = omega (arith, n) in z)
+
+-- ---- meanings and shares
+
+meaning-byte : (b : ℕ) → b ≤ 17 → meaningBytes (meaningOf b) ≡ b ∷ []
+unfolding meaningBytes meaningOf
+meaning-byte b h = go (eqb b 0) refl (leb b 15) refl (eqb b 16) refl
+  where
+    go : (x : Bool) → eqb b 0 ≡ x → (y : Bool) → leb b 15 ≡ y → (z : Bool) → eqb b 16 ≡ z
+        → meaningBytes (cond x reserved (cond y (record { kind = kind.Listed; count = b }) (cond z (record { kind = kind.Nobody; count = 0 }) (record { kind = kind.FirstLast; count = 0 }))))
+        ≡ b ∷ []
+    go true ex y ey z ez = ap (λ (k : ℕ). k ∷ []) (sym (eqb-true b 0 ex))
+    go false ex true ey z ez = refl
+    go false ex false ey true ez = ap (λ (k : ℕ). k ∷ []) (sym (eqb-true b 16 ez))
+    go false ex false ey false ez =
+        let a = leb-false b 15 ey in
+        let c : b ≡ 17 = ⊎-elim (λ q. absurd (eqb-false b 16 ez q)) (λ q. omega arith) (eq-or b 16) in
+        ap (λ (k : ℕ). k ∷ []) (sym c)
+
+share-there : (l : List ℕ) → 2 ≤ length l → shareBytes (shareFrom l) ≡ take 2 l
+unfolding shareBytes shareFrom
+share-there [] h = absurd (omega arith)
+share-there (a ∷ []) h = absurd (omega arith)
+share-there (a ∷ (b ∷ l)) h = refl
+
+share-back : (s : Share) (ys : List ℕ) → Unit {0} → shareFrom (shareBytes s ++ ys) ≡ s
+unfolding shareBytes shareFrom
+share-back s ys t = refl
+
+length-share : (s : Share) → length (shareBytes s) ≡ 2
+unfolding shareBytes
+length-share s = refl
+
+length-meaning : (m : Meaning) → length (meaningBytes m) ≡ 1
+unfolding meaningBytes
+length-meaning m = refl
+
+meaning-there : (l : List ℕ) → 1 ≤ length l → getD l 0 0 ≤ 17 → meaningBytes (meaningFrom l) ≡ take 1 l
+meaning-there [] h k = absurd (omega arith)
+meaning-there (b ∷ l) h k = meaning-byte b k
+
+-- the length beside a meaning that is no list is zero
+abbrev aloneBy : Kind → ℕ → Bool
+aloneBy kind.Reserved n = isZero n
+aloneBy kind.Nobody n = isZero n
+aloneBy kind.Listed n = true
+aloneBy kind.FirstLast n = isZero n
+
+unfoldable pub isAlone : Meaning → Bool
+isAlone m = aloneBy (m .kind) (m .count)
+
+back-by : (k : Kind) (n : ℕ) → meaningOkBy k n ≡ true → aloneBy k n ≡ true → meaningOf (byteBy k n) ≡ record { kind = k; count = n }
+unfolding meaningOf
+back-by kind.Reserved n e z = ap (λ (c : ℕ). record { kind = kind.Reserved; count = c }) (sym (zero-is n z))
+back-by kind.Nobody n e z = ap (λ (c : ℕ). record { kind = kind.Nobody; count = c }) (sym (zero-is n z))
+back-by kind.FirstLast n e z = ap (λ (c : ℕ). record { kind = kind.FirstLast; count = c }) (sym (zero-is n z))
+back-by kind.Listed n e z =
+    let a = leb-true 1 n (both-left _ _ e) in
+    let b = leb-true n 15 (both-right (leb 1 n) _ e) in
+    rw (ne-eqb n 0 (λ d. omega arith), le-leb n 15 b)
+
+-- ---- profiles
+
+-- the bytes after the home extension, and after the meanings
+abbrev afterMeanings : Profile → List ℕ
+afterMeanings p = p .shares .posts ∷ rowsBytes shareBytes (p .shares .share)
+
+abbrev afterHome : Profile → List ℕ
+afterHome p = p .air .unknown ∷ (p .air .other ∷ (rowsBytes meaningBytes (p .air .meanings) ++ afterMeanings p))
+
+profile-is : (p : Profile) → profileBytes p ≡ p .air .ss ∷ (numberBytes 3 (p .air .home) ++ afterHome p)
+unfolding profileBytes
+profile-is p = simp append-assoc
+
+-- what is taken from a profile's bytes is written as those bytes
+pub profile-there : (l : List ℕ) → AreBytes l → isProfile l ≡ true → profileBytes (profileFrom l) ≡ l
+unfolding profileFrom airFrom sharesFrom isProfile
+profile-there l h e =
+    let n : length l ≡ 39 = eqb-true _ _ (both-left _ _ e) in
+    let known = every-at 16 _ (both-left _ _ (both-right (eqb (length l) 39) _ e)) in
+    let rows = rows-there shareFrom shareBytes 2 8 (drop 23 l) (λ i k. share-there (drop (2 * i) (drop 23 l)) (omega (arith, length-drop (2 * i) (drop 23 l), length-drop 23 l))) in
+    let meanings = rows-there meaningFrom meaningBytes 1 16 (drop 6 l) (λ i k. meaning-there (drop (1 * i) (drop 6 l)) (omega (arith, length-drop (1 * i) (drop 6 l), length-drop 6 l)) (small i (known i k))) in
+    let home = number-there 3 (drop 1 l) (bytes-drop 1 l h) (omega (arith, length-drop 1 l)) in
+    let d23 = rows ∙ take-all 16 (drop 23 l) (omega (arith, length-drop 23 l)) in
+    let d6 = run-front l 6 16 _ _ meanings (byte-front l 22 _ _ (omega arith) refl d23) in
+    let d4 = byte-front l 4 _ _ (omega arith) refl (byte-front l 5 _ _ (omega arith) refl d6) in
+    profile-is (profileFrom l) ∙ byte-front l 0 _ _ (omega arith) refl (run-front l 1 3 _ _ home d4)
+  where
+    small : (i : ℕ) → leb (getD l (6 + i) 0) 17 ≡ true → getD (drop (1 * i) (drop 6 l)) 0 0 ≤ 17
+    small i t =
+        let z : 6 + 1 * i ≡ 6 + i = omega arith in
+        rw (drop-drop (1 * i) 6 l, z, byte-here l (6 + i)) (leb-true _ _ t)
+
+-- as a profile comes from its bytes: sixteen meanings, eight rows, and a length only beside a list
+pub record Plain (p : Profile) : Type 0 where
+  pub meanings : length (p .air .meanings) ≡ 16
+  pub rows : length (p .shares .share) ≡ 8
+  pub alone : every 16 (λ r. isAlone (meaningIn (p .air .meanings) r)) ≡ true
+
+-- such a profile that keeps every rule is taken from its bytes as it was
+pub profile-back : (p : Profile) → profileOk p ≡ true → Plain p → profileFrom (profileBytes p) ≡ p
+unfolding profileFrom airFrom sharesFrom profileOk airOk meaningIn meaningOk meaningBytes isAlone
+profile-back p ok plain =
+    let h = numberBytes 3 (p .air .home) in
+    let t = afterHome p in
+    let m = rowsBytes meaningBytes (p .air .meanings) in
+    let x = afterMeanings p in
+    let s = rowsBytes shareBytes (p .shares .share) in
+    let nh = length-number 3 (p .air .home) in
+    let nm : length m ≡ 16 = rows-length meaningFrom meaningBytes 1 length-meaning (p .air .meanings) ∙ ap (λ (k : ℕ). k * 1) (plain .meanings) in
+    let air = both-right (leb (p .air .ss) 63) _ (both-left _ _ ok) in
+    let small = leb-true (p .air .home) 0xFF_FFFF (both-left _ _ air) in
+    let good = every-at 16 _ (both-right (leb (p .air .other) 127) _ (both-right (leb (p .air .unknown) 127) _ (both-right (leb (p .air .home) 0xFF_FFFF) _ air))) in
+    let alone = every-at 16 _ (plain .alone) in
+    let each = all-of (λ (a : Meaning). meaningOf (byteBy (a .kind) (a .count)) ≡ a) reserved (p .air .meanings) (λ i k. back-by _ _ (good i (omega (arith, plain .meanings))) (alone i (omega (arith, plain .meanings)))) in
+    let eh : numberFrom 3 (h ++ t) ≡ p .air .home = number-back 3 (p .air .home) t (omega arith) in
+    let eu : getD (h ++ t) 3 0 ≡ p .air .unknown = past-byte 3 h t nh 0 in
+    let en : getD (h ++ t) 4 0 ≡ p .air .other = past-byte 3 h t nh 1 in
+    let em : rowsFrom meaningFrom 1 16 (drop 5 (h ++ t)) ≡ p .air .meanings =
+    ap (λ (y : List ℕ). rowsFrom meaningFrom 1 16 y) (past-run 3 h t nh 2)
+    ∙ rows-back meaningFrom meaningBytes 1 (λ (a : Meaning). meaningOf (byteBy (a .kind) (a .count)) ≡ a) length-meaning (λ a ys q. q) 16 (p .air .meanings) x (plain .meanings) each in
+    let ep : getD (h ++ t) 21 0 ≡ p .shares .posts = past-byte 3 h t nh 18 ∙ past-byte 16 m x nm 0 in
+    let es : rowsFrom shareFrom 2 8 (drop 22 (h ++ t)) ≡ p .shares .share =
+    ap (λ (y : List ℕ). rowsFrom shareFrom 2 8 y) (past-run 3 h t nh 19 ∙ past-run 16 m x nm 1 ∙ sym (append-nil s))
+    ∙ rows-back shareFrom shareBytes 2 (λ (a : Share). Unit {0}) length-share share-back 8 (p .shares .share) [] (plain .rows) (all-of (λ (a : Share). Unit {0}) noShare (p .shares .share) (λ i k. tt)) in
+    ap (λ (y : List ℕ). profileFrom y) (profile-is p) ∙ rw (eh, eu, en, em, ep, es)
+
+-- ---- and its bytes are taken
+
+-- the bytes of the meanings, one each
+meaning-at : (l : List Meaning) (ys : List ℕ) (r : ℕ) → r < length l → getD (rowsBytes meaningBytes l ++ ys) r 0 ≡ byteBy (getD l r reserved .kind) (getD l r reserved .count)
+unfolding rowsBytes meaningBytes
+meaning-at [] ys r h = absurd (omega arith)
+meaning-at (m ∷ l) ys zero h = refl
+meaning-at (m ∷ l) ys (suc r) h = meaning-at l ys r (omega arith)
+
+byte-small : (k : Kind) (n : ℕ) → meaningOkBy k n ≡ true → leb (byteBy k n) 17 ≡ true
+byte-small kind.Reserved n e = refl
+byte-small kind.Nobody n e = refl
+byte-small kind.FirstLast n e = refl
+byte-small kind.Listed n e = let b = leb-true n 15 (both-right (leb 1 n) _ e) in le-leb n 17 (omega arith)
+
+-- the rows from the k-th on
+rows-drop : (k : ℕ) (l : List Share) → drop (2 * k) (rowsBytes shareBytes l) ≡ rowsBytes shareBytes (drop k l)
+unfolding rowsBytes shareBytes
+rows-drop zero l = refl
+rows-drop (suc k) [] = drop-nil (2 * suc k)
+rows-drop (suc k) (s ∷ l) = let z : 2 * suc k ≡ suc (suc (2 * k)) = omega arith in rw z (rows-drop k l)
+
+every-of : (n : ℕ) (test : ℕ → Bool) → ((i : ℕ) → i < n → test i ≡ true) → every n test ≡ true
+unfolding every
+every-of zero test h = refl
+every-of (suc n) test h = both-true _ _ (every-of n test (λ i k. h i (omega arith))) (h n (omega arith))
+
+-- the rows past the posts are zero
+pub isSpare : Profile → Bool
+isSpare p = areZero (rowsBytes shareBytes (drop (p .shares .posts) (p .shares .share)))
+
+pub profile-taken : (p : Profile) → profileOk p ≡ true → Plain p → isSpare p ≡ true → isProfile (profileBytes p) ≡ true
+unfolding isProfile profileOk airOk meaningIn meaningOk isSpare
+profile-taken p ok plain spare =
+    let h = numberBytes 3 (p .air .home) in
+    let t = afterHome p in
+    let m = rowsBytes meaningBytes (p .air .meanings) in
+    let x = afterMeanings p in
+    let s = rowsBytes shareBytes (p .shares .share) in
+    let b = profileBytes p in
+    let nh = length-number 3 (p .air .home) in
+    let nm : length m ≡ 16 = rows-length meaningFrom meaningBytes 1 length-meaning (p .air .meanings) ∙ ap (λ (k : ℕ). k * 1) (plain .meanings) in
+    let ns : length s ≡ 16 = rows-length shareFrom shareBytes 2 length-share (p .shares .share) ∙ ap (λ (k : ℕ). k * 2) (plain .rows) in
+    let air = both-right (leb (p .air .ss) 63) _ (both-left _ _ ok) in
+    let good = every-at 16 _ (both-right (leb (p .air .other) 127) _ (both-right (leb (p .air .unknown) 127) _ (both-right (leb (p .air .home) 0xFF_FFFF) _ air))) in
+    let long : length b ≡ 39 = ap (λ (y : List ℕ). length y) (profile-is p) ∙ omega (arith, length-append h t, length-append m x, nh, nm, ns) in
+    let posts : getD b 22 0 ≡ p .shares .posts = ap (λ (y : List ℕ). getD y 22 0) (profile-is p) ∙ past-byte 3 h t nh 18 ∙ past-byte 16 m x nm 0 in
+    let rows : (k : ℕ) → drop (23 + k) b ≡ drop k s =
+    λ k. sym (drop-drop k 23 b) ∙ ap (λ (y : List ℕ). drop k y) (ap (λ (y : List ℕ). drop 23 y) (profile-is p) ∙ past-run 3 h t nh 19 ∙ past-run 16 m x nm 1) in
+    let known : (r : ℕ) → r < 16 → leb (getD b (6 + r) 0) 17 ≡ true =
+    λ r k. ap (λ (c : ℕ). leb c 17)
+    (sym (getD-drop 6 b r 0) ∙ ap (λ (y : List ℕ). getD y r 0) (ap (λ (y : List ℕ). drop 6 y) (profile-is p) ∙ past-run 3 h t nh 2) ∙ meaning-at (p .air .meanings) x r (omega (arith, plain .meanings)))
+    ∙ byte-small _ _ (good r k) in
+    let zero-rest : areZero (drop (23 + 2 * getD b 22 0) b) ≡ true =
+    ap (λ (k : ℕ). areZero (drop (23 + 2 * k) b)) posts
+    ∙ ap (λ (y : List ℕ). areZero y) (rows (2 * p .shares .posts) ∙ rows-drop (p .shares .posts) (p .shares .share))
+    ∙ spare in
+    both-true _ _ (eq-eqb _ _ long) (both-true _ _ (every-of 16 _ known) zero-rest)

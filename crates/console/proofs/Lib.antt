@@ -1,0 +1,7 @@
+pub mod ByteLaws
+pub mod PutLaws
+pub mod CallLaws
+pub mod RowLaws
+pub mod FitLaws
+pub mod LayoutLaws
+pub mod RoundTrips

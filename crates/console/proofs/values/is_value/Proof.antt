@@ -1,0 +1,36 @@
+-- `console::values::is_value` meets its contract. Assumes nothing.
+use borrow.Author.Needs.{needs}
+use borrow.Author.Tests.{eq-eqb, ne-eqb, le-leb, lt-leb}
+use Rattle.codec.specs.Codec.{both}
+use Rattle.console.specs.Values.{isValue}
+use Rattle.console.proofs.values.is_value.Statement.{statement}
+use Rattle.console.proofs.values.is_value.Tie as tie
+
+returns : tie.Need-returns
+unfolding isValue both
+returns c = rw (ne-eqb _ _ (c .if1 .taken))
+
+byte-at-requires : tie.Need-byte-at-requires
+byte-at-requires c κs = search needs
+
+returns-2 : tie.Need-returns-2
+unfolding isValue both
+returns-2 c =
+    let p1 = c .before .before in
+    let p2 = c .before in
+    rw (eq-eqb _ _ (p1 .if1 .left), ← (p2 .byte-at .ensures), lt-leb _ 1 (c .if2 .taken))
+
+byte-at-requires-2 : tie.Need-byte-at-requires-2
+byte-at-requires-2 c κs = search needs
+
+returns-3 : tie.Need-returns-3
+unfolding isValue both
+returns-3 c =
+    let p1 = c .before .before .before in
+    let p2 = c .before .before in
+    let p3 = c .before in
+    rw (eq-eqb _ _ (p1 .if1 .left), ← (p2 .byte-at .ensures), le-leb _ 1 (p3 .if2 .left), ← (c .byte-at2 .ensures))
+
+pub is-value-spec : {M : Type 1} → statement M
+is-value-spec =
+    tie.close (tie.spec returns byte-at-requires returns-2 byte-at-requires-2 returns-3)

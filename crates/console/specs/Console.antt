@@ -1,0 +1,64 @@
+-- The C interface: what `cad_read` and `cad_write` answer and leave. 0, or the refusal's number; a refusal leaves everything.
+use Prim.Native.Nat.{ℕ}
+use mathlib.Core.Bool.{cond}
+use mathlib.Core.List.{List}
+use lib.Dec.{leb}
+use lib.ListN.{length}
+use lib.Seq.{sets}
+use Rattle.codec.specs.Stops.{refusal}
+use Rattle.codec.specs.Codec.{Read, got, no}
+use Rattle.message.specs.Reading.{readOf}
+use Rattle.message.specs.declared.Value.{Value}
+use Rattle.writing.specs.Writing.{Write, laid, refused, writeOf, areaOf}
+use Rattle.console.specs.Profiles.{passes, profileFrom}
+use Rattle.console.specs.Values.{valueBytes, valueFrom, isValue}
+
+-- ---- reading: 1, then reading's own refusals, and 14 last
+
+-- 14: the value area has fewer than 228 bytes
+unfoldable pub roomFor : ℕ → Read Value → Read Value
+roomFor k (got v p) = cond (leb 228 k) (got v p) (no (refusal 14))
+roomFor k (no s) = no s
+
+-- from the profile's bytes, a message of n bits, and a value area of k bytes
+unfoldable pub cadRead : List ℕ → List ℕ → ℕ → ℕ → Read Value
+cadRead profile message n k = cond (passes profile) (roomFor k (readOf (profileFrom profile) message n)) (no (refusal 1))
+
+unfoldable pub readNumber : Read Value → ℕ
+readNumber (got v p) = 0
+readNumber (no s) = s .number
+
+-- the value's bytes from byte 0 on; what the area has beyond them stays
+unfoldable pub readArea : List ℕ → Read Value → List ℕ
+readArea area (got v p) = sets area 0 (valueBytes v)
+readArea area (no s) = area
+
+unfoldable pub cadReadOf : List ℕ → List ℕ → ℕ → List ℕ → ℕ
+cadReadOf profile message n area = readNumber (cadRead profile message n (length area))
+
+unfoldable pub cadReadArea : List ℕ → List ℕ → ℕ → List ℕ → List ℕ
+cadReadArea profile message n area = readArea area (cadRead profile message n (length area))
+
+-- ---- writing: 1, 22, 14
+
+-- the message from byte 0 of the area on
+unfoldable pub cadWrite : List ℕ → List ℕ → List ℕ → Write
+cadWrite profile value area =
+    cond (passes profile) (cond (isValue value) (writeOf (profileFrom profile) (valueFrom value) area 0) (refused (refusal 22))) (refused (refusal 1))
+
+unfoldable pub writeNumber : Write → ℕ
+writeNumber (laid m n) = 0
+writeNumber (refused s) = s .number
+
+unfoldable pub writeBits : ℕ → Write → ℕ
+writeBits bits (laid m n) = n
+writeBits bits (refused s) = bits
+
+unfoldable pub cadWriteOf : List ℕ → List ℕ → List ℕ → ℕ
+cadWriteOf profile value area = writeNumber (cadWrite profile value area)
+
+unfoldable pub cadWriteArea : List ℕ → List ℕ → List ℕ → List ℕ
+cadWriteArea profile value area = areaOf area (cadWrite profile value area)
+
+unfoldable pub cadWriteBits : List ℕ → List ℕ → List ℕ → ℕ → ℕ
+cadWriteBits profile value area bits = writeBits bits (cadWrite profile value area)

@@ -1,0 +1,4 @@
+pub mod Bytes
+pub mod Profiles
+pub mod Values
+pub mod Console

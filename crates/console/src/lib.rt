@@ -1,0 +1,60 @@
+// The C interface: reading and writing messages on numbers and byte buffers. Profile and value cross as bytes (specs/Profiles,
+// specs/Values); any other bytes get 1 or 22. Each function answers 0 or the refusal's number, and a refusal changes nothing that was
+// lent.
+ghost use mathlib.Core.Path.{_≡_};
+ghost use Rattle.console.specs.Console.{cadReadOf, cadReadArea, cadWriteOf, cadWriteArea, cadWriteBits};
+
+mod number;
+mod profiles;
+mod values;
+
+// Reads the first `bits` bits of the message and lays the value's bytes in `value`.
+#[no_mangle]
+pub extern "C" fn cad_read(profile: &[u8], message: &[u8], bits: usize, value: &mut [u8]) -> u32
+    ensures { λ r. ⌜ (r ≡ cadReadOf (now (profile .entry)) (now (message .entry)) bits (now (value .entry)))
+        × (now (value .exit) ≡ cadReadArea (now (profile .entry)) (now (message .entry)) bits (now (value .entry))) ⌝ }
+{
+    if profiles::passes(profile) {
+        let r = reading::read(profiles::profile_from(profile), message, bits);
+        if r.found {
+            if value.len() < 228 {
+                return 14;
+            }
+            let v = r.value;
+            values::put_value(value, v);
+            return 0;
+        }
+        let s = r.stop;
+        return s.number as u32;
+    }
+    1
+}
+
+// Writes the message of the value's bytes from the first byte of `message` on, and its length into `bits`.
+#[no_mangle]
+pub extern "C" fn cad_write(
+    profile: &[u8],
+    value: &[u8],
+    message: &mut [u8],
+    bits: &mut usize,
+) -> u32
+    ensures { λ r. ⌜ (r ≡ cadWriteOf (now (profile .entry)) (now (value .entry)) (now (message .entry)))
+        × ((now (message .exit) ≡ cadWriteArea (now (profile .entry)) (now (value .entry)) (now (message .entry)))
+        × (now (bits .exit) ≡ cadWriteBits (now (profile .entry)) (now (value .entry)) (now (message .entry)) (now (bits .entry)))) ⌝ }
+{
+    if profiles::passes(profile) {
+        if values::is_value(value) {
+            let p = profiles::profile_from(profile);
+            let v = values::value_from(value);
+            let w = writing::write(p, v, message);
+            if w.done {
+                *bits = w.bits;
+                return 0;
+            }
+            let s = w.stop;
+            return s.number as u32;
+        }
+        return 22;
+    }
+    1
+}

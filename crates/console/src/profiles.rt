@@ -1,0 +1,157 @@
+// A profile from its 39 bytes.
+ghost use mathlib.Core.Path.{_≡_};
+ghost use Prim.Native.Nat.{_+_, _*_, _≤_};
+ghost use lib.Dec.{leb};
+ghost use lib.ListN.{getD, drop};
+ghost use Rattle.profile.specs.Counting.{every};
+ghost use Rattle.console.specs.Bytes.{areZero};
+ghost use Rattle.console.specs.Profiles.{meaningOf, shareFrom, airFrom, sharesFrom, profileFrom, isProfile, passes};
+use crate::number;
+use profile::Air;
+use profile::Kind;
+use profile::Meaning;
+use profile::Profile;
+use profile::Share;
+use profile::Shares;
+
+const RESERVED: Meaning = Meaning {
+    kind: Kind::Reserved,
+    count: 0,
+};
+
+const NO_SHARE: Share = Share {
+    reserved: 0,
+    ceiling: 0,
+};
+
+// The bytes are a profile's, and it keeps every rule.
+pub(crate) fn passes(l: &[u8]) -> bool
+    ensures { λ r. ⌜ r ≡ passes (now (l .entry)) ⌝ }
+{
+    if is_profile(l) {
+        return profile::profile_ok(profile_from(l));
+    }
+    false
+}
+
+fn is_profile(l: &[u8]) -> bool
+    ensures { λ r. ⌜ r ≡ isProfile (now (l .entry)) ⌝ }
+{
+    if l.len() != 39 {
+        return false;
+    }
+    if meanings_known(l) {
+        return spare_zero(l);
+    }
+    false
+}
+
+fn meanings_known(l: &[u8]) -> bool
+    ensures { λ r. ⌜ r ≡ every 16 (λ r. leb (getD (now (l .entry)) (6 + r) 0) 17) ⌝ }
+{
+    let mut r: usize = 0;
+    while r < Air::RANGES {
+        let b = number::byte_at(l, 6 + r);
+        r += 1;
+        if b > 17 {
+            return false;
+        }
+    }
+    true
+}
+
+// The rows past the posts are zero.
+fn spare_zero(l: &[u8]) -> bool
+    ensures { λ r. ⌜ r ≡ areZero (drop (23 + 2 * getD (now (l .entry)) 22 0) (now (l .entry))) ⌝ }
+{
+    let posts = number::byte_at(l, 22) as usize;
+    let mut i = 23 + 2 * posts;
+    while i < l.len() {
+        if l[i] != 0 {
+            return false;
+        }
+        i += 1;
+    }
+    true
+}
+
+pub(crate) fn profile_from(l: &[u8]) -> Profile
+    ensures { λ r. ⌜ r ≡ profileFrom (now (l .entry)) ⌝ }
+{
+    let air = air_from(l);
+    let shares = shares_from(l);
+    Profile {
+        air: air,
+        shares: shares,
+    }
+}
+
+fn air_from(l: &[u8]) -> Air
+    ensures { λ r. ⌜ r ≡ airFrom (now (l .entry)) ⌝ }
+{
+    let mut meanings = [RESERVED; 16];
+    let mut r: usize = 0;
+    while r < Air::RANGES {
+        let m = meaning_of(number::byte_at(l, 6 + r));
+        meanings[r] = m;
+        r += 1;
+    }
+    Air {
+        ss: number::byte_at(l, 0),
+        home: number::three_at(l, 1),
+        meanings: meanings,
+        unknown: number::byte_at(l, 4),
+        other: number::byte_at(l, 5),
+    }
+}
+
+// 0 reserved, 1 to 15 a list of that many, 16 nobody, 17 first and last.
+fn meaning_of(b: u8) -> Meaning
+    ensures { λ r. ⌜ r ≡ meaningOf b ⌝ }
+{
+    if b == 0 {
+        return RESERVED;
+    }
+    if b <= 15 {
+        return Meaning {
+            kind: Kind::Listed,
+            count: b,
+        };
+    }
+    if b == 16 {
+        return Meaning {
+            kind: Kind::Nobody,
+            count: 0,
+        };
+    }
+    Meaning {
+        kind: Kind::FirstLast,
+        count: 0,
+    }
+}
+
+fn shares_from(l: &[u8]) -> Shares
+    ensures { λ r. ⌜ r ≡ sharesFrom (now (l .entry)) ⌝ }
+{
+    let mut share = [NO_SHARE; 8];
+    let mut p: usize = 0;
+    while p < Shares::POSTS {
+        let s = share_at(l, 23 + 2 * p);
+        share[p] = s;
+        p += 1;
+    }
+    Shares {
+        posts: number::byte_at(l, 22),
+        share: share,
+    }
+}
+
+fn share_at(l: &[u8], at: usize) -> Share
+    requires { ⌜ at ≤ 4000 ⌝ }
+    ensures { λ r. ⌜ r ≡ shareFrom (drop at (now (l .entry))) ⌝ }
+{
+    Share {
+        reserved: number::byte_at(l, at),
+        ceiling: number::byte_at(l, at + 1),
+    }
+}
