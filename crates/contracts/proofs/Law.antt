@@ -1,5 +1,5 @@
--- The one law that every lemma here cites, `same`, in the three forms that contracts have: they say the answer alone, the last value of a
--- `&mut` alone, or both. Assumes nothing.
+-- The one law that every lemma here cites, `same`, in the four forms that contracts have: they say the answer alone, the last value of a
+-- `&mut` alone, both, or the answer and the last values of two. Assumes nothing.
 use mathlib.Core.Path.{_≡_, refl, ap, sym, _∙_}
 
 -- two outcomes that equal the same are equal
@@ -15,3 +15,7 @@ same-exit f p q = (refl, ap f (same p q))
 
 pub same-both : {A B C : Type 0} (f : B → C) {x y z : A} {v w u : B} → (x ≡ z) × (v ≡ u) → (y ≡ z) × (w ≡ u) → (x ≡ y) × (f v ≡ f w)
 same-both f p q = (same (p .0) (q .0), ap f (same (p .1) (q .1)))
+
+pub same-all : {A B C D : Type 0} (f : B → C → D) {x y z : A} {v w u : B} {k l m : C} → (x ≡ z) × ((v ≡ u) × (k ≡ m)) → (y ≡ z) × ((w ≡ u) × (l ≡ m))
+    → (x ≡ y) × (f v k ≡ f w l)
+same-all f {v = v} {w = w} {k = k} {l = l} p q = (same (p .0) (q .0), ap (λ a. f a k) (same (p .1 .0) (q .1 .0)) ∙ ap (λ b. f w b) (same (p .1 .1) (q .1 .1)))

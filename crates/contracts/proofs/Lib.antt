@@ -6,6 +6,7 @@ pub mod Message
 pub mod Reading
 pub mod Validity
 pub mod Writing
+pub mod Console
 pub mod Places
 pub mod Records
 pub mod Sending
