@@ -15,7 +15,7 @@ INCLUDEDIR = $(PREFIX)/include
 LIBDIR = $(PREFIX)/lib
 MANDIR = $(PREFIX)/share/man
 CFLAGS = -O2 -std=c99 -Wall -Wextra -pedantic
-ARCHIVE =
+ARCHIVE ?=
 
 VERSION = $(shell sed -n 's/^\#define CAD_VERSION "\(.*\)"/\1/p' include/cad.h)
 INSTALL = install -m 644
