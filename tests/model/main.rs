@@ -4,6 +4,7 @@
 mod activate;
 mod bits;
 mod count;
+mod crossing;
 mod desk;
 mod dice;
 mod draw;
@@ -37,7 +38,7 @@ use std::io::{self, BufWriter, Read, Write};
 use std::process::ExitCode;
 
 const USAGE: &str = "usage: model listing | generate SEED COUNT | suite | count | rounds | \
-    replay | script SEED COUNT | tally | selftest";
+    crossing | replay | script SEED COUNT | tally | selftest";
 
 fn main() -> ExitCode {
     let arguments: Vec<String> = env::args_os()
@@ -71,6 +72,7 @@ fn run(words: &[&str]) -> io::Result<Option<bool>> {
         },
         ["suite"] => suite::write_suite(&mut out)?,
         ["rounds"] => rounds::print_rounds(&mut out)?,
+        ["crossing"] => crossing::cross(&standard_input()?, &mut out)?,
         ["replay"] => replay::replay(&standard_input()?, &mut out)?,
         ["script", seed, count] => match (seed.parse(), count.parse()) {
             (Ok(seed), Ok(count)) => history::write_script(seed, count, &mut out)?,

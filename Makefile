@@ -1,0 +1,68 @@
+# The messages of the call desk for C: the archive, the header, the example console, and their installation.
+#
+#   make                      build/libcad.a, from the proved crate console (proves what is not proved yet), and build/cad.pc
+#   make console              build/console, from examples/console.c
+#   make install [PREFIX=/usr/local] [DESTDIR=]    header, archive, cad.pc and manual pages
+#   make uninstall [..]       takes them away again
+#   make check-c              the tests of all this
+#   make clean                removes build/
+#
+# ARCHIVE=FILE takes an archive that `rt staticlib console` wrote elsewhere, so that the rest needs no Rattle kit.
+
+PREFIX = /usr/local
+DESTDIR =
+INCLUDEDIR = $(PREFIX)/include
+LIBDIR = $(PREFIX)/lib
+MANDIR = $(PREFIX)/share/man
+CFLAGS = -O2 -std=c99 -Wall -Wextra -pedantic
+ARCHIVE ?=
+
+VERSION = $(shell sed -n 's/^\#define CAD_VERSION "\(.*\)"/\1/p' include/cad.h)
+INSTALL = install -m 644
+
+all: build/libcad.a build/cad.pc
+
+console: build/console
+
+# The archive is asked for every time, since only rt knows whether a source is newer; what it wrote is taken over if it is another one.
+build/libcad.a: FORCE
+	@mkdir -p build
+ifeq ($(ARCHIVE),)
+	@[ -f target/staticlib/libconsole.a ] || echo 'proving console and the crates below it; the first time takes some minutes' >&2
+	@rt staticlib console >build/staticlib.log 2>&1 </dev/null || { tail -n 5 build/staticlib.log >&2; exit 1; }
+	@cmp -s target/staticlib/libconsole.a $@ || cp target/staticlib/libconsole.a $@
+else
+	@cmp -s $(ARCHIVE) $@ || cp $(ARCHIVE) $@
+endif
+
+# As written, cad.pc has the folders of one installation, so it is made anew each time.
+build/cad.pc: cad.pc.in include/cad.h FORCE
+	@mkdir -p build
+	@sed -e 's|@PREFIX@|$(PREFIX)|' -e 's|@INCLUDEDIR@|$(INCLUDEDIR)|' -e 's|@LIBDIR@|$(LIBDIR)|' -e 's|@VERSION@|$(VERSION)|' \
+	    cad.pc.in >$@
+
+build/console: examples/console.c include/cad.h build/libcad.a
+	tests/cc c $@ $(CFLAGS) -Iinclude examples/console.c build/libcad.a
+
+install: all
+	install -d $(DESTDIR)$(INCLUDEDIR) $(DESTDIR)$(LIBDIR)/pkgconfig $(DESTDIR)$(MANDIR)/man1 $(DESTDIR)$(MANDIR)/man3
+	$(INSTALL) include/cad.h $(DESTDIR)$(INCLUDEDIR)/cad.h
+	$(INSTALL) build/libcad.a $(DESTDIR)$(LIBDIR)/libcad.a
+	$(INSTALL) build/cad.pc $(DESTDIR)$(LIBDIR)/pkgconfig/cad.pc
+	$(INSTALL) man/listing.1 $(DESTDIR)$(MANDIR)/man1/listing.1
+	$(INSTALL) man/cad_read.3 man/cad_write.3 $(DESTDIR)$(MANDIR)/man3
+
+uninstall:
+	rm -f $(DESTDIR)$(INCLUDEDIR)/cad.h $(DESTDIR)$(LIBDIR)/libcad.a $(DESTDIR)$(LIBDIR)/pkgconfig/cad.pc \
+	    $(DESTDIR)$(MANDIR)/man1/listing.1 $(DESTDIR)$(MANDIR)/man3/cad_read.3 $(DESTDIR)$(MANDIR)/man3/cad_write.3
+
+check-c:
+	bash tests/c.test
+	bash tests/differential.test
+
+clean:
+	rm -rf build
+
+FORCE:
+
+.PHONY: all console install uninstall check-c clean FORCE

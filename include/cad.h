@@ -1,0 +1,644 @@
+/**
+ * @file cad.h
+ * @brief SS-CAD messages of ETS 300 392-12-6, read and written, for C99 and C++.
+ *
+ * Two functions, cad_read() and cad_write(), and names for the bytes that they take and give: a constant for every offset and small
+ * inline functions, so that no program counts bytes or mask bits by itself. docs/LAYOUTS.md has both layouts with worked examples,
+ * docs/REFUSALS.md the numbers, examples/console.c a program.
+ *
+ * Both functions are proved, for every content of every buffer and every length: they end, answer 0 or one number of cad_refusal,
+ * look at no bit past the message's length, and write nothing but what is said here; on a refusal, nothing at all. They allocate
+ * nothing and keep nothing between calls, so they may be called from several threads at once and from a signal handler.
+ *
+ * What no proof can cover is the caller's duty:
+ *  - a pointer leads to at least as many bytes as the length after it says; it may be NULL where that length is 0, and nowhere else;
+ *  - what is lent to be written (cad_read()'s value, cad_write()'s message and bits) overlaps nothing else that is lent;
+ *  - nothing that is lent changes during the call.
+ *
+ * The inline functions below the two are plain C, tested and not proved. They ask for whole buffers (a profile of
+ * #CAD_PROFILE_BYTES, a value of #CAD_VALUE_BYTES) and nothing else: an index that is not there reads as zero, and a number that its
+ * bytes can't hold, or an index that is not there, is never cut to fit but makes a profile that is refused with 1, or a value that is
+ * refused with 22.
+ */
+#ifndef CAD_H
+#define CAD_H
+
+#include <stddef.h>
+#include <stdint.h>
+
+#ifdef __cplusplus
+extern "C" {
+#endif
+
+/** The version of this interface; later ones append to both layouts and move nothing. */
+#define CAD_VERSION "1.0.0"
+
+/** @name Limits
+ * @{ */
+#define CAD_RANGES 16            /**< range values, 0 to 15, each with a meaning */
+#define CAD_POSTS 8              /**< the most posts of a profile */
+#define CAD_ADDRESSES 15         /**< the most addresses of a group */
+#define CAD_IDENTITIES 64        /**< the most identities of a group, so the most mask bits */
+#define CAD_READ_BITS 2048       /**< the most bits that cad_read() takes; more are refused with 3 */
+#define CAD_MESSAGE_BITS 1521    /**< the most bits that a message has: ACTIVATE with fifteen users and fifteen dispatchers */
+#define CAD_MESSAGE_BYTES 191    /**< an area of so many bytes has room for every message */
+/** @} */
+
+/** @name The profile's bytes
+ * Numbers of several bytes are big-endian.
+ * @{ */
+#define CAD_PROFILE_BYTES 39     /**< a profile has so many bytes, neither more nor fewer */
+#define CAD_PROFILE_SS_TYPE 0    /**< SS type, 0 to 63 */
+#define CAD_PROFILE_HOME 1       /**< home extension, 3 bytes */
+#define CAD_PROFILE_U 4          /**< U, the failure reason for an identity with no record, 0 to 127 */
+#define CAD_PROFILE_N 5          /**< N, the failure reason for another post's user, 0 to 127 */
+#define CAD_PROFILE_MEANINGS 6   /**< sixteen meanings, 1 byte each, see cad_meaning */
+#define CAD_PROFILE_COUNT 22     /**< how many posts there are, 1 to 8 */
+#define CAD_PROFILE_SHARES 23    /**< eight shares of #CAD_SHARE_BYTES; zero where there is no post */
+#define CAD_SHARE_BYTES 2        /**< a share: the reserved number, then the ceiling */
+/** @} */
+
+/** @name The value's bytes
+ * One layout for all messages; what a message doesn't carry is zero. Numbers of several bytes are big-endian.
+ * @{ */
+#define CAD_VALUE_BYTES 228           /**< a value has so many bytes */
+#define CAD_VALUE_PDU 0               /**< PDU type, see cad_pdu */
+#define CAD_VALUE_USER_RANGE 1        /**< range value of the users, 0 to 15 */
+#define CAD_VALUE_USERS 2             /**< fifteen user addresses of #CAD_ADDRESS_BYTES */
+#define CAD_VALUE_MASKED 107          /**< whether there is a mask, 0 or 1 */
+#define CAD_VALUE_MASK 108            /**< the mask, 8 bytes: identity i is bit 7 - i % 8 of byte i / 8 */
+#define CAD_VALUE_RESULT 116          /**< result: 1 accepted, 0 not accepted */
+#define CAD_VALUE_REASON 117          /**< reason, 0 to 127, where the result is 0 */
+#define CAD_VALUE_CAUSE 118           /**< cause, 0 to 31 */
+#define CAD_VALUE_IDENTIFIER 119      /**< call identifier, 2 bytes, 0 to 16,383 */
+#define CAD_VALUE_OPTION 121          /**< whether the option is there, 0 or 1 */
+#define CAD_VALUE_DISPATCHER_RANGE 122 /**< range value of the dispatchers, 0 to 15 */
+#define CAD_VALUE_DISPATCHERS 123     /**< fifteen dispatcher addresses of #CAD_ADDRESS_BYTES */
+#define CAD_ADDRESS_BYTES 7           /**< an address: kind, SSI in 3 bytes, extension in 3 bytes */
+#define CAD_ADDRESS_SSI 1             /**< the SSI within an address */
+#define CAD_ADDRESS_EXTENSION 4       /**< the extension within an address */
+/** @} */
+
+/** The PDU types that are carried. */
+enum cad_pdu {
+    CAD_ACTIVATE = 2,     /**< users, option: dispatchers */
+    CAD_ACTIVATE_ACK = 3, /**< users, mask, result, reason */
+    CAD_INTERROGATE = 8,  /**< user address 0 */
+    CAD_INTERCEPTED = 10, /**< cause, option: dispatcher address 0 */
+    CAD_ACCEPT = 12,      /**< call identifier */
+    CAD_ACCEPTED = 13,    /**< nothing more */
+    CAD_DIVERT = 15,      /**< call identifier */
+    CAD_DIVERTED = 16     /**< cause, option: dispatcher address 0 */
+};
+
+/** What cad_read() and cad_write() answer. Where several grounds hold, docs/REFUSALS.md says which number comes. */
+enum cad_refusal {
+    CAD_DONE = 0,                 /**< read, or written */
+    CAD_REFUSED_PROFILE = 1,      /**< the profile breaks a rule, or has not #CAD_PROFILE_BYTES bytes */
+    CAD_REFUSED_LENGTH = 3,       /**< reading: bit length 0, over #CAD_READ_BITS, or more than 8 times the bytes lent */
+    CAD_REFUSED_SHORT = 4,        /**< reading: an element reaches past the bit length */
+    CAD_REFUSED_SS_TYPE = 5,      /**< reading: the SS type is not the profile's */
+    CAD_REFUSED_UNKNOWN = 6,      /**< reading: PDU type 0, 1 or 19 to 31 */
+    CAD_REFUSED_NOT_CARRIED = 7,  /**< reading: a PDU type that is known and not carried */
+    CAD_REFUSED_RANGE = 9,        /**< reading: a range that is reserved, or means "none" for users */
+    CAD_REFUSED_KIND = 10,        /**< reading: an address of kind 0 or 3 */
+    CAD_REFUSED_ENDS = 11,        /**< reading: range ends that differ in kind or extension, fall, or span over 64 */
+    CAD_REFUSED_OPTION = 12,      /**< reading: O-bit 1 and no P-bit 1 */
+    CAD_REFUSED_LEFT_OVER = 13,   /**< reading: bits are left over */
+    CAD_REFUSED_ROOM = 14,        /**< the area lent is shorter than the value (reading) or the message (writing) */
+    CAD_REFUSED_VALUE = 22        /**< writing: the value is not a valid one, or has not #CAD_VALUE_BYTES bytes */
+};
+
+/** What a range value means, one byte of the profile. 1 to 15 mean a list of so many addresses. */
+enum cad_meaning {
+    CAD_MEANS_RESERVED = 0,   /**< refused */
+    CAD_MEANS_NOBODY = 16,    /**< no address follows */
+    CAD_MEANS_FIRST_LAST = 17 /**< two addresses follow, the first and the last of a range */
+};
+
+/** Kinds of address. */
+enum cad_kind {
+    CAD_KIND_HOME = 1,  /**< an SSI of the home network; the extension is zero here */
+    CAD_KIND_OTHER = 2  /**< an SSI with its extension */
+};
+
+/**
+ * @brief Reads a message.
+ *
+ * On 0 the first #CAD_VALUE_BYTES bytes of @p value are the value; the bytes after them stay as they were. On a refusal all do.
+ *
+ * @param profile     the profile
+ * @param profile_len its length, #CAD_PROFILE_BYTES
+ * @param message     the bytes of the message; its first bit is the top bit of byte 0
+ * @param message_len how many bytes are lent; there may be more than the message needs
+ * @param bits        the message's length in bits
+ * @param value       where the value goes
+ * @param value_len   how many bytes are lent there, at least #CAD_VALUE_BYTES
+ * @return 0, or the refusal: 1, then 3, then along the bits 4 to 13, then 14
+ */
+uint32_t cad_read(const uint8_t *profile, size_t profile_len, const uint8_t *message, size_t message_len, size_t bits, uint8_t *value,
+                  size_t value_len);
+
+/**
+ * @brief Writes a message.
+ *
+ * On 0 the message stands in @p message from byte 0, the spare bits of its last byte are zero, and the bytes after it stay as they
+ * were. On a refusal all do, and so does @p bits.
+ *
+ * @param profile     the profile
+ * @param profile_len its length, #CAD_PROFILE_BYTES
+ * @param value       the value
+ * @param value_len   its length, #CAD_VALUE_BYTES
+ * @param message     where the message goes
+ * @param message_len how many bytes are lent there; #CAD_MESSAGE_BYTES are always enough
+ * @param[out] bits   where the message's length in bits goes; never NULL
+ * @return 0, or the refusal: 1, then 22, then 14
+ */
+uint32_t cad_write(const uint8_t *profile, size_t profile_len, const uint8_t *value, size_t value_len, uint8_t *message,
+                   size_t message_len, size_t *bits);
+
+#ifdef __cplusplus
+}
+#endif
+
+/** @name Words
+ * @{ */
+
+/** The name of a PDU type that is carried, in capitals; of any other, "?". */
+static inline const char *cad_pdu_name(unsigned pdu)
+{
+    switch (pdu) {
+    case CAD_ACTIVATE: return "ACTIVATE";
+    case CAD_ACTIVATE_ACK: return "ACTIVATE ACK";
+    case CAD_INTERROGATE: return "INTERROGATE";
+    case CAD_INTERCEPTED: return "INTERCEPTED";
+    case CAD_ACCEPT: return "ACCEPT";
+    case CAD_ACCEPTED: return "ACCEPTED";
+    case CAD_DIVERT: return "DIVERT";
+    case CAD_DIVERTED: return "DIVERTED";
+    default: return "?";
+    }
+}
+
+/** What an answer of cad_read() or cad_write() says, in words; of a number that they never give, "?". */
+static inline const char *cad_refusal_text(uint32_t refusal)
+{
+    switch (refusal) {
+    case CAD_DONE: return "done";
+    case CAD_REFUSED_PROFILE: return "the profile breaks a rule";
+    case CAD_REFUSED_LENGTH: return "no bits, over 2048, or more than the bytes have";
+    case CAD_REFUSED_SHORT: return "an element reaches past the bit length";
+    case CAD_REFUSED_SS_TYPE: return "the SS type is not the profile's";
+    case CAD_REFUSED_UNKNOWN: return "the PDU type is unknown";
+    case CAD_REFUSED_NOT_CARRIED: return "the PDU type is not carried";
+    case CAD_REFUSED_RANGE: return "the range is reserved, or means none for users";
+    case CAD_REFUSED_KIND: return "an address of kind 0 or 3";
+    case CAD_REFUSED_ENDS: return "range ends that differ, fall, or span over 64";
+    case CAD_REFUSED_OPTION: return "O-bit 1 and no P-bit 1";
+    case CAD_REFUSED_LEFT_OVER: return "bits are left over";
+    case CAD_REFUSED_ROOM: return "the area is too short";
+    case CAD_REFUSED_VALUE: return "the value is not a valid one";
+    default: return "?";
+    }
+}
+
+/** @} */
+
+/** @name Numbers of several bytes
+ * @{ */
+
+/** The number in @p count bytes (at most 4), big-endian. */
+static inline uint32_t cad_get_number(const uint8_t *bytes, size_t count)
+{
+    uint32_t number = 0;
+    size_t i;
+    for (i = 0; i < count; i++)
+        number = (number << 8) | bytes[i];
+    return number;
+}
+
+/** Puts a number into @p count bytes (at most 4), big-endian. Answers 1, or 0 if it doesn't fit, and then puts nothing. */
+static inline int cad_put_number(uint8_t *bytes, size_t count, uint32_t number)
+{
+    size_t i;
+    if (count < 4 && number >> (8 * count) != 0)
+        return 0;
+    for (i = count; i > 0; i--) {
+        bytes[i - 1] = (uint8_t)(number & 0xFFu);
+        number >>= 8;
+    }
+    return 1;
+}
+
+/** Puts @p number into one byte, or a number that no field allows if it doesn't fit. */
+static inline void cad_put_byte(uint8_t *byte, unsigned number)
+{
+    *byte = (uint8_t)(number > 0xFFu ? 0xFFu : number);
+}
+
+/** @} */
+
+/** @name Profiles
+ * Start one, give its ranges meanings and add its posts; or take the sample.
+ * @{ */
+
+/** Starts a profile: all ranges reserved, no post yet. */
+static inline void cad_profile_start(uint8_t *profile, unsigned ss_type, uint32_t home, unsigned no_record, unsigned other_post)
+{
+    size_t i;
+    for (i = 0; i < CAD_PROFILE_BYTES; i++)
+        profile[i] = 0;
+    cad_put_byte(profile + CAD_PROFILE_SS_TYPE, ss_type);
+    cad_put_byte(profile + CAD_PROFILE_U, no_record);
+    cad_put_byte(profile + CAD_PROFILE_N, other_post);
+    if (!cad_put_number(profile + CAD_PROFILE_HOME, 3, home))
+        profile[CAD_PROFILE_SS_TYPE] = 0xFF;
+}
+
+/** Gives a range value its meaning: one of cad_meaning, or 1 to 15 for a list of so many. */
+static inline void cad_profile_set_meaning(uint8_t *profile, unsigned range, unsigned meaning)
+{
+    if (range < CAD_RANGES)
+        cad_put_byte(profile + CAD_PROFILE_MEANINGS + range, meaning);
+    else
+        profile[CAD_PROFILE_SS_TYPE] = 0xFF;
+}
+
+/** Adds a post with its reserved number and its ceiling. */
+static inline void cad_profile_add_post(uint8_t *profile, unsigned reserved, unsigned ceiling)
+{
+    unsigned post = profile[CAD_PROFILE_COUNT];
+    if (post < CAD_POSTS) {
+        cad_put_byte(profile + CAD_PROFILE_SHARES + CAD_SHARE_BYTES * post, reserved);
+        cad_put_byte(profile + CAD_PROFILE_SHARES + CAD_SHARE_BYTES * post + 1, ceiling);
+    }
+    cad_put_byte(profile + CAD_PROFILE_COUNT, post + 1);
+}
+
+/** The sample profile, which the listing uses: SS type 9, home 0, range 0 nobody, 1 to 3 lists, 15 first and last, two posts. */
+static inline void cad_profile_sample(uint8_t *profile)
+{
+    cad_profile_start(profile, 9, 0, 1, 2);
+    cad_profile_set_meaning(profile, 0, CAD_MEANS_NOBODY);
+    cad_profile_set_meaning(profile, 1, 1);
+    cad_profile_set_meaning(profile, 2, 2);
+    cad_profile_set_meaning(profile, 3, 3);
+    cad_profile_set_meaning(profile, 15, CAD_MEANS_FIRST_LAST);
+    cad_profile_add_post(profile, 2, 30);
+    cad_profile_add_post(profile, 4, 8);
+}
+
+/** The SS type. */
+static inline unsigned cad_profile_ss_type(const uint8_t *profile)
+{
+    return profile[CAD_PROFILE_SS_TYPE];
+}
+
+/** The home extension. */
+static inline uint32_t cad_profile_home(const uint8_t *profile)
+{
+    return cad_get_number(profile + CAD_PROFILE_HOME, 3);
+}
+
+/** U, the failure reason for an identity with no record. */
+static inline unsigned cad_profile_no_record(const uint8_t *profile)
+{
+    return profile[CAD_PROFILE_U];
+}
+
+/** N, the failure reason for another post's user. */
+static inline unsigned cad_profile_other_post(const uint8_t *profile)
+{
+    return profile[CAD_PROFILE_N];
+}
+
+/** The meaning of a range value: one of cad_meaning, or 1 to 15 for a list of so many; reserved for a range over 15. */
+static inline unsigned cad_profile_meaning(const uint8_t *profile, unsigned range)
+{
+    return range < CAD_RANGES ? profile[CAD_PROFILE_MEANINGS + range] : 0u;
+}
+
+/** How many posts there are. */
+static inline unsigned cad_profile_posts(const uint8_t *profile)
+{
+    return profile[CAD_PROFILE_COUNT];
+}
+
+/** The reserved number of a post, from 0; 0 for a post from 8 on. */
+static inline unsigned cad_profile_reserved(const uint8_t *profile, unsigned post)
+{
+    return post < CAD_POSTS ? profile[CAD_PROFILE_SHARES + CAD_SHARE_BYTES * post] : 0u;
+}
+
+/** The ceiling of a post, from 0; 0 for a post from 8 on. */
+static inline unsigned cad_profile_ceiling(const uint8_t *profile, unsigned post)
+{
+    return post < CAD_POSTS ? profile[CAD_PROFILE_SHARES + CAD_SHARE_BYTES * post + 1] : 0u;
+}
+
+/** @} */
+
+/** @name Addresses and identities
+ * @{ */
+
+/** An address as it stands on the air. */
+struct cad_address {
+    unsigned kind;      /**< see cad_kind; 0 where there is no address */
+    uint32_t ssi;       /**< 24 bits */
+    uint32_t extension; /**< 24 bits; zero with kind 1 */
+};
+
+/** Whom an address means: SSI and extension, the home extension with kind 1. */
+struct cad_identity {
+    uint32_t ssi;       /**< 24 bits */
+    uint32_t extension; /**< 24 bits */
+};
+
+/** An address of kind 1. */
+static inline struct cad_address cad_address_home(uint32_t ssi)
+{
+    struct cad_address address;
+    address.kind = CAD_KIND_HOME;
+    address.ssi = ssi;
+    address.extension = 0;
+    return address;
+}
+
+/** An address of kind 2. */
+static inline struct cad_address cad_address_other(uint32_t ssi, uint32_t extension)
+{
+    struct cad_address address;
+    address.kind = CAD_KIND_OTHER;
+    address.ssi = ssi;
+    address.extension = extension;
+    return address;
+}
+
+/** Whom an address means under a profile. */
+static inline struct cad_identity cad_address_identity(const uint8_t *profile, struct cad_address address)
+{
+    struct cad_identity identity;
+    identity.ssi = address.ssi;
+    identity.extension = address.kind == CAD_KIND_HOME ? cad_profile_home(profile) : address.extension;
+    return identity;
+}
+
+/** The address in #CAD_ADDRESS_BYTES bytes. */
+static inline struct cad_address cad_get_address(const uint8_t *bytes)
+{
+    struct cad_address address;
+    address.kind = bytes[0];
+    address.ssi = cad_get_number(bytes + CAD_ADDRESS_SSI, 3);
+    address.extension = cad_get_number(bytes + CAD_ADDRESS_EXTENSION, 3);
+    return address;
+}
+
+/** Puts an address into #CAD_ADDRESS_BYTES bytes. Answers 1, or 0 if a number doesn't fit. */
+static inline int cad_put_address(uint8_t *bytes, struct cad_address address)
+{
+    cad_put_byte(bytes, address.kind);
+    return cad_put_number(bytes + CAD_ADDRESS_SSI, 3, address.ssi) &&
+           cad_put_number(bytes + CAD_ADDRESS_EXTENSION, 3, address.extension);
+}
+
+/** @} */
+
+/** @name Values, read
+ * What each message carries stands beside its name in cad_pdu; all else of a value that was read is zero.
+ * @{ */
+
+/** The PDU type, see cad_pdu. */
+static inline unsigned cad_value_pdu(const uint8_t *value)
+{
+    return value[CAD_VALUE_PDU];
+}
+
+/** The range value of the users. */
+static inline unsigned cad_value_user_range(const uint8_t *value)
+{
+    return value[CAD_VALUE_USER_RANGE];
+}
+
+/** User address @p k, from 0; all zero where there is none. */
+static inline struct cad_address cad_value_user(const uint8_t *value, unsigned k)
+{
+    static const uint8_t none[CAD_ADDRESS_BYTES] = {0, 0, 0, 0, 0, 0, 0};
+    return cad_get_address(k < CAD_ADDRESSES ? value + CAD_VALUE_USERS + CAD_ADDRESS_BYTES * k : none);
+}
+
+/** Whether there is a mask. */
+static inline int cad_value_masked(const uint8_t *value)
+{
+    return value[CAD_VALUE_MASKED] != 0;
+}
+
+/** The mask bit of identity @p i, from 0; 0 where there is none. The first identity is number 0. */
+static inline unsigned cad_value_mask_bit(const uint8_t *value, unsigned i)
+{
+    return i < CAD_IDENTITIES ? (value[CAD_VALUE_MASK + i / 8] >> (7 - i % 8)) & 1u : 0u;
+}
+
+/** The result of an ACTIVATE ACK: 1 accepted, 0 not accepted. */
+static inline unsigned cad_value_result(const uint8_t *value)
+{
+    return value[CAD_VALUE_RESULT];
+}
+
+/** The reason of an ACTIVATE ACK that is not accepted. */
+static inline unsigned cad_value_reason(const uint8_t *value)
+{
+    return value[CAD_VALUE_REASON];
+}
+
+/** The cause of INTERCEPTED and DIVERTED. */
+static inline unsigned cad_value_cause(const uint8_t *value)
+{
+    return value[CAD_VALUE_CAUSE];
+}
+
+/** The call identifier of ACCEPT and DIVERT. */
+static inline unsigned cad_value_identifier(const uint8_t *value)
+{
+    return (unsigned)cad_get_number(value + CAD_VALUE_IDENTIFIER, 2);
+}
+
+/** Whether the option is there: dispatchers. */
+static inline int cad_value_option(const uint8_t *value)
+{
+    return value[CAD_VALUE_OPTION] != 0;
+}
+
+/** The range value of the dispatchers. */
+static inline unsigned cad_value_dispatcher_range(const uint8_t *value)
+{
+    return value[CAD_VALUE_DISPATCHER_RANGE];
+}
+
+/** Dispatcher address @p k, from 0; all zero where there is none. */
+static inline struct cad_address cad_value_dispatcher(const uint8_t *value, unsigned k)
+{
+    static const uint8_t none[CAD_ADDRESS_BYTES] = {0, 0, 0, 0, 0, 0, 0};
+    return cad_get_address(k < CAD_ADDRESSES ? value + CAD_VALUE_DISPATCHERS + CAD_ADDRESS_BYTES * k : none);
+}
+
+/** How many addresses a meaning asks for: 1 to 15 for a list, 2 for first and last, else 0. */
+static inline unsigned cad_meaning_addresses(unsigned meaning)
+{
+    if (meaning == CAD_MEANS_FIRST_LAST)
+        return 2;
+    return meaning <= CAD_ADDRESSES ? meaning : 0u;
+}
+
+/** How many user addresses a value has under a profile. INTERROGATE has one. */
+static inline unsigned cad_value_users(const uint8_t *profile, const uint8_t *value)
+{
+    switch (cad_value_pdu(value)) {
+    case CAD_INTERROGATE: return 1;
+    case CAD_ACTIVATE:
+    case CAD_ACTIVATE_ACK: return cad_meaning_addresses(cad_profile_meaning(profile, cad_value_user_range(value)));
+    default: return 0;
+    }
+}
+
+/** How many dispatcher addresses a value has under a profile. INTERCEPTED and DIVERTED have one, with the option. */
+static inline unsigned cad_value_dispatchers(const uint8_t *profile, const uint8_t *value)
+{
+    if (!cad_value_option(value))
+        return 0;
+    switch (cad_value_pdu(value)) {
+    case CAD_INTERCEPTED:
+    case CAD_DIVERTED: return 1;
+    case CAD_ACTIVATE: return cad_meaning_addresses(cad_profile_meaning(profile, cad_value_dispatcher_range(value)));
+    default: return 0;
+    }
+}
+
+/** Whether the users are the first and the last of a range. */
+static inline int cad_value_users_first_last(const uint8_t *profile, const uint8_t *value)
+{
+    return (cad_value_pdu(value) == CAD_ACTIVATE || cad_value_pdu(value) == CAD_ACTIVATE_ACK) &&
+           cad_profile_meaning(profile, cad_value_user_range(value)) == CAD_MEANS_FIRST_LAST;
+}
+
+/** How many identities the users are under a profile, 0 to 64; so many bits has their mask. */
+static inline unsigned cad_value_identities(const uint8_t *profile, const uint8_t *value)
+{
+    uint32_t first, last;
+    if (!cad_value_users_first_last(profile, value))
+        return cad_value_users(profile, value);
+    first = cad_value_user(value, 0).ssi;
+    last = cad_value_user(value, 1).ssi;
+    if (last < first)
+        return 1;
+    return last - first < CAD_IDENTITIES ? (unsigned)(last - first) + 1u : (unsigned)CAD_IDENTITIES;
+}
+
+/** Identity @p i of the users, from 0, whose mask bit is cad_value_mask_bit() of the same @p i; all zero where there is none. */
+static inline struct cad_identity cad_value_identity(const uint8_t *profile, const uint8_t *value, unsigned i)
+{
+    struct cad_identity identity = {0, 0};
+    if (i >= cad_value_identities(profile, value))
+        return identity;
+    if (!cad_value_users_first_last(profile, value))
+        return cad_address_identity(profile, cad_value_user(value, i));
+    identity = cad_address_identity(profile, cad_value_user(value, 0));
+    identity.ssi += i;
+    return identity;
+}
+
+/** @} */
+
+/** @name Values, to be written
+ * Start one with its PDU type and set what that message carries.
+ * @{ */
+
+/** Starts a value: the PDU type, and zero in all else. */
+static inline void cad_value_start(uint8_t *value, unsigned pdu)
+{
+    size_t i;
+    for (i = 0; i < CAD_VALUE_BYTES; i++)
+        value[i] = 0;
+    cad_put_byte(value + CAD_VALUE_PDU, pdu);
+}
+
+/** Sets the range value of the users. */
+static inline void cad_value_set_user_range(uint8_t *value, unsigned range)
+{
+    cad_put_byte(value + CAD_VALUE_USER_RANGE, range);
+}
+
+/** Sets user address @p k, from 0. */
+static inline void cad_value_set_user(uint8_t *value, unsigned k, struct cad_address address)
+{
+    if (k >= CAD_ADDRESSES || !cad_put_address(value + CAD_VALUE_USERS + CAD_ADDRESS_BYTES * k, address))
+        value[CAD_VALUE_PDU] = 0xFF;
+}
+
+/** Says that there is a mask. */
+static inline void cad_value_set_masked(uint8_t *value)
+{
+    value[CAD_VALUE_MASKED] = 1;
+}
+
+/** Sets the mask bit of identity @p i, from 0, to 0 or (any other @p bit) to 1, and says that there is a mask. */
+static inline void cad_value_set_mask_bit(uint8_t *value, unsigned i, unsigned bit)
+{
+    cad_value_set_masked(value);
+    if (i < CAD_IDENTITIES) {
+        unsigned one = 0x80u >> (i % 8);
+        unsigned byte = value[CAD_VALUE_MASK + i / 8];
+        value[CAD_VALUE_MASK + i / 8] = (uint8_t)(bit != 0 ? byte | one : byte & ~one);
+    } else {
+        value[CAD_VALUE_PDU] = 0xFF;
+    }
+}
+
+/** Sets the result: 1 accepted, 0 not accepted. */
+static inline void cad_value_set_result(uint8_t *value, unsigned result)
+{
+    cad_put_byte(value + CAD_VALUE_RESULT, result);
+}
+
+/** Sets the reason, 0 to 127, of a result of 0. */
+static inline void cad_value_set_reason(uint8_t *value, unsigned reason)
+{
+    cad_put_byte(value + CAD_VALUE_REASON, reason);
+}
+
+/** Sets the cause, 0 to 31. */
+static inline void cad_value_set_cause(uint8_t *value, unsigned cause)
+{
+    cad_put_byte(value + CAD_VALUE_CAUSE, cause);
+}
+
+/** Sets the call identifier, 0 to 16,383. */
+static inline void cad_value_set_identifier(uint8_t *value, uint32_t identifier)
+{
+    if (!cad_put_number(value + CAD_VALUE_IDENTIFIER, 2, identifier))
+        value[CAD_VALUE_PDU] = 0xFF;
+}
+
+/** Says that the option is there. */
+static inline void cad_value_set_option(uint8_t *value)
+{
+    value[CAD_VALUE_OPTION] = 1;
+}
+
+/** Sets the range value of the dispatchers, and says that the option is there. */
+static inline void cad_value_set_dispatcher_range(uint8_t *value, unsigned range)
+{
+    cad_value_set_option(value);
+    cad_put_byte(value + CAD_VALUE_DISPATCHER_RANGE, range);
+}
+
+/** Sets dispatcher address @p k, from 0, and says that the option is there. */
+static inline void cad_value_set_dispatcher(uint8_t *value, unsigned k, struct cad_address address)
+{
+    cad_value_set_option(value);
+    if (k >= CAD_ADDRESSES || !cad_put_address(value + CAD_VALUE_DISPATCHERS + CAD_ADDRESS_BYTES * k, address))
+        value[CAD_VALUE_PDU] = 0xFF;
+}
+
+/** @} */
+
+#endif

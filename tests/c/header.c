@@ -1,0 +1,404 @@
+/*
+ * The header's constants, accessors and setters against the layout, whose numbers are typed in here from docs/LAYOUTS.md. It is C99 and
+ * C++ alike, and is built as both. Prints how many checks were made; status 1 if one failed.
+ */
+#include "cad.h"
+
+#include <stdio.h>
+#include <string.h>
+
+static unsigned long checks, failures;
+
+#define CHECK(what)                                                                                                                    \
+    do {                                                                                                                               \
+        checks++;                                                                                                                      \
+        if (!(what)) {                                                                                                                 \
+            failures++;                                                                                                                \
+            printf("header.c:%d: not so: %s\n", __LINE__, #what);                                                                      \
+        }                                                                                                                              \
+    } while (0)
+
+static const uint8_t zeros[CAD_VALUE_BYTES] = {0};
+
+/* Under this profile range 0 is nobody, 1 to 3 are lists, 7 is a list of fifteen, 15 is first and last; home is 0x0A0B0C. */
+static void home_profile(uint8_t *profile)
+{
+    cad_profile_sample(profile);
+    profile[1] = 0x0A;
+    profile[2] = 0x0B;
+    profile[3] = 0x0C;
+    profile[6 + 7] = 15;
+}
+
+static void constants(void)
+{
+    CHECK(CAD_PROFILE_BYTES == 39 && CAD_VALUE_BYTES == 228 && CAD_ADDRESS_BYTES == 7 && CAD_SHARE_BYTES == 2);
+    CHECK(CAD_PROFILE_SS_TYPE == 0 && CAD_PROFILE_HOME == 1 && CAD_PROFILE_U == 4 && CAD_PROFILE_N == 5);
+    CHECK(CAD_PROFILE_MEANINGS == 6 && CAD_PROFILE_COUNT == 22 && CAD_PROFILE_SHARES == 23);
+    CHECK(CAD_VALUE_PDU == 0 && CAD_VALUE_USER_RANGE == 1 && CAD_VALUE_USERS == 2 && CAD_VALUE_MASKED == 107);
+    CHECK(CAD_VALUE_MASK == 108 && CAD_VALUE_RESULT == 116 && CAD_VALUE_REASON == 117 && CAD_VALUE_CAUSE == 118);
+    CHECK(CAD_VALUE_IDENTIFIER == 119 && CAD_VALUE_OPTION == 121 && CAD_VALUE_DISPATCHER_RANGE == 122);
+    CHECK(CAD_VALUE_DISPATCHERS == 123 && CAD_ADDRESS_SSI == 1 && CAD_ADDRESS_EXTENSION == 4);
+    CHECK(CAD_RANGES == 16 && CAD_POSTS == 8 && CAD_ADDRESSES == 15 && CAD_IDENTITIES == 64);
+    CHECK(CAD_READ_BITS == 2048 && CAD_MESSAGE_BITS == 1521 && CAD_MESSAGE_BYTES == (1521 + 7) / 8);
+    /* the areas end where the layouts end */
+    CHECK(CAD_PROFILE_MEANINGS + CAD_RANGES == CAD_PROFILE_COUNT);
+    CHECK(CAD_PROFILE_SHARES + CAD_POSTS * CAD_SHARE_BYTES == CAD_PROFILE_BYTES);
+    CHECK(CAD_VALUE_USERS + CAD_ADDRESSES * CAD_ADDRESS_BYTES == CAD_VALUE_MASKED);
+    CHECK(CAD_VALUE_MASK + CAD_IDENTITIES / 8 == CAD_VALUE_RESULT);
+    CHECK(CAD_VALUE_DISPATCHERS + CAD_ADDRESSES * CAD_ADDRESS_BYTES == CAD_VALUE_BYTES);
+
+    CHECK(CAD_ACTIVATE == 2 && CAD_ACTIVATE_ACK == 3 && CAD_INTERROGATE == 8 && CAD_INTERCEPTED == 10);
+    CHECK(CAD_ACCEPT == 12 && CAD_ACCEPTED == 13 && CAD_DIVERT == 15 && CAD_DIVERTED == 16);
+    CHECK(CAD_MEANS_RESERVED == 0 && CAD_MEANS_NOBODY == 16 && CAD_MEANS_FIRST_LAST == 17);
+    CHECK(CAD_KIND_HOME == 1 && CAD_KIND_OTHER == 2);
+    CHECK(CAD_DONE == 0 && CAD_REFUSED_PROFILE == 1 && CAD_REFUSED_LENGTH == 3 && CAD_REFUSED_SHORT == 4);
+    CHECK(CAD_REFUSED_SS_TYPE == 5 && CAD_REFUSED_UNKNOWN == 6 && CAD_REFUSED_NOT_CARRIED == 7 && CAD_REFUSED_RANGE == 9);
+    CHECK(CAD_REFUSED_KIND == 10 && CAD_REFUSED_ENDS == 11 && CAD_REFUSED_OPTION == 12 && CAD_REFUSED_LEFT_OVER == 13);
+    CHECK(CAD_REFUSED_ROOM == 14 && CAD_REFUSED_VALUE == 22);
+}
+
+static void words(void)
+{
+    static const struct {
+        unsigned pdu;
+        const char *name;
+    } names[] = {{2, "ACTIVATE"}, {3, "ACTIVATE ACK"}, {8, "INTERROGATE"}, {10, "INTERCEPTED"},
+                 {12, "ACCEPT"},  {13, "ACCEPTED"},    {15, "DIVERT"},     {16, "DIVERTED"}};
+    static const unsigned given[] = {0, 1, 3, 4, 5, 6, 7, 9, 10, 11, 12, 13, 14, 22};
+    unsigned number, named = 0, said = 0;
+    size_t i;
+    for (i = 0; i < sizeof names / sizeof names[0]; i++)
+        CHECK(strcmp(cad_pdu_name(names[i].pdu), names[i].name) == 0);
+    for (i = 0; i < sizeof given / sizeof given[0]; i++)
+        CHECK(strcmp(cad_refusal_text(given[i]), "?") != 0);
+    for (number = 0; number < 300; number++) {
+        named += strcmp(cad_pdu_name(number), "?") != 0;
+        said += strcmp(cad_refusal_text(number), "?") != 0;
+    }
+    CHECK(named == sizeof names / sizeof names[0]);
+    CHECK(said == sizeof given / sizeof given[0]);
+}
+
+static void profiles(void)
+{
+    static const uint8_t sample[39] = {9, 0, 0, 0,  1, 2, 16, 1, 2, 3, 0, 0, 0, 0, 0, 0, 0, 0, 0, 0,
+                                       0, 17, 2, 2, 30, 4, 8, 0, 0, 0, 0, 0, 0, 0, 0, 0, 0, 0, 0};
+    uint8_t profile[39], other[39];
+    unsigned i;
+    memset(profile, 0xAA, sizeof profile);
+    cad_profile_sample(profile);
+    CHECK(memcmp(profile, sample, sizeof sample) == 0);
+
+    for (i = 0; i < 39; i++)
+        profile[i] = (uint8_t)(37 * i + 11);
+    CHECK(cad_profile_ss_type(profile) == profile[0]);
+    CHECK(cad_profile_home(profile) == 65536ul * profile[1] + 256ul * profile[2] + profile[3]);
+    CHECK(cad_profile_no_record(profile) == profile[4]);
+    CHECK(cad_profile_other_post(profile) == profile[5]);
+    for (i = 0; i < 16; i++)
+        CHECK(cad_profile_meaning(profile, i) == profile[6 + i]);
+    CHECK(cad_profile_meaning(profile, 16) == 0 && cad_profile_meaning(profile, ~0u) == 0);
+    CHECK(cad_profile_posts(profile) == profile[22]);
+    for (i = 0; i < 8; i++) {
+        CHECK(cad_profile_reserved(profile, i) == profile[23 + 2 * i]);
+        CHECK(cad_profile_ceiling(profile, i) == profile[24 + 2 * i]);
+    }
+    CHECK(cad_profile_reserved(profile, 8) == 0 && cad_profile_ceiling(profile, 8) == 0);
+
+    memset(profile, 0xAA, sizeof profile);
+    cad_profile_start(profile, 63, 0xABCDEF, 127, 126);
+    memset(other, 0, sizeof other);
+    other[0] = 63;
+    other[1] = 0xAB;
+    other[2] = 0xCD;
+    other[3] = 0xEF;
+    other[4] = 127;
+    other[5] = 126;
+    CHECK(memcmp(profile, other, sizeof other) == 0);
+    for (i = 0; i < 16; i++) {
+        cad_profile_set_meaning(profile, i, i + 1);
+        other[6 + i] = (uint8_t)(i + 1);
+        CHECK(memcmp(profile, other, sizeof other) == 0);
+    }
+    for (i = 0; i < 8; i++) {
+        cad_profile_add_post(profile, i, 32 - i);
+        other[22] = (uint8_t)(i + 1);
+        other[23 + 2 * i] = (uint8_t)i;
+        other[24 + 2 * i] = (uint8_t)(32 - i);
+        CHECK(memcmp(profile, other, sizeof other) == 0);
+    }
+    /* a ninth post, a range that is not there and numbers that no byte holds */
+    cad_profile_add_post(profile, 0, 1);
+    other[22] = 9;
+    CHECK(memcmp(profile, other, sizeof other) == 0);
+    cad_profile_set_meaning(profile, 16, 1);
+    other[0] = 0xFF;
+    CHECK(memcmp(profile, other, sizeof other) == 0);
+    cad_profile_start(profile, 9, 0x1000000, 1, 2);
+    CHECK(profile[0] == 0xFF);
+    cad_profile_start(profile, 256 + 9, 0, 256 + 1, 256 + 2);
+    CHECK(profile[0] == 0xFF && profile[4] == 0xFF && profile[5] == 0xFF);
+    cad_profile_set_meaning(profile, 3, 256 + 1);
+    CHECK(profile[6 + 3] == 0xFF);
+}
+
+static int is_address(struct cad_address address, unsigned kind, uint32_t ssi, uint32_t extension)
+{
+    return address.kind == kind && address.ssi == ssi && address.extension == extension;
+}
+
+static int is_identity(struct cad_identity identity, uint32_t ssi, uint32_t extension)
+{
+    return identity.ssi == ssi && identity.extension == extension;
+}
+
+static uint32_t three(const uint8_t *bytes)
+{
+    return 65536u * bytes[0] + 256u * bytes[1] + bytes[2];
+}
+
+static void accessors(void)
+{
+    uint8_t value[228];
+    unsigned i, k;
+    for (i = 0; i < 228; i++)
+        value[i] = (uint8_t)(37 * i + 11);
+    CHECK(cad_value_pdu(value) == value[0]);
+    CHECK(cad_value_user_range(value) == value[1]);
+    for (k = 0; k < 15; k++) {
+        const uint8_t *user = value + 2 + 7 * k, *dispatcher = value + 123 + 7 * k;
+        CHECK(is_address(cad_value_user(value, k), user[0], three(user + 1), three(user + 4)));
+        CHECK(is_address(cad_value_dispatcher(value, k), dispatcher[0], three(dispatcher + 1), three(dispatcher + 4)));
+    }
+    CHECK(is_address(cad_value_user(value, 15), 0, 0, 0) && is_address(cad_value_dispatcher(value, 15), 0, 0, 0));
+    CHECK(is_address(cad_value_user(value, ~0u), 0, 0, 0) && is_address(cad_value_dispatcher(value, ~0u), 0, 0, 0));
+    CHECK(cad_value_result(value) == value[116]);
+    CHECK(cad_value_reason(value) == value[117]);
+    CHECK(cad_value_cause(value) == value[118]);
+    CHECK(cad_value_identifier(value) == 256u * value[119] + value[120]);
+    CHECK(cad_value_dispatcher_range(value) == value[122]);
+    value[107] = 0;
+    value[121] = 1;
+    CHECK(!cad_value_masked(value) && cad_value_option(value));
+    value[107] = 1;
+    value[121] = 0;
+    CHECK(cad_value_masked(value) && !cad_value_option(value));
+    /* one mask bit at a time: the first identity is the top bit of byte 108, the ninth that of byte 109 */
+    for (i = 0; i < 64; i++) {
+        memset(value + 108, 0, 8);
+        value[108 + i / 8] = (uint8_t)(128 >> (i % 8));
+        for (k = 0; k < 64; k++)
+            CHECK(cad_value_mask_bit(value, k) == (k == i));
+    }
+    memset(value, 0xFF, sizeof value);
+    CHECK(cad_value_mask_bit(value, 63) == 1 && cad_value_mask_bit(value, 64) == 0 && cad_value_mask_bit(value, ~0u) == 0);
+}
+
+static void setters(void)
+{
+    uint8_t value[228], other[228];
+    unsigned i, k;
+    memset(value, 0xAA, sizeof value);
+    memset(other, 0, sizeof other);
+    cad_value_start(value, 16);
+    other[0] = 16;
+    CHECK(memcmp(value, other, sizeof other) == 0);
+
+#define SETS(call, change)                                                                                                             \
+    do {                                                                                                                               \
+        cad_value_start(value, 3);                                                                                                     \
+        memset(other, 0, sizeof other);                                                                                                \
+        other[0] = 3;                                                                                                                  \
+        call;                                                                                                                          \
+        change;                                                                                                                        \
+        CHECK(memcmp(value, other, sizeof other) == 0);                                                                                \
+    } while (0)
+    SETS(cad_value_set_user_range(value, 15), other[1] = 15);
+    SETS(cad_value_set_masked(value), other[107] = 1);
+    SETS(cad_value_set_result(value, 1), other[116] = 1);
+    SETS(cad_value_set_reason(value, 127), other[117] = 127);
+    SETS(cad_value_set_cause(value, 31), other[118] = 31);
+    SETS(cad_value_set_identifier(value, 0x3FFE), (other[119] = 0x3F, other[120] = 0xFE));
+    SETS(cad_value_set_option(value), other[121] = 1);
+    SETS(cad_value_set_dispatcher_range(value, 3), (other[121] = 1, other[122] = 3));
+    for (k = 0; k < 15; k++) {
+        static const uint8_t home[7] = {1, 0xAB, 0xCD, 0xEF, 0, 0, 0}, far[7] = {2, 0x12, 0x34, 0x56, 0xFE, 0xDC, 0xBA};
+        SETS(cad_value_set_user(value, k, cad_address_home(0xABCDEF)), memcpy(other + 2 + 7 * k, home, 7));
+        SETS(cad_value_set_user(value, k, cad_address_other(0x123456, 0xFEDCBA)), memcpy(other + 2 + 7 * k, far, 7));
+        SETS(cad_value_set_dispatcher(value, k, cad_address_home(0xABCDEF)),
+             (other[121] = 1, memcpy(other + 123 + 7 * k, home, 7)));
+        SETS(cad_value_set_dispatcher(value, k, cad_address_other(0x123456, 0xFEDCBA)),
+             (other[121] = 1, memcpy(other + 123 + 7 * k, far, 7)));
+    }
+    for (i = 0; i < 64; i++) {
+        SETS(cad_value_set_mask_bit(value, i, 1), (other[107] = 1, other[108 + i / 8] = (uint8_t)(128 >> (i % 8))));
+        SETS((cad_value_set_mask_bit(value, i, 2), cad_value_set_mask_bit(value, i, 0)), other[107] = 1);
+    }
+#undef SETS
+
+    /* nothing is cut to fit: a number too large, or an index that is not there, leaves a value that can't be written */
+#define SPOILS(call, byte)                                                                                                             \
+    do {                                                                                                                               \
+        cad_value_start(value, 3);                                                                                                     \
+        call;                                                                                                                          \
+        CHECK(value[byte] == 0xFF);                                                                                                    \
+    } while (0)
+    SPOILS(cad_value_start(value, 256 + 13), 0);
+    SPOILS(cad_value_set_user_range(value, 256 + 15), 1);
+    SPOILS(cad_value_set_dispatcher_range(value, 256 + 15), 122);
+    SPOILS(cad_value_set_result(value, 256 + 1), 116);
+    SPOILS(cad_value_set_reason(value, 256 + 1), 117);
+    SPOILS(cad_value_set_cause(value, 256 + 1), 118);
+    SPOILS(cad_value_set_identifier(value, 65536 + 5), 0);
+    SPOILS(cad_value_set_user(value, 0, cad_address_home(0x1000001)), 0);
+    SPOILS(cad_value_set_user(value, 0, cad_address_other(1, 0x1000001)), 0);
+    SPOILS(cad_value_set_user(value, 15, cad_address_home(1)), 0);
+    SPOILS(cad_value_set_dispatcher(value, 0, cad_address_home(0x1000001)), 0);
+    SPOILS(cad_value_set_dispatcher(value, 15, cad_address_home(1)), 0);
+    SPOILS(cad_value_set_mask_bit(value, 64, 1), 0);
+#undef SPOILS
+}
+
+static void identities(void)
+{
+    uint8_t profile[39], value[228];
+    unsigned i;
+    home_profile(profile);
+
+    cad_value_start(value, CAD_ACTIVATE_ACK);
+    cad_value_set_user_range(value, 15);
+    cad_value_set_user(value, 0, cad_address_home(1001));
+    cad_value_set_user(value, 1, cad_address_home(1004));
+    CHECK(cad_value_users(profile, value) == 2 && cad_value_users_first_last(profile, value));
+    CHECK(cad_value_identities(profile, value) == 4);
+    for (i = 0; i < 4; i++)
+        CHECK(is_identity(cad_value_identity(profile, value, i), 1001 + i, 0x0A0B0C));
+    CHECK(is_identity(cad_value_identity(profile, value, 4), 0, 0));
+    /* one identity, 64, and ranges that no reading gives */
+    cad_value_set_user(value, 1, cad_address_home(1001));
+    CHECK(cad_value_identities(profile, value) == 1);
+    cad_value_set_user(value, 1, cad_address_home(1064));
+    CHECK(cad_value_identities(profile, value) == 64 && is_identity(cad_value_identity(profile, value, 63), 1064, 0x0A0B0C));
+    cad_value_set_user(value, 1, cad_address_home(1065));
+    CHECK(cad_value_identities(profile, value) == 64);
+    cad_value_set_user(value, 1, cad_address_home(0xFFFFFF));
+    CHECK(cad_value_identities(profile, value) == 64);
+    cad_value_set_user(value, 1, cad_address_home(1000));
+    CHECK(cad_value_identities(profile, value) == 1);
+    /* of kind 2 the extension is its own */
+    cad_value_set_user(value, 0, cad_address_other(7, 5));
+    cad_value_set_user(value, 1, cad_address_other(8, 5));
+    CHECK(is_identity(cad_value_identity(profile, value, 1), 8, 5));
+
+    cad_value_start(value, CAD_ACTIVATE);
+    cad_value_set_user_range(value, 7);
+    for (i = 0; i < 15; i++)
+        cad_value_set_user(value, i, i % 2 == 0 ? cad_address_home(100 + i) : cad_address_other(100 + i, i));
+    CHECK(cad_value_users(profile, value) == 15 && !cad_value_users_first_last(profile, value));
+    CHECK(cad_value_identities(profile, value) == 15);
+    for (i = 0; i < 15; i++)
+        CHECK(is_identity(cad_value_identity(profile, value, i), 100 + i, i % 2 == 0 ? 0x0A0B0C : i));
+    CHECK(cad_value_dispatchers(profile, value) == 0);
+    cad_value_set_dispatcher_range(value, 15);
+    CHECK(cad_value_dispatchers(profile, value) == 2);
+    cad_value_set_dispatcher_range(value, 0);
+    CHECK(cad_value_dispatchers(profile, value) == 0);
+    cad_value_set_dispatcher_range(value, 3);
+    CHECK(cad_value_dispatchers(profile, value) == 3);
+    for (i = 0; i < 256; i++)
+        CHECK(cad_meaning_addresses(i) == (i == 17 ? 2 : i <= 15 ? i : 0u));
+    /* nobody, reserved, and a range that is no range value */
+    cad_value_set_user_range(value, 0);
+    CHECK(cad_value_identities(profile, value) == 0);
+    cad_value_set_user_range(value, 4);
+    CHECK(cad_value_identities(profile, value) == 0);
+    cad_value_set_user_range(value, 16);
+    CHECK(cad_value_identities(profile, value) == 0);
+
+    cad_value_start(value, CAD_INTERROGATE);
+    cad_value_set_user(value, 0, cad_address_home(1001));
+    CHECK(cad_value_users(profile, value) == 1 && cad_value_identities(profile, value) == 1);
+    CHECK(is_identity(cad_value_identity(profile, value, 0), 1001, 0x0A0B0C));
+    CHECK(cad_value_dispatchers(profile, value) == 0);
+
+    cad_value_start(value, CAD_DIVERTED);
+    CHECK(cad_value_identities(profile, value) == 0 && cad_value_dispatchers(profile, value) == 0);
+    cad_value_set_dispatcher(value, 0, cad_address_home(9));
+    CHECK(cad_value_dispatchers(profile, value) == 1);
+    cad_value_start(value, CAD_INTERCEPTED);
+    cad_value_set_dispatcher(value, 0, cad_address_home(9));
+    CHECK(cad_value_dispatchers(profile, value) == 1);
+    cad_value_start(value, CAD_ACCEPT);
+    CHECK(cad_value_users(profile, value) == 0 && cad_value_identities(profile, value) == 0);
+}
+
+/* The two functions themselves, where the header's words meet them; the differential test is elsewhere. */
+static void functions(void)
+{
+    static const uint8_t case_8[9] = {0x24, 0x5E, 0x80, 0x01, 0xF4, 0xA0, 0x00, 0x7D, 0x80};
+    uint8_t profile[39], value[228], read[228], message[CAD_MESSAGE_BYTES];
+    size_t bits = 77;
+    unsigned k;
+    cad_profile_sample(profile);
+    cad_value_start(value, CAD_ACTIVATE);
+    cad_value_set_user_range(value, 15);
+    cad_value_set_user(value, 0, cad_address_home(1001));
+    cad_value_set_user(value, 1, cad_address_home(1004));
+    CHECK(cad_write(profile, sizeof profile, value, sizeof value, message, sizeof message, &bits) == CAD_DONE);
+    CHECK(bits == 68 && memcmp(message, case_8, sizeof case_8) == 0);
+    CHECK(cad_read(profile, sizeof profile, case_8, sizeof case_8, 68, read, sizeof read) == CAD_DONE);
+    CHECK(memcmp(read, value, sizeof value) == 0);
+
+    /* no bytes at all: NULL with the length 0 */
+    bits = 77;
+    CHECK(cad_read(NULL, 0, case_8, sizeof case_8, 68, read, sizeof read) == CAD_REFUSED_PROFILE);
+    CHECK(cad_read(profile, sizeof profile, NULL, 0, 68, read, sizeof read) == CAD_REFUSED_LENGTH);
+    CHECK(cad_read(profile, sizeof profile, case_8, sizeof case_8, 68, NULL, 0) == CAD_REFUSED_ROOM);
+    CHECK(cad_write(NULL, 0, value, sizeof value, message, sizeof message, &bits) == CAD_REFUSED_PROFILE);
+    CHECK(cad_write(profile, sizeof profile, NULL, 0, message, sizeof message, &bits) == CAD_REFUSED_VALUE);
+    CHECK(cad_write(profile, sizeof profile, value, sizeof value, NULL, 0, &bits) == CAD_REFUSED_ROOM);
+    CHECK(bits == 77);
+
+    /* what the setters spoil is refused */
+    cad_value_set_user(value, 2, cad_address_home(0x1000000));
+    CHECK(cad_write(profile, sizeof profile, value, sizeof value, message, sizeof message, &bits) == CAD_REFUSED_VALUE);
+    cad_profile_start(profile, 9, 0x1000000, 1, 2);
+    cad_profile_add_post(profile, 2, 30);
+    CHECK(cad_read(profile, sizeof profile, case_8, sizeof case_8, 68, read, sizeof read) == CAD_REFUSED_PROFILE);
+    cad_profile_sample(profile);
+    for (k = 2; k < 9; k++)
+        cad_profile_add_post(profile, 0, 1);
+    CHECK(cad_read(profile, sizeof profile, case_8, sizeof case_8, 68, read, sizeof read) == CAD_REFUSED_PROFILE);
+
+    /* the longest message: fifteen users and fifteen dispatchers of kind 2 */
+    home_profile(profile);
+    cad_value_start(value, CAD_ACTIVATE);
+    cad_value_set_user_range(value, 7);
+    cad_value_set_dispatcher_range(value, 7);
+    for (k = 0; k < 15; k++) {
+        cad_value_set_user(value, k, cad_address_other(k, k));
+        cad_value_set_dispatcher(value, k, cad_address_other(k, 0xFFFFFF - k));
+    }
+    CHECK(cad_write(profile, sizeof profile, value, sizeof value, message, sizeof message, &bits) == CAD_DONE);
+    CHECK(bits == CAD_MESSAGE_BITS);
+    CHECK(cad_read(profile, sizeof profile, message, sizeof message, bits, read, sizeof read) == CAD_DONE);
+    CHECK(memcmp(read, value, sizeof value) == 0);
+    CHECK(cad_write(profile, sizeof profile, value, sizeof value, message, sizeof message - 1, &bits) == CAD_REFUSED_ROOM);
+
+    cad_value_start(read, 0);
+    CHECK(memcmp(read, zeros, sizeof zeros) == 0);
+}
+
+int main(void)
+{
+    constants();
+    words();
+    profiles();
+    accessors();
+    setters();
+    identities();
+    functions();
+    printf("%lu checks of the header, %lu failed\n", checks, failures);
+    return failures == 0 ? 0 : 1;
+}

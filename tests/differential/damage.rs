@@ -1,0 +1,114 @@
+//! Profiles and values in bytes with something changed, mostly one step off a rule. Some come out
+//! good all the same.
+
+use crate::dice::Dice;
+
+const POSTS: usize = 22;
+const SHARES: usize = 23;
+
+pub fn profile(dice: &mut Dice, good: &[u8]) -> Vec<u8> {
+    let mut bytes = good.to_vec();
+    match dice.below(14) {
+        0 | 1 => flip(dice, &mut bytes),
+        2 => any_byte(dice, &mut bytes),
+        3 => length(dice, &mut bytes),
+        4 => bytes[0] = dice.pick(&[63, 64, 65, 127, 128, 255]),
+        5 => bytes[4] = dice.pick(&[126, 127, 128, 129, 255]),
+        6 => bytes[5] = dice.pick(&[126, 127, 128, 129, 255]),
+        7 => bytes[6 + dice.below(16)] = dice.pick(&[0, 1, 14, 15, 16, 17, 18, 19, 32, 255]),
+        8 => bytes[POSTS] = dice.pick(&[0, 1, 7, 8, 9, 16, 255]),
+        9 => {
+            // one post more or fewer, whose share is not what it should be
+            let posts = bytes[POSTS];
+            bytes[POSTS] = if dice.one_in(2) { posts + 1 } else { posts - 1 };
+        }
+        10 => bytes[SHARES + 2 * dice.below(8)] = dice.pick(&[0, 1, 30, 31, 32, 33, 255]),
+        11 => bytes[SHARES + 1 + 2 * dice.below(8)] = dice.pick(&[0, 1, 31, 32, 33, 34, 255]),
+        12 => {
+            // a reserved number around its ceiling
+            let post = dice.below(usize::from(bytes[POSTS]));
+            let ceiling = bytes[SHARES + 1 + 2 * post];
+            bytes[SHARES + 2 * post] = dice.pick(&[ceiling - 1, ceiling, ceiling + 1]);
+        }
+        _ => reserved_sum(dice, &mut bytes),
+    }
+    bytes
+}
+
+/// Eight posts with 31, 32 or 33 places reserved among them, or 256 more than those.
+fn reserved_sum(dice: &mut Dice, bytes: &mut [u8]) {
+    bytes[POSTS] = 8;
+    let over = dice.pick(&[0, 224]);
+    let mut left = 30 + dice.below(4) + over;
+    for post in 0..8 {
+        let reserved = if post == 7 {
+            left.min(255)
+        } else {
+            dice.below(left.min(if over == 0 { 10 } else { 32 }) + 1)
+        };
+        left -= reserved;
+        bytes[SHARES + 2 * post] = reserved as u8;
+        bytes[SHARES + 1 + 2 * post] = 32;
+    }
+}
+
+/// A value with one field at an edge, or any of its bits or bytes changed.
+pub fn value(dice: &mut Dice, good: &[u8]) -> Vec<u8> {
+    let mut bytes = good.to_vec();
+    let place = match dice.below(3) {
+        0 => 0,
+        1 => 1,
+        _ => dice.below(15),
+    };
+    let address = dice.pick(&[2, 123]) + 7 * place;
+    match dice.below(16) {
+        0 => flip(dice, &mut bytes),
+        1 => any_byte(dice, &mut bytes),
+        2 => bytes[0] = dice.number(5) as u8,
+        3 => bytes[1] = dice.below(18) as u8,
+        4 => bytes[122] = dice.below(18) as u8,
+        5 => bytes[107] = dice.pick(&[0, 1, 1, 2, 255]),
+        6 => bytes[108 + dice.below(8)] ^= 1 << dice.below(8),
+        7 => bytes[116] = dice.pick(&[0, 1, 2, 255]),
+        8 => bytes[117] = dice.pick(&[0, 1, 127, 128, 255]),
+        9 => bytes[118] = dice.pick(&[0, 1, 31, 32, 255]),
+        10 => bytes[119] = dice.pick(&[0, 1, 63, 64, 255]),
+        11 => bytes[121] = dice.pick(&[0, 1, 1, 2, 255]),
+        12 => bytes[address] = dice.pick(&[0, 1, 2, 3, 255]),
+        13 => bytes[address + 4 + dice.below(3)] = dice.pick(&[0, 1, 255]),
+        14 => {
+            // range ends a step apart, either way, or as far as is allowed and one more
+            let first = bytes[address + 3];
+            let distance = dice.pick(&[0, 1, 2, 62, 63, 64, 65, 254, 255]);
+            if address + 10 < bytes.len() {
+                bytes[address + 10] = first.wrapping_add(distance);
+            }
+        }
+        _ => length(dice, &mut bytes),
+    }
+    bytes
+}
+
+fn flip(dice: &mut Dice, bytes: &mut [u8]) {
+    bytes[dice.below(bytes.len())] ^= 1 << dice.below(8);
+}
+
+fn any_byte(dice: &mut Dice, bytes: &mut [u8]) {
+    bytes[dice.below(bytes.len())] = dice.number(8) as u8;
+}
+
+/// Another length, often by one byte.
+fn length(dice: &mut Dice, bytes: &mut Vec<u8>) {
+    let own = bytes.len();
+    let other = match dice.below(8) {
+        0 => 0,
+        1 => 1,
+        2 => 2 * own,
+        3 => own + dice.below(100),
+        4 => dice.below(own),
+        5 => own + 1,
+        _ => own - 1,
+    };
+    let more = dice.pick(&[0, 0, 255]);
+    bytes.resize(other, more);
+}

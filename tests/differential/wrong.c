@@ -1,0 +1,70 @@
+/*
+ * Eight wrong products, each off in one thing now and then, made of the right one by the linker's --wrap; WRONG says which. With 0 it is
+ * the right one. The differential test has to find each of the others.
+ */
+#include "cad.h"
+
+#include <stdlib.h>
+
+uint32_t __real_cad_read(const uint8_t *, size_t, const uint8_t *, size_t, size_t, uint8_t *, size_t);
+uint32_t __real_cad_write(const uint8_t *, size_t, const uint8_t *, size_t, uint8_t *, size_t, size_t *);
+uint32_t __wrap_cad_read(const uint8_t *, size_t, const uint8_t *, size_t, size_t, uint8_t *, size_t);
+uint32_t __wrap_cad_write(const uint8_t *, size_t, const uint8_t *, size_t, uint8_t *, size_t, size_t *);
+
+static int wrong(void)
+{
+    const char *number = getenv("WRONG");
+    return number == NULL ? 0 : atoi(number);
+}
+
+uint32_t __wrap_cad_read(const uint8_t *profile, size_t profile_len, const uint8_t *message, size_t message_len, size_t bits,
+                         uint8_t *value, size_t value_len)
+{
+    uint32_t answer = __real_cad_read(profile, profile_len, message, message_len, bits, value, value_len);
+    switch (wrong()) {
+    case 1: /* one byte of the value, of one message with one cause */
+        if (answer == CAD_DONE && cad_value_pdu(value) == CAD_DIVERTED && cad_value_cause(value) == 31)
+            cad_value_set_cause(value, 30);
+        break;
+    case 2: /* the last of 64 mask bits is lost */
+        if (answer == CAD_DONE)
+            value[CAD_VALUE_MASK + 7] &= 0xFE;
+        break;
+    case 3: /* 14 comes before 13 */
+        if (answer == CAD_REFUSED_LEFT_OVER && value_len < CAD_VALUE_BYTES)
+            return CAD_REFUSED_ROOM;
+        break;
+    case 4: /* a refusal touches the area */
+        if (answer == CAD_REFUSED_ENDS && value_len > 0)
+            value[0] ^= 1;
+        break;
+    case 5: /* a step past the value's end */
+        if (answer == CAD_DONE && cad_value_pdu(value) == CAD_ACCEPTED)
+            value[CAD_VALUE_BYTES] ^= 1;
+        break;
+    default: break;
+    }
+    return answer;
+}
+
+uint32_t __wrap_cad_write(const uint8_t *profile, size_t profile_len, const uint8_t *value, size_t value_len, uint8_t *message,
+                          size_t message_len, size_t *bits)
+{
+    uint32_t answer = __real_cad_write(profile, profile_len, value, value_len, message, message_len, bits);
+    switch (wrong()) {
+    case 6: /* the byte after the message is cleared */
+        if (answer == CAD_DONE && (*bits + 7) / 8 < message_len)
+            message[(*bits + 7) / 8] = 0;
+        break;
+    case 7: /* the length is told though there is no room */
+        if (answer == CAD_REFUSED_ROOM)
+            *bits = 0;
+        break;
+    case 8: /* a spare bit is set */
+        if (answer == CAD_DONE && *bits % 8 == 7)
+            message[*bits / 8] |= 1;
+        break;
+    default: break;
+    }
+    return answer;
+}
