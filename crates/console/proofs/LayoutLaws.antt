@@ -368,7 +368,7 @@ profile-taken p ok plain spare =
     let known : (r : ℕ) → r < 16 → leb (getD b (6 + r) 0) 17 ≡ true =
     λ r k. ap (λ (c : ℕ). leb c 17)
     (sym (getD-drop 6 b r 0) ∙ ap (λ (y : List ℕ). getD y r 0) (ap (λ (y : List ℕ). drop 6 y) (profile-is p) ∙ past-run 3 h t nh 2) ∙ meaning-at (p .air .meanings) x r (omega (arith, plain .meanings)))
-    ∙ byte-small _ _ (good r k) in
+    ∙ byte-small (getD (p .air .meanings) r reserved .kind) (getD (p .air .meanings) r reserved .count) (good r k) in
     let zero-rest : areZero (drop (23 + 2 * getD b 22 0) b) ≡ true =
     ap (λ (k : ℕ). areZero (drop (23 + 2 * k) b)) posts
     ∙ ap (λ (y : List ℕ). areZero y) (rows (2 * p .shares .posts) ∙ rows-drop (p .shares .posts) (p .shares .share))
