@@ -6,8 +6,7 @@ use mathlib.Core.List.{List, [], _∷_, _++_, append-nil}
 use native.Mathlib.Nat.{add-zero, sub-zero, lt-of-lt-of-le}
 use native.Mathlib.Numerals.{add-one}
 use native.Mathlib.Omega.{arith}
-use lib.Dec.{eqb}
-use lib.ListN.{length, getD, take, drop, set, length-append, drop-of-length-le}
+use lib.ListN.{length, getD, drop, set, length-append, drop-of-length-le}
 use lib.Pow.{pow-add, pow-mono}
 use lib.Seq.{sets, sets-eq, length-sets, set-comm, getD-drop, drop-drop, drop-cons}
 use borrow.Author.Tests.{eq-eqb, ne-eqb}
@@ -59,7 +58,7 @@ sets-set {A} (x ∷ xs) l i j b h =
     sets-set xs (set l i x) (suc i) j b (omega arith) ∙ ap (λ (m : List A). sets m (suc i) xs) (set-comm l i j x b (λ e. omega arith))
 
 -- as many as there are places
-pub sets-all : {A : Type 0} (xs l : List A) → length xs ≡ length l → sets l 0 xs ≡ xs
+sets-all : {A : Type 0} (xs l : List A) → length xs ≡ length l → sets l 0 xs ≡ xs
 sets-all {A} xs l e =
     sets-eq xs l 0 (omega arith) ∙ ap (λ (m : List A). xs ++ m) (drop-of-length-le l {i = 0 + length xs} (omega arith)) ∙ append-nil xs
 

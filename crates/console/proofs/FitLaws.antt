@@ -8,7 +8,7 @@ use lib.Dec.{eqb, ltb}
 use lib.ListN.{length, take, drop, length-append, take-append-drop}
 use lib.Pow.{shl-lt}
 use borrow.Author.Tests.{eqb-true, ltb-true}
-use Rattle.codec.specs.Codec.{Codec, both, number, pure, choose, vecOk}
+use Rattle.codec.specs.Codec.{Codec, number, pure, choose, vecOk}
 use Rattle.codec.proofs.Good.{both-left, both-right, not-both}
 use Rattle.profile.specs.Rules.{meaningIn}
 use Rattle.profile.specs.declared.Air.{Air}

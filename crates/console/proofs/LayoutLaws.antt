@@ -5,7 +5,7 @@
 -- So bytes that are taken are the bytes of exactly one profile or value. And no valid value is left out, nor profile that keeps the rules:
 --     profile-taken, value-taken      its bytes are taken
 -- Assumes nothing.
-use Prim.Native.Nat.{ℕ, zero, suc, _+_, _*_, _^_, _≤_, _<_}
+use Prim.Native.Nat.{ℕ, zero, suc, _+_, _*_, _≤_, _<_}
 use mathlib.Core.Path.{_≡_, refl, sym, ap, _∙_}
 use mathlib.Core.Bool.{Bool, true, false, cond}
 use mathlib.Core.Logic.{⊎-elim}
@@ -13,10 +13,9 @@ use mathlib.Core.List.{List, [], _∷_, _++_, append-assoc, append-nil}
 use native.Mathlib.Omega.{arith}
 use lib.Dec.{eqb, leb}
 use lib.ListN.{length, getD, take, drop, length-append, length-drop}
-use lib.Seq.{sets, sets-eq, take-add, take-all, drop-cons, drop-drop, drop-at, drop-nil, getD-drop}
+use lib.Seq.{sets, sets-eq, take-add, take-all, take-at, drop-cons, drop-drop, drop-at, drop-nil, getD-drop}
 use borrow.Author.Tests.{eq-eqb, eqb-true, eqb-false, ne-eqb, leb-true, leb-false, le-leb}
 use Rattle.bits.proofs.SetLaws.{eq-or}
-use Rattle.codec.specs.Codec.{both}
 use Rattle.codec.proofs.Good.{both-true, both-left, both-right}
 use Rattle.profile.specs.Counting.{every, one}
 use Rattle.profile.proofs.CountLaws.{every-at}
@@ -190,6 +189,11 @@ pub value-area : (air : Air) (v : Value) (l : List ℕ) → validOf air v ≡ tr
 value-area air v l e h =
     let n = value-length v (valid-fits air v e) in
     sets-eq (valueBytes v) l 0 (omega (arith, n)) ∙ ap (λ (k : ℕ). valueBytes v ++ drop k l) (let z : 0 + length (valueBytes v) ≡ 228 = omega (arith, n) in z)
+
+-- so they are found there again
+pub area-value : (air : Air) (v : Value) (l : List ℕ) → validOf air v ≡ true → 228 ≤ length l → take 228 (sets l 0 (valueBytes v)) ≡ valueBytes v
+area-value air v l e h =
+    ap (λ (x : List ℕ). take 228 x) (value-area air v l e h) ∙ take-at (valueBytes v) (drop 228 l) 228 (value-length v (valid-fits air v e))
 
 -- ---- meanings and shares
 

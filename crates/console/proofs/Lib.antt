@@ -5,3 +5,4 @@ pub mod RowLaws
 pub mod FitLaws
 pub mod LayoutLaws
 pub mod RoundTrips
+pub mod Cases

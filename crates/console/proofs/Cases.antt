@@ -1,0 +1,152 @@
+-- The two layouts and the orders on examples, computed: the sample profile's bytes, the bytes of worked cases' values, and what `cad_read`
+-- and `cad_write` answer, each ground before the next. Assumes nothing.
+use Prim.Native.Nat.{ℕ, _*_, _^_}
+use mathlib.Core.Path.{_≡_, refl}
+use mathlib.Core.Bool.{true, false}
+use mathlib.Core.List as list
+use mathlib.Core.List.{List, [], _∷_, _++_}
+use lib.ListN.{replicate, set}
+use Rattle.bits.specs.Fields.{bitAt, fieldAt}
+use Rattle.bits.specs.Puts.{withDigit, setBit, putBits, binary, spare}
+use Rattle.codec.specs.Stops.{short, refusal}
+use Rattle.codec.specs.Codec.{both, number, vecRead}
+use Rattle.codec.specs.Options.{flag}
+use Rattle.profile.specs.Counting.{every, sum}
+use Rattle.profile.specs.Rules.{meaningOk, meaningIn, airOk, shareOk, shareIn, sharesOk, profileOk}
+use Rattle.profile.specs.Sample.{sample, sampleMeanings, sampleShare}
+use Rattle.message.specs.Addresses.{isNobody, kindC, extensionC, addressC}
+use Rattle.message.specs.Groups.{addressesIn, allowedIn, nobodies, areNobody, placesC, rangeOk, endsOk, addressesC, rangeC, groupC, noGroup, oneGroup, isNoGroup, isOneGroup, spanIn, spanOf}
+use Rattle.message.specs.Acks.{maskC, maskedC, resultC}
+use Rattle.message.specs.Values.{activateV, ackV, plainV, activateFits, ackFits, plainFits, interrogateFits, interceptedFits, callFits, acceptedFits}
+use Rattle.message.specs.Messages.{activateC, ackC, interrogateC, interceptedC, callC, acceptedC, bodyC, isKnown, isCarried, headerC, messageC}
+use Rattle.message.specs.Reading.{wholeOf, lengthOk, readBits, readOf}
+use Rattle.message.specs.declared.Value.{Value}
+use Rattle.validity.specs.Validity.{validOf}
+use Rattle.validity.proofs.Cases.{home, abroad, two, four, call}
+use Rattle.writing.specs.Writing.{bitsOf, padded, layOf, layIn, writeValid, writeOf}
+use Rattle.console.specs.Bytes.{numberFrom, numberBytes, rowsFrom, rowsBytes, areZero}
+use Rattle.console.specs.Profiles.{meaningBytes, meaningOf, shareBytes, shareFrom, profileBytes, airFrom, sharesFrom, profileFrom, isProfile, passes}
+use Rattle.console.specs.Values.{addressBytes, addressFrom, groupBytes, groupFrom, valueBytes, valueFrom, isValue}
+use Rattle.console.specs.Console.{roomFor, cadRead, readNumber, cadReadOf, cadWrite, writeNumber, cadWriteOf}
+
+abbrev zeros : ℕ → List ℕ
+zeros n = replicate n 0
+
+-- ---- the sample profile
+
+abbrev sampleBytes : List ℕ
+sampleBytes =
+    (9 ∷ 0 ∷ 0 ∷ 0 ∷ 1 ∷ 2 ∷ [])
+    ++ (16 ∷ 1 ∷ 2 ∷ 3 ∷ 0 ∷ 0 ∷ 0 ∷ 0 ∷ 0 ∷ 0 ∷ 0 ∷ 0 ∷ 0 ∷ 0 ∷ 0 ∷ 17 ∷ [])
+    ++ (2 ∷ 2 ∷ 30 ∷ 4 ∷ 8 ∷ [])
+    ++ zeros 12
+
+pub sample-written : profileBytes sample ≡ sampleBytes
+unfolding profileBytes numberBytes rowsBytes meaningBytes shareBytes sample sampleMeanings sampleShare
+sample-written = refl
+
+pub sample-taken : profileFrom sampleBytes ≡ sample
+unfolding profileFrom airFrom sharesFrom numberFrom rowsFrom meaningOf shareFrom sample sampleMeanings sampleShare
+sample-taken = refl
+
+-- ---- values
+
+-- a value and its bytes
+pub data Row : Type 0 where
+  row : Value → List ℕ → Row
+
+-- the addresses of 1,001 and 1,004
+abbrev ends : List ℕ
+ends = 1 ∷ 0 ∷ 3 ∷ 0xE9 ∷ 0 ∷ 0 ∷ 0 ∷ 1 ∷ 0 ∷ 3 ∷ 0xEC ∷ 0 ∷ 0 ∷ 0 ∷ []
+
+abbrev rows : List Row
+rows =
+    -- DIVERT of worked case 3: the identifier stands in bytes 119 and 120
+    row (call 15 16383) ((15 ∷ []) ++ zeros 118 ++ (0x3F ∷ 0xFF ∷ []) ++ zeros 107)
+    -- ACTIVATE of worked case 8
+    ∷ row (activateV four false noGroup) ((2 ∷ 15 ∷ []) ++ ends ++ zeros 212)
+    -- the first ACK of worked case 9: identities 0 and 1 have the top bits of byte 108
+    ∷ row (ackV four true (12 * 2 ^ 60) 1 0) ((3 ∷ 15 ∷ []) ++ ends ++ zeros 91 ++ (1 ∷ 0xC0 ∷ []) ++ zeros 7 ++ (1 ∷ []) ++ zeros 111)
+    -- a mask of 64 identities, of kind 2; a reason
+    ∷ row (ackV (two 15 (abroad 64 9) (abroad 127 9)) true 0x0123456789ABCDEF 0 127)
+    ((3 ∷ 15 ∷ 2 ∷ 0 ∷ 0 ∷ 64 ∷ 0 ∷ 0 ∷ 9 ∷ 2 ∷ 0 ∷ 0 ∷ 127 ∷ 0 ∷ 0 ∷ 9 ∷ []) ++ zeros 91 ++ (1 ∷ 0x01 ∷ 0x23 ∷ 0x45 ∷ 0x67 ∷ 0x89 ∷ 0xAB ∷ 0xCD ∷ 0xEF ∷ 0 ∷ 127 ∷ []) ++ zeros 110)
+    -- INTERCEPTED with an option: the dispatcher's address begins at byte 123
+    ∷ row (plainV 10 (record { kind = 0; ssi = 0; extension = 0 }) 2 0 true (home 1)) ((10 ∷ []) ++ zeros 117 ++ (2 ∷ 0 ∷ 0 ∷ 1 ∷ 0 ∷ 1 ∷ 0 ∷ 0 ∷ 1 ∷ []) ++ zeros 101)
+    ∷ []
+
+abbrev bytesIn : Row → List ℕ
+bytesIn (row v l) = l
+
+abbrev valueIn : Row → Value
+valueIn (row v l) = v
+
+pub rows-written : list.map (λ r. valueBytes (valueIn r)) rows ≡ list.map bytesIn rows
+unfolding valueBytes groupBytes addressBytes numberBytes rowsBytes activateV ackV plainV nobodies noGroup oneGroup
+rows-written = refl
+
+pub rows-taken : list.map (λ r. valueFrom (bytesIn r)) rows ≡ list.map valueIn rows
+unfolding valueFrom groupFrom addressFrom numberFrom rowsFrom activateV ackV plainV nobodies noGroup oneGroup
+rows-taken = refl
+
+-- ---- answers
+
+-- from the profile's bytes, the message, so many bits, and a value area of so many bytes: the number
+pub data Asked : Type 0 where
+  asked : List ℕ → List ℕ → ℕ → ℕ → ℕ → Asked
+
+abbrev accepted : List ℕ
+accepted = 0x25 ∷ 0xA0 ∷ []
+
+abbrev questions : List Asked
+questions =
+    asked sampleBytes accepted 11 228 0
+    -- 14 comes last: 13 and 3 before it
+    ∷ asked sampleBytes accepted 11 227 14
+    ∷ asked sampleBytes accepted 12 227 13
+    ∷ asked sampleBytes accepted 17 0 3
+    -- 1 before all: too few bytes, a byte too many, a meaning of 18, a row past the posts, nine posts, a ceiling of 0
+    ∷ asked (9 ∷ []) accepted 17 0 1
+    ∷ asked (sampleBytes ++ (0 ∷ [])) accepted 17 0 1
+    ∷ asked (set sampleBytes 10 18) accepted 17 0 1
+    ∷ asked (set sampleBytes 38 1) accepted 17 0 1
+    ∷ asked (set sampleBytes 22 9) accepted 17 0 1
+    ∷ asked (set sampleBytes 24 0) accepted 17 0 1
+    ∷ []
+
+abbrev gives : Asked → ℕ
+gives (asked p m n k c) = cadReadOf p m n (zeros k)
+
+abbrev wants : Asked → ℕ
+wants (asked p m n k c) = c
+
+pub answers-right : list.map gives questions ≡ list.map wants questions
+unfolding bitAt fieldAt short refusal both number vecRead flag every sum meaningOk meaningIn airOk shareOk shareIn sharesOk profileOk isNobody kindC extensionC addressC addressesIn allowedIn nobodies areNobody placesC rangeOk endsOk addressesC rangeC groupC noGroup oneGroup isNoGroup isOneGroup spanIn spanOf maskC maskedC resultC activateV ackV plainV activateFits ackFits plainFits interrogateFits interceptedFits callFits acceptedFits activateC ackC interrogateC interceptedC callC acceptedC bodyC isKnown isCarried headerC messageC wholeOf lengthOk readBits readOf numberFrom rowsFrom areZero meaningOf shareFrom airFrom sharesFrom profileFrom isProfile passes roomFor cadRead readNumber cadReadOf
+answers-right = refl
+
+-- of a value's bytes, into a message area of so many bytes
+pub data Told : Type 0 where
+  told : List ℕ → List ℕ → ℕ → ℕ → Told
+
+abbrev acceptedBytes : List ℕ
+acceptedBytes = (13 ∷ []) ++ zeros 227
+
+abbrev orders : List Told
+orders =
+    told sampleBytes acceptedBytes 2 0
+    -- 1, then 22 (by the shape, by a present byte, by a value that is not valid), then 14
+    ∷ told sampleBytes acceptedBytes 1 14
+    ∷ told sampleBytes (13 ∷ []) 1 22
+    ∷ told sampleBytes (set acceptedBytes 107 2) 1 22
+    ∷ told sampleBytes (set acceptedBytes 121 1) 1 22
+    ∷ told (set sampleBytes 22 0) (13 ∷ []) 1 1
+    ∷ []
+
+abbrev says : Told → ℕ
+says (told p v k c) = cadWriteOf p v (zeros k)
+
+abbrev expects : Told → ℕ
+expects (told p v k c) = c
+
+pub orders-right : list.map says orders ≡ list.map expects orders
+unfolding withDigit setBit putBits binary spare refusal both number flag every sum meaningOk meaningIn airOk shareOk shareIn sharesOk profileOk isNobody kindC extensionC addressC addressesIn allowedIn nobodies areNobody placesC rangeOk endsOk addressesC rangeC groupC noGroup oneGroup isNoGroup isOneGroup spanIn spanOf maskC maskedC resultC activateV ackV plainV activateFits ackFits plainFits interrogateFits interceptedFits callFits acceptedFits activateC ackC interrogateC interceptedC callC acceptedC bodyC isKnown isCarried headerC messageC validOf bitsOf padded layOf layIn writeValid writeOf numberFrom rowsFrom areZero meaningOf shareFrom airFrom sharesFrom profileFrom isProfile passes addressFrom groupFrom valueFrom isValue cadWrite writeNumber cadWriteOf
+orders-right = refl
