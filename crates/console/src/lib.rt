@@ -14,20 +14,22 @@ pub extern "C" fn cad_read(profile: &[u8], message: &[u8], bits: usize, value: &
     ensures { λ r. ⌜ (r ≡ cadReadOf (now (profile .entry)) (now (message .entry)) bits (now (value .entry)))
         × (now (value .exit) ≡ cadReadArea (now (profile .entry)) (now (message .entry)) bits (now (value .entry))) ⌝ }
 {
-    if profiles::passes(profile) {
-        let r = reading::read(profiles::profile_from(profile), message, bits);
-        if r.found {
-            if value.len() < 228 {
-                return 14;
-            }
-            let v = r.value;
-            values::put_value(value, v);
-            return 0;
-        }
-        let s = r.stop;
-        return s.number as u32;
+    if profiles::passes(profile) {} else {
+        return 1;
     }
-    1
+    let r = reading::read(profiles::profile_from(profile), message, bits);
+    let s = r.stop;
+    let number = s.number as u32;
+    let found = r.found;
+    if !found {
+        return number;
+    }
+    if value.len() < 228 {
+        return 14;
+    }
+    let v = r.value;
+    values::put_value(value, v);
+    0
 }
 
 // Writes the message of the value's bytes from the first byte of `message` on, and its length into `bits`.
