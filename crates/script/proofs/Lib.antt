@@ -1,2 +1,4 @@
 pub mod ShapeLaws
 pub mod TableLaws
+pub mod TextLaws
+pub mod WordLaws

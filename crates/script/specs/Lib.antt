@@ -1,3 +1,5 @@
 pub mod Shape
 pub mod Profiles
 pub mod Lines
+pub mod Texts
+pub mod Words
