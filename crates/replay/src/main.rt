@@ -115,8 +115,8 @@ fn no_rows() -> Rows {
 
 // The lines that end in a block, and the start of the next.
 fn feed(block: &[u8], output: &mut [u8], seen: SoFar) -> SoFar
-    requires { ⌜ (length (now output) ≡ 65536) × ((seen .done .filled ≤ 65536) × (seen .number + length (now block) ≤ 2 ^ 62)) ⌝ }
-    ensures { λ r. ⌜ (r .done .filled ≤ 65536) × (r .number ≤ seen .number + length (now (block .entry))) ⌝ }
+    requires { ⌜ (length (now output) ≡ 65536) × ((length (now block) ≤ 65536) × ((seen .done .filled ≤ 65536) × (seen .number + 65536 ≤ 2 ^ 62))) ⌝ }
+    ensures { λ r. ⌜ (r .done .filled ≤ 65536) × (r .number ≤ seen .number + 65536) ⌝ }
 {
     let mut number = seen.number;
     let mut done = seen.done;
@@ -126,10 +126,10 @@ fn feed(block: &[u8], output: &mut [u8], seen: SoFar) -> SoFar
         let end = line_end(block, from);
         if end < block.len() {
             let line = whole(kept, &block[from..end]);
-            number += 1;
-            done = carry_out(output, done, number, line);
-            kept = script::nothing_kept();
             from = end + 1;
+            number += 1;
+            kept = script::nothing_kept();
+            done = carry_out(output, done, number, line);
         } else {
             kept = script::keep(kept, &block[from..]);
             from = end;

@@ -1,6 +1,7 @@
 -- `replay::feed` meets its contract. Assumes nothing.
 use Prim.Native.Nat.{_+_, _-_, _≤_}
 use mathlib.Core.Path.{_≡_}
+use native.Mathlib.Omega.{arith}
 use lib.ListN.{length}
 use borrow.Author.Needs.{needs}
 use Rattle.codec.specs.Codec.{number}
@@ -33,23 +34,26 @@ part-whole-end c = search needs
 whole-requires : tie.Need-whole-requires Inv-loop μ-loop
 whole-requires c κs = search needs
 
+add-from : tie.Need-add-from Inv-loop μ-loop
+add-from c = search needs
+
 add-number : tie.Need-add-number Inv-loop μ-loop
 add-number c = search needs
-
-carry-out-requires : tie.Need-carry-out-requires Inv-loop μ-loop
-carry-out-requires c κs = search needs
 
 nothing-kept-requires : tie.Need-nothing-kept-requires Inv-loop μ-loop
 nothing-kept-requires c κs = search needs
 
-add-from : tie.Need-add-from Inv-loop μ-loop
-add-from c = search needs
+carry-out-requires : tie.Need-carry-out-requires Inv-loop μ-loop
+carry-out-requires c κs = search needs
 
 loop-less : tie.Need-loop-less Inv-loop μ-loop
 loop-less c = search needs
 
 loop-again : tie.Need-loop-again Inv-loop μ-loop
-loop-again c = search needs
+loop-again c = (
+  omega (arith, c .before .before .before .before .before .before .before .if1 .taken),
+  (omega (arith, c .before .before .before .before .before .before .before .before .before .before .loop .inv .1 .0, c .before .before .before .before .before .before .before .before .line-end .ensures .0), (c .before .before .carry-out .ensures, omega (arith, c .before .before .before .before .before .before .before .before .before .before .loop .inv .1 .1 .1))),
+)
 
 sub-keep : tie.Need-sub-keep Inv-loop μ-loop
 sub-keep c = search needs
@@ -87,10 +91,10 @@ feed-spec =
     part-whole-start
     part-whole-end
     whole-requires
-    add-number
-    carry-out-requires
-    nothing-kept-requires
     add-from
+    add-number
+    nothing-kept-requires
+    carry-out-requires
     loop-less
     loop-again
     sub-keep
