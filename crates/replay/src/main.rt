@@ -1,5 +1,5 @@
 // The replay program: a desk run from a script on standard input, one call a line, each answered in words on standard output
-// (docs/REPLAY.md). What a line asks for and what an answer says is `script`'s work, what a call does is `desk`'s; this keeps the desk,
+// (docs/REPLAY.md). What a line asks for is `script`'s work, what an answer says `words`', and what a call does `desk`'s; this keeps the desk,
 // the records and the length of the output area from line to line, reads and writes in blocks, numbers the lines, and finds their ends.
 ghost use mathlib.Core.Path.{_≡_};
 ghost use Prim.Native.Nat.{_+_, _^_, _≤_};
@@ -14,7 +14,7 @@ use records::Marks;
 use records::Record;
 use script::Line;
 use script::Order;
-use script::Text;
+use words::Text;
 
 struct Rows {
     row: [Record; 128],
@@ -75,7 +75,7 @@ fn start() -> SoFar
     ensures { λ r. ⌜ (r .number ≡ 0) × (r .done .filled ≡ 0) ⌝ }
 {
     let state = first_state();
-    let kept = script::nothing_kept();
+    let kept = words::nothing_kept();
     SoFar {
         number: 0,
         done: Done {
@@ -128,10 +128,10 @@ fn feed(block: &[u8], output: &mut [u8], seen: SoFar) -> SoFar
             let line = whole(kept, &block[from..end]);
             from = end + 1;
             number += 1;
-            kept = script::nothing_kept();
+            kept = words::nothing_kept();
             done = carry_out(output, done, number, line);
         } else {
-            kept = script::keep(kept, &block[from..]);
+            kept = words::keep(kept, &block[from..]);
             from = end;
         }
     }
@@ -162,7 +162,7 @@ fn whole(kept: Text, rest: &[u8]) -> Line {
     if kept.len == 0 {
         return script::parse(rest);
     }
-    script::parse_kept(script::keep(kept, rest))
+    script::parse_kept(words::keep(kept, rest))
 }
 
 // What is left: the last line may lack its LF.
@@ -221,7 +221,7 @@ fn not_understood(output: &mut [u8], filled: usize, number: u64, state: State) -
     requires { ⌜ (length (now output) ≡ 65536) × (filled ≤ 65536) ⌝ }
     ensures { λ r. ⌜ r .filled ≤ 65536 ⌝ }
 {
-    let text = script::keep(script::nothing_kept(), b"not understood");
+    let text = words::keep(words::nothing_kept(), b"not understood");
     silent(print(output, filled, number, text), state)
 }
 
@@ -271,7 +271,7 @@ fn called(
     let stepped = step(state, bytes, line.count, area, event);
     let answer = stepped.answer;
     let laid = stepped.laid;
-    let text = script::said(answer, laid, area);
+    let text = words::said(answer, laid, area);
     silent(print(output, filled, number, text), after(state, stepped))
 }
 
@@ -344,7 +344,7 @@ fn open(output: &mut [u8], filled: usize, number: u64, state: State, line: Line)
         return silent(filled, with_desk(state, desk));
     }
     silent(
-        print(output, filled, number, script::said_refused(stop.number)),
+        print(output, filled, number, words::said_refused(stop.number)),
         state,
     )
 }
@@ -478,7 +478,7 @@ fn print_places(output: &mut [u8], filled: usize, list: [Place; 32]) -> usize
     let mut i: u8 = 0;
     while i < 32 {
         let place = list[i as usize];
-        at = print_text(output, at, script::said_place(i, place));
+        at = print_text(output, at, words::said_place(i, place));
         i += 1;
     }
     at
@@ -492,7 +492,7 @@ fn print_rows(output: &mut [u8], filled: usize, rows: [Record; 128], first: u8) 
     let mut i: u8 = 0;
     while i < 128 {
         let row = rows[i as usize];
-        at = print_text(output, at, script::said_record(first + i, row));
+        at = print_text(output, at, words::said_record(first + i, row));
         i += 1;
     }
     at

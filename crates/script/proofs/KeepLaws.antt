@@ -20,14 +20,14 @@ use Rattle.lines.specs.Shape.{isDigit, hexOf, isHex}
 use Rattle.script.specs.Shape.{startsWith, noNumber, numberIf, digitsThen, numberAt, noRow, noNumbers, numbersFrom, numbersAt, noHex, hexThen, hexAt}
 use Rattle.script.specs.Profiles.{pairsIn}
 use Rattle.script.specs.Lines.{when, recordOrder, setUpOrder, rejectOrder, cancelOrder, outOrder, placeOrder, unplaceOrder, plainLine, messageLine, postLine, profileLine, orderOf, lineOf}
-use Rattle.script.specs.Texts.{noRoom, noText, textOf, keepOf}
+use Rattle.words.specs.Texts.{noRoom, noText, textOf, keepOf}
 use Rattle.script.specs.declared.Line.{Line}
 use Rattle.script.specs.declared.Order.{Order}
 use Rattle.script.specs.declared.Order.the-variants as order
 use Rattle.script.specs.declared.shape.Hex.{Hex}
 use Rattle.script.specs.declared.shape.Number.{Number}
 use Rattle.script.specs.declared.shape.Numbers.{Numbers}
-use Rattle.script.proofs.TextLaws.{keep-text}
+use Rattle.words.proofs.TextLaws.{keep-text}
 
 -- ---- a number ends within ten bytes
 

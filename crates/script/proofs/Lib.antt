@@ -1,5 +1,3 @@
 pub mod ShapeLaws
 pub mod TableLaws
-pub mod TextLaws
-pub mod WordLaws
 pub mod KeepLaws

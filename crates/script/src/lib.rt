@@ -1,30 +1,23 @@
-// One line of a desk script (docs/REPLAY.md): from its bytes to what it asks for, and from the desk's answer back to words.
+// One line of a desk script (docs/REPLAY.md): from its bytes to what it asks for.
 //
-// `parse` equals `lineOf` for every line, and `said` the text of `wordsOf` for every answer. Of a line that comes in pieces `keep` holds
-// the first 640 bytes, and `parse_kept` of these is what the whole line asks for, however long it is (proofs/KeepLaws). The files: shape
-// (keyword, numbers, hex), orders (the lines that are numbers alone), profiles (the profile of a `profile` line), texts (numbers and
-// bytes as text), words (the answers).
+// `parse` equals `lineOf` for every line. Of a line that comes in pieces the first 640 bytes are kept (`words`), and `parse_kept` of these
+// is what the whole line asks for, however long it is (proofs/KeepLaws). The files: shape (keyword, numbers, hex), orders (the lines that
+// are numbers alone), profiles (the profile of a `profile` line).
 ghost use mathlib.Core.Path.{_≡_};
 ghost use Rattle.script.specs.Shape.{numbersAt};
 ghost use lib.ListN.{take};
-ghost use Rattle.script.specs.Texts.{noText, textOf, keepOf};
-ghost use Rattle.script.specs.Words.{refusedOf, wordsOf, placeWords, recordWords};
 ghost use Rattle.script.specs.Lines.{plainLine, messageLine, postLine, profileLine, orderOf, lineOf};
-use desk::Answer;
 use desk::Event;
 use places::Place;
 use profile::Profile;
 use records::Record;
-use sending::Laid;
 use shape::Hex;
 use shape::Numbers;
-pub use texts::Text;
+use words::Text;
 
 mod orders;
 mod profiles;
 mod shape;
-mod texts;
-mod words;
 
 // What a line asks for: nothing that is understood; a call of the desk; a new desk; a record, the length of the output area or a place
 // that is set; all that there is, to be printed.
@@ -58,20 +51,6 @@ pub fn parse(line: &[u8]) -> Line
     plain_line(order_of(line))
 }
 
-// Nothing is there yet.
-pub fn nothing_kept() -> Text
-    ensures { λ r. ⌜ r ≡ noText ⌝ }
-{
-    texts::no_text()
-}
-
-// One more piece of a line, as far as there is room.
-pub fn keep(kept: Text, piece: &[u8]) -> Text
-    ensures { λ r. ⌜ r ≡ keepOf kept (now (piece .entry)) ⌝ }
-{
-    texts::kept(kept, piece)
-}
-
 // What a line asks for that came in pieces.
 pub fn parse_kept(kept: Text) -> Line
     ensures { λ r. ⌜ r ≡ lineOf (take (kept .len) (kept .bytes)) ⌝ }
@@ -88,34 +67,6 @@ fn parse_first(bytes: [u8; 640], len: usize) -> Line
         return parse(line);
     }
     parse(&line[..len])
-}
-
-// What is printed for an answer of the desk, after the line's number.
-pub fn said(answer: Answer, laid: Laid, area: &[u8]) -> Text
-    ensures { λ r. ⌜ r ≡ textOf (wordsOf answer laid (now (area .entry))) ⌝ }
-{
-    words::answer(texts::no_text(), answer, laid, area)
-}
-
-// What is printed for a refusal that is no answer to a call.
-pub fn said_refused(number: u8) -> Text
-    ensures { λ r. ⌜ r ≡ textOf (refusedOf number) ⌝ }
-{
-    words::refused(texts::no_text(), number)
-}
-
-// What is printed of a place in a dump.
-pub fn said_place(i: u8, place: Place) -> Text
-    ensures { λ r. ⌜ r ≡ textOf (placeWords i place) ⌝ }
-{
-    words::place_part(texts::no_text(), i, place)
-}
-
-// What is printed of a record in a dump.
-pub fn said_record(i: u8, row: Record) -> Text
-    ensures { λ r. ⌜ r ≡ textOf (recordWords i row) ⌝ }
-{
-    words::record_part(texts::no_text(), i, row)
 }
 
 fn order_of(line: &[u8]) -> Order
