@@ -12,3 +12,5 @@ pub mod Records
 pub mod Sending
 pub mod Desk
 pub mod Lines
+pub mod Words
+pub mod Script

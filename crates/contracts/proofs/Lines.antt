@@ -4,6 +4,8 @@ use Rattle.lines.proofs.said as said
 use Rattle.lines.proofs.nothing_kept as nothing-kept
 use Rattle.lines.proofs.keep as keep
 use Rattle.lines.proofs.said_kept as said-kept
+use Rattle.lines.proofs.is_digit as is-digit
+use Rattle.lines.proofs.hex_digit as hex-digit
 use Rattle.contracts.specs.Outcomes.{Decides}
 use Rattle.contracts.proofs.Law.{same-answer}
 
@@ -18,3 +20,9 @@ decides-keep = record { says = keep.Reads.Learnt; is = refl; one = λ κs a x y 
 
 pub decides-said-kept : Decides said-kept.ended (λ M. said-kept.spec)
 decides-said-kept = record { says = said-kept.Reads.Learnt; is = refl; one = λ κs a x y v w. same-answer }
+
+pub decides-is-digit : Decides is-digit.ended (λ M. is-digit.spec)
+decides-is-digit = record { says = is-digit.Reads.Learnt; is = refl; one = λ κs a x y v w. same-answer }
+
+pub decides-hex-digit : Decides hex-digit.ended (λ M. hex-digit.spec)
+decides-hex-digit = record { says = hex-digit.Reads.Learnt; is = refl; one = λ κs a x y v w. same-answer }

@@ -374,7 +374,7 @@ fn no_line() -> Parsed
     }
 }
 
-fn is_digit(b: u8) -> bool
+pub fn is_digit(b: u8) -> bool
     ensures { λ r. ⌜ r ≡ isDigit b ⌝ }
 {
     if b < 48 {
@@ -384,7 +384,7 @@ fn is_digit(b: u8) -> bool
 }
 
 // The worth of a hex digit, or 16.
-fn hex_digit(b: u8) -> u8
+pub fn hex_digit(b: u8) -> u8
     ensures { λ r. ⌜ r ≡ hexOf b ⌝ }
 {
     if b < 48 {

@@ -1,0 +1,68 @@
+-- `replay::print_rows` meets its contract. Assumes nothing.
+use Prim.Native.Nat.{_-_, _≤_}
+use mathlib.Core.Path.{_≡_}
+use lib.ListN.{length}
+use borrow.Author.Needs.{needs}
+use Rattle.replay.proofs.print_rows.Statement.{statement}
+use Rattle.replay.proofs.print_rows.Tie as tie
+
+abbrev Inv-loop : tie.InvT-loop
+Inv-loop output₀ filled first rows at₀ i₀ output at i = (i ≤ 128) × ((at ≤ 65536) × (length output ≡ 65536))
+
+abbrev μ-loop : tie.MeasureT-loop
+μ-loop output₀ filled first rows at₀ i₀ output at i = 128 - i
+
+loop-holds : tie.Need-loop-holds Inv-loop μ-loop
+loop-holds c = search needs
+
+cast-row : tie.Need-cast-row Inv-loop μ-loop
+cast-row c = search needs
+
+mul-row : tie.Need-mul-row Inv-loop μ-loop
+mul-row c = search needs
+
+array-copy-out-row : tie.Need-array-copy-out-row Inv-loop μ-loop
+array-copy-out-row c = search needs
+
+add-said-record : tie.Need-add-said-record Inv-loop μ-loop
+add-said-record c = search needs
+
+said-record-requires : tie.Need-said-record-requires Inv-loop μ-loop
+said-record-requires c κs = search needs
+
+print-text-requires : tie.Need-print-text-requires Inv-loop μ-loop
+print-text-requires c κs = search needs
+
+add-i : tie.Need-add-i Inv-loop μ-loop
+add-i c = search needs
+
+loop-less : tie.Need-loop-less Inv-loop μ-loop
+loop-less c = search needs
+
+loop-again : tie.Need-loop-again Inv-loop μ-loop
+loop-again c = search needs
+
+same-length : tie.Need-same-length Inv-loop μ-loop
+same-length c = search needs
+
+returns : tie.Need-returns Inv-loop μ-loop
+returns c = search needs
+
+pub print-rows-spec : {M : Type 1} → statement M
+print-rows-spec =
+    tie.close
+    (tie.spec
+    Inv-loop
+    μ-loop
+    loop-holds
+    cast-row
+    mul-row
+    array-copy-out-row
+    add-said-record
+    said-record-requires
+    print-text-requires
+    add-i
+    loop-less
+    loop-again
+    same-length
+    returns)

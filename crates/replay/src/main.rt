@@ -1,0 +1,582 @@
+// The replay program: a desk run from a script on standard input, one call a line, each answered in words on standard output
+// (docs/REPLAY.md). What a line asks for is `script`'s work, what an answer says `words`', and what a call does `desk`'s; this keeps the desk,
+// the records and the length of the output area from line to line, reads and writes in blocks, numbers the lines, and finds their ends.
+ghost use mathlib.Core.Path.{_≡_};
+ghost use Prim.Native.Nat.{_+_, _^_, _≤_};
+ghost use lib.ListN.{length};
+use desk::Desk;
+use desk::Event;
+use desk::Stepped;
+use places::Place;
+use places::Places;
+use profile::Profile;
+use records::Marks;
+use records::Record;
+use script::Line;
+use script::Order;
+use words::Text;
+
+struct Rows {
+    row: [Record; 128],
+}
+
+// What is lent from call to call: the desk, the first `lent` of 256 records, the first `room` bytes of the output area.
+struct State {
+    desk: Desk,
+    low: Rows,
+    high: Rows,
+    lent: usize,
+    room: usize,
+}
+
+// How much of the output block is filled, and the state after the lines so far.
+struct Done {
+    filled: usize,
+    state: State,
+}
+
+// How many lines there were, what they came to, and the start of a line whose end is still to come.
+struct SoFar {
+    number: u64,
+    done: Done,
+    kept: Text,
+}
+
+// The longest piece printed at once: a number of 20 digits, a space, 640 bytes and LF.
+const LONGEST: usize = 662;
+
+fn main() {
+    let mut input = io::large_buffer();
+    let mut output = io::large_buffer();
+    run(&mut input, &mut output);
+}
+
+// ---- the input
+
+// Block after block, up to 2 ^ 45 of them: a proved loop ends, and nothing says that the input does.
+fn run(input: &mut [u8], output: &mut [u8])
+    requires { ⌜ (length (now input) ≡ 65536) × (length (now output) ≡ 65536) ⌝ }
+{
+    let mut turns: u64 = 35184372088832;
+    let mut seen = start();
+    while turns > 0 {
+        let n = io::count(libc::read(0, input), input);
+        if n == 0 {
+            turns = 0;
+        } else {
+            seen = feed(&input[..n], output, seen);
+            turns -= 1;
+        }
+    }
+    finish(output, seen);
+}
+
+fn start() -> SoFar
+    ensures { λ r. ⌜ (r .number ≡ 0) × (r .done .filled ≡ 0) ⌝ }
+{
+    let state = first_state();
+    let kept = words::nothing_kept();
+    SoFar {
+        number: 0,
+        done: Done {
+            filled: 0,
+            state: state,
+        },
+        kept: kept,
+    }
+}
+
+// The sample profile, no record, an area of 300 bytes.
+fn first_state() -> State {
+    let opened = Desk::open(profile::sample_profile());
+    let desk = opened.desk;
+    let low = no_rows();
+    let high = no_rows();
+    State {
+        desk: desk,
+        low: low,
+        high: high,
+        lent: 0,
+        room: 300,
+    }
+}
+
+fn no_rows() -> Rows {
+    Rows {
+        row: [Record {
+            in_use: false,
+            ssi: 0,
+            extension: 0,
+            post: 0,
+            active: false,
+        }; 128],
+    }
+}
+
+// The lines that end in a block, and the start of the next.
+fn feed(block: &[u8], output: &mut [u8], seen: SoFar) -> SoFar
+    requires { ⌜ (length (now output) ≡ 65536) × ((length (now block) ≤ 65536) × ((seen .done .filled ≤ 65536) × (seen .number + 65536 ≤ 2 ^ 62))) ⌝ }
+    ensures { λ r. ⌜ (r .done .filled ≤ 65536) × (r .number ≤ seen .number + 65536) ⌝ }
+{
+    let mut number = seen.number;
+    let mut done = seen.done;
+    let mut kept = seen.kept;
+    let mut from: usize = 0;
+    while from < block.len() {
+        let end = line_end(block, from);
+        if end < block.len() {
+            let line = whole(kept, &block[from..end]);
+            from = end + 1;
+            number += 1;
+            kept = words::nothing_kept();
+            done = carry_out(output, done, number, line);
+        } else {
+            kept = words::keep(kept, &block[from..]);
+            from = end;
+        }
+    }
+    SoFar {
+        number: number,
+        done: done,
+        kept: kept,
+    }
+}
+
+// Where the line ends that stands at an index: at the next LF, or at the block's end.
+fn line_end(block: &[u8], from: usize) -> usize
+    requires { ⌜ from ≤ length (now block) ⌝ }
+    ensures { λ r. ⌜ (from ≤ r) × (r ≤ length (now (block .entry))) ⌝ }
+{
+    let mut i = from;
+    while i < block.len() {
+        if block[i] == 10 {
+            return i;
+        }
+        i += 1;
+    }
+    i
+}
+
+// What a line asks for of which a start may have come before.
+fn whole(kept: Text, rest: &[u8]) -> Line {
+    if kept.len == 0 {
+        return script::parse(rest);
+    }
+    script::parse_kept(words::keep(kept, rest))
+}
+
+// What is left: the last line may lack its LF.
+fn finish(output: &mut [u8], seen: SoFar)
+    requires { ⌜ (length (now output) ≡ 65536) × ((seen .done .filled ≤ 65536) × (seen .number ≤ 2 ^ 62)) ⌝ }
+{
+    let filled = last_line(output, seen);
+    io::write_all(1, &output[..filled]);
+}
+
+fn last_line(output: &mut [u8], seen: SoFar) -> usize
+    requires { ⌜ (length (now output) ≡ 65536) × ((seen .done .filled ≤ 65536) × (seen .number ≤ 2 ^ 62)) ⌝ }
+    ensures { λ r. ⌜ r ≤ 65536 ⌝ }
+{
+    let kept = seen.kept;
+    let done = seen.done;
+    if kept.len == 0 {
+        return done.filled;
+    }
+    let line = script::parse_kept(kept);
+    let last = carry_out(output, done, seen.number + 1, line);
+    last.filled
+}
+
+// ---- one line
+
+fn carry_out(output: &mut [u8], done: Done, number: u64, line: Line) -> Done
+    requires { ⌜ (length (now output) ≡ 65536) × (done .filled ≤ 65536) ⌝ }
+    ensures { λ r. ⌜ r .filled ≤ 65536 ⌝ }
+{
+    let filled = done.filled;
+    let state = done.state;
+    let order = line.order;
+    match order {
+        Order::Unknown => not_understood(output, filled, number, state),
+        Order::Call(event) => call(output, filled, number, state, line, event),
+        Order::Open => open(output, filled, number, state, line),
+        Order::Lend { at, record } => silent(filled, lend(state, at, record)),
+        Order::Room { bytes } => silent(filled, with_area(state, bytes)),
+        Order::Fill { at, place } => silent(filled, fill(state, at, place)),
+        Order::Dump => dump(output, filled, number, state),
+    }
+}
+
+// A line that prints nothing.
+fn silent(filled: usize, state: State) -> Done
+    ensures { λ r. ⌜ r .filled ≡ filled ⌝ }
+{
+    Done {
+        filled: filled,
+        state: state,
+    }
+}
+
+fn not_understood(output: &mut [u8], filled: usize, number: u64, state: State) -> Done
+    requires { ⌜ (length (now output) ≡ 65536) × (filled ≤ 65536) ⌝ }
+    ensures { λ r. ⌜ r .filled ≤ 65536 ⌝ }
+{
+    let text = words::keep(words::nothing_kept(), b"not understood");
+    silent(print(output, filled, number, text), state)
+}
+
+// ---- a call of the desk
+
+// The area is as many of 300 bytes as are lent, each AA.
+fn call(
+    output: &mut [u8],
+    filled: usize,
+    number: u64,
+    state: State,
+    line: Line,
+    event: Event,
+) -> Done
+    requires { ⌜ (length (now output) ≡ 65536) × (filled ≤ 65536) ⌝ }
+    ensures { λ r. ⌜ r .filled ≤ 65536 ⌝ }
+{
+    let room = state.room;
+    let mut area = [0xAAu8; 300];
+    if room > 300 {
+        return silent(filled, state);
+    }
+    called(
+        output,
+        filled,
+        number,
+        state,
+        line,
+        event,
+        &mut area[..room],
+    )
+}
+
+fn called(
+    output: &mut [u8],
+    filled: usize,
+    number: u64,
+    state: State,
+    line: Line,
+    event: Event,
+    area: &mut [u8],
+) -> Done
+    requires { ⌜ (length (now output) ≡ 65536) × (filled ≤ 65536) ⌝ }
+    ensures { λ r. ⌜ r .filled ≤ 65536 ⌝ }
+{
+    let bytes = line.bytes;
+    let stepped = step(state, bytes, line.count, area, event);
+    let answer = stepped.answer;
+    let laid = stepped.laid;
+    let text = words::said(answer, laid, area);
+    silent(print(output, filled, number, text), after(state, stepped))
+}
+
+// The message is the first `count` of these bytes.
+fn step(state: State, bytes: [u8; 256], count: usize, area: &mut [u8], event: Event) -> Stepped {
+    let desk = state.desk;
+    let low = state.low;
+    let rows = low.row;
+    let message: &[u8] = &bytes;
+    if count > 256 {
+        return desk::step(desk, rows, state.lent, message, area, event);
+    }
+    desk::step(desk, rows, state.lent, &message[..count], area, event)
+}
+
+// The desk as the call left it, and the marks that it set.
+fn after(state: State, stepped: Stepped) -> State {
+    let desk = stepped.desk;
+    let marks = stepped.marks;
+    let low = state.low;
+    let rows = low.row;
+    let marked = with_marks(rows, marks);
+    let high = state.high;
+    State {
+        desk: desk,
+        low: marked,
+        high: high,
+        lent: state.lent,
+        room: state.room,
+    }
+}
+
+fn with_marks(rows: [Record; 128], marks: Marks) -> Rows {
+    let at = marks.at;
+    let mut row = rows;
+    let mut i: usize = 0;
+    while i < 128 {
+        let r = row[i];
+        row[i] = marked_if(r, at[i]);
+        i += 1;
+    }
+    Rows { row: row }
+}
+
+fn marked_if(r: Record, mark: bool) -> Record {
+    if mark {
+        return Record {
+            in_use: r.in_use,
+            ssi: r.ssi,
+            extension: r.extension,
+            post: r.post,
+            active: true,
+        };
+    }
+    r
+}
+
+// ---- what is set
+
+// A new desk, or `refused 1` and the old one.
+fn open(output: &mut [u8], filled: usize, number: u64, state: State, line: Line) -> Done
+    requires { ⌜ (length (now output) ≡ 65536) × (filled ≤ 65536) ⌝ }
+    ensures { λ r. ⌜ r .filled ≤ 65536 ⌝ }
+{
+    let profile = line.profile;
+    let opened = Desk::open(profile);
+    let stop = opened.stop;
+    if opened.found {
+        let desk = opened.desk;
+        return silent(filled, with_desk(state, desk));
+    }
+    silent(
+        print(output, filled, number, words::said_refused(stop.number)),
+        state,
+    )
+}
+
+fn with_desk(state: State, desk: Desk) -> State {
+    let low = state.low;
+    let high = state.high;
+    State {
+        desk: desk,
+        low: low,
+        high: high,
+        lent: state.lent,
+        room: state.room,
+    }
+}
+
+fn with_area(state: State, bytes: u16) -> State {
+    let desk = state.desk;
+    let low = state.low;
+    let high = state.high;
+    State {
+        desk: desk,
+        low: low,
+        high: high,
+        lent: state.lent,
+        room: bytes as usize,
+    }
+}
+
+// As many are lent as the highest number set, plus 1.
+fn lend(state: State, at: u8, record: Record) -> State {
+    let desk = state.desk;
+    let low = state.low;
+    let high = state.high;
+    let i = at as usize;
+    let lent = most(state.lent, i + 1);
+    if i < 128 {
+        let rows = low.row;
+        let changed = with_row(rows, i, record);
+        return State {
+            desk: desk,
+            low: changed,
+            high: high,
+            lent: lent,
+            room: state.room,
+        };
+    }
+    let rows = high.row;
+    let changed = with_row(rows, i - 128, record);
+    State {
+        desk: desk,
+        low: low,
+        high: changed,
+        lent: lent,
+        room: state.room,
+    }
+}
+
+fn with_row(rows: [Record; 128], i: usize, record: Record) -> Rows {
+    let mut row = rows;
+    if i < 128 {
+        row[i] = record;
+    }
+    Rows { row: row }
+}
+
+fn fill(state: State, at: u8, place: Place) -> State {
+    let old = state.desk;
+    let profile = old.profile;
+    let places = old.places;
+    let list = places.place;
+    let changed = with_place(list, at as usize, place);
+    with_desk(
+        state,
+        Desk {
+            profile: profile,
+            places: changed,
+        },
+    )
+}
+
+fn with_place(list: [Place; 32], i: usize, place: Place) -> Places {
+    let mut places = list;
+    if i < 32 {
+        places[i] = place;
+    }
+    Places { place: places }
+}
+
+// ---- a dump
+
+fn dump(output: &mut [u8], filled: usize, number: u64, state: State) -> Done
+    requires { ⌜ (length (now output) ≡ 65536) × (filled ≤ 65536) ⌝ }
+    ensures { λ r. ⌜ r .filled ≤ 65536 ⌝ }
+{
+    let desk = state.desk;
+    let places = desk.places;
+    let list = places.place;
+    let low = state.low;
+    let lower = low.row;
+    let high = state.high;
+    let higher = high.row;
+    let placed = dump_places(output, filled, number, list);
+    silent(dump_rows(output, placed, lower, higher), state)
+}
+
+fn dump_places(output: &mut [u8], filled: usize, number: u64, list: [Place; 32]) -> usize
+    requires { ⌜ (length (now output) ≡ 65536) × (filled ≤ 65536) ⌝ }
+    ensures { λ r. ⌜ r ≤ 65536 ⌝ }
+{
+    let numbered = print_number(output, filled, number);
+    let named = put(output, numbered, b" dump");
+    print_places(output, named, list)
+}
+
+fn dump_rows(output: &mut [u8], filled: usize, lower: [Record; 128], higher: [Record; 128]) -> usize
+    requires { ⌜ (length (now output) ≡ 65536) × (filled ≤ 65536) ⌝ }
+    ensures { λ r. ⌜ r ≤ 65536 ⌝ }
+{
+    let parted = put(output, filled, b" |");
+    let some = print_rows(output, parted, lower, 0);
+    let all = print_rows(output, some, higher, 128);
+    put(output, all, b"\n")
+}
+
+fn print_places(output: &mut [u8], filled: usize, list: [Place; 32]) -> usize
+    requires { ⌜ (length (now output) ≡ 65536) × (filled ≤ 65536) ⌝ }
+    ensures { λ r. ⌜ r ≤ 65536 ⌝ }
+{
+    let mut at = filled;
+    let mut i: u8 = 0;
+    while i < 32 {
+        let place = list[i as usize];
+        at = print_text(output, at, words::said_place(i, place));
+        i += 1;
+    }
+    at
+}
+
+fn print_rows(output: &mut [u8], filled: usize, rows: [Record; 128], first: u8) -> usize
+    requires { ⌜ (length (now output) ≡ 65536) × ((filled ≤ 65536) × (first ≤ 128)) ⌝ }
+    ensures { λ r. ⌜ r ≤ 65536 ⌝ }
+{
+    let mut at = filled;
+    let mut i: u8 = 0;
+    while i < 128 {
+        let row = rows[i as usize];
+        at = print_text(output, at, words::said_record(first + i, row));
+        i += 1;
+    }
+    at
+}
+
+// ---- the output
+
+// One line into the output block.
+fn print(output: &mut [u8], filled: usize, number: u64, text: Text) -> usize
+    requires { ⌜ (length (now output) ≡ 65536) × (filled ≤ 65536) ⌝ }
+    ensures { λ r. ⌜ r ≤ 65536 ⌝ }
+{
+    let after_number = print_number(output, filled, number);
+    let after_space = put(output, after_number, b" ");
+    let after_text = print_text(output, after_space, text);
+    put(output, after_text, b"\n")
+}
+
+fn print_number(output: &mut [u8], filled: usize, number: u64) -> usize
+    requires { ⌜ (length (now output) ≡ 65536) × (filled ≤ 65536) ⌝ }
+    ensures { λ r. ⌜ r ≤ 65536 ⌝ }
+{
+    let mut digits = [0u8; 20];
+    let count = io::decimal(number, &mut digits);
+    put(output, filled, &digits[..count])
+}
+
+fn print_text(output: &mut [u8], filled: usize, text: Text) -> usize
+    requires { ⌜ (length (now output) ≡ 65536) × (filled ≤ 65536) ⌝ }
+    ensures { λ r. ⌜ r ≤ 65536 ⌝ }
+{
+    let bytes = text.bytes;
+    put_first(output, filled, bytes, text.len)
+}
+
+fn put_first(output: &mut [u8], at: usize, bytes: [u8; 640], len: usize) -> usize
+    requires { ⌜ (length (now output) ≡ 65536) × (at ≤ 65536) ⌝ }
+    ensures { λ r. ⌜ r ≤ 65536 ⌝ }
+{
+    let text: &[u8] = &bytes;
+    if len > 640 {
+        return at;
+    }
+    put(output, at, &text[..len])
+}
+
+// Bytes one after the other, and the index after them; the block is written first where it might not hold them.
+fn put(output: &mut [u8], filled: usize, text: &[u8]) -> usize
+    requires { ⌜ (length (now output) ≡ 65536) × (filled ≤ 65536) ⌝ }
+    ensures { λ r. ⌜ r ≤ 65536 ⌝ }
+{
+    let at = with_room(output, filled);
+    let n = least(output.len() - at, text.len());
+    let mut i: usize = 0;
+    while i < n {
+        output[at + i] = text[i];
+        i += 1;
+    }
+    at + n
+}
+
+fn with_room(output: &[u8], filled: usize) -> usize
+    requires { ⌜ (length (now output) ≡ 65536) × (filled ≤ 65536) ⌝ }
+    ensures { λ r. ⌜ r ≤ 65536 ⌝ }
+{
+    if filled > 65536 - LONGEST {
+        io::write_all(1, &output[..filled]);
+        return 0;
+    }
+    filled
+}
+
+fn least(a: usize, b: usize) -> usize
+    ensures { λ r. ⌜ (r ≤ a) × (r ≤ b) ⌝ }
+{
+    if a < b {
+        return a;
+    }
+    b
+}
+
+fn most(a: usize, b: usize) -> usize {
+    if a < b {
+        return b;
+    }
+    a
+}

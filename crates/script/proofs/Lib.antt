@@ -1,0 +1,3 @@
+pub mod ShapeLaws
+pub mod TableLaws
+pub mod KeepLaws

@@ -1,0 +1,13 @@
+-- `script::orders::dump` meets its contract. Assumes nothing.
+use borrow.Author.Tests.{eq-eqb, ne-eqb}
+use Rattle.script.proofs.orders.dump.Statement.{statement}
+use Rattle.script.proofs.orders.dump.Tie as tie
+
+returns : tie.Need-returns
+returns c = rw (eq-eqb _ _ (c .if1 .taken))
+
+returns-2 : tie.Need-returns-2
+returns-2 c = rw (ne-eqb _ _ (c .if1 .left))
+
+pub dump-spec : {M : Type 1} → statement M
+dump-spec = tie.close (tie.spec returns returns-2)

@@ -1,0 +1,41 @@
+-- `script::orders::set_up` meets its contract. Assumes nothing.
+use borrow.Author.Needs.{needs}
+use borrow.Author.Tests.{eq-eqb, ne-eqb}
+use Rattle.script.specs.Lines.{setUpOrder}
+use Rattle.script.proofs.orders.set_up.Statement.{statement}
+use Rattle.script.proofs.orders.set_up.Tie as tie
+
+returns : tie.Need-returns
+unfolding setUpOrder
+returns c = rw (ne-eqb _ _ (c .if1 .left))
+
+array-read-t6 : tie.Need-array-read-t6
+array-read-t6 c = search needs
+
+array-read-t9 : tie.Need-array-read-t9
+array-read-t9 c = search needs
+
+array-read-t13 : tie.Need-array-read-t13
+array-read-t13 c = search needs
+
+array-read-t16 : tie.Need-array-read-t16
+array-read-t16 c = search needs
+
+array-read-t20 : tie.Need-array-read-t20
+array-read-t20 c = search needs
+
+returns-2 : tie.Need-returns-2
+unfolding setUpOrder
+returns-2 c = rw (eq-eqb _ _ (c .if1 .taken))
+
+pub set-up-spec : {M : Type 1} → statement M
+set-up-spec =
+    tie.close
+    (tie.spec
+    returns
+    array-read-t6
+    array-read-t9
+    array-read-t13
+    array-read-t16
+    array-read-t20
+    returns-2)

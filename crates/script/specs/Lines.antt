@@ -1,0 +1,125 @@
+-- What a line of a script asks for: `lineOf`, for every line. A line of another shape is `Unknown`.
+use Prim.Native.Nat.{ℕ}
+use mathlib.Core.Bool.{Bool, true, false, cond}
+use mathlib.Core.List.{List, [], _∷_}
+use lib.Dec.{eqb, leb}
+use lib.ListN.{length, getD}
+use Rattle.profile.specs.Rules.{noProfile}
+use Rattle.desk.specs.declared.Event.{Event}
+use Rattle.desk.specs.declared.Event.the-variants as event
+use Rattle.script.specs.Shape.{startsWith, numbersAt, noBytes, noHex, hexAt}
+use Rattle.script.specs.Profiles.{profileOf, pairsIn}
+use Rattle.script.specs.declared.Line.{Line}
+use Rattle.script.specs.declared.Order.{Order}
+use Rattle.script.specs.declared.Order.the-variants as order
+use Rattle.script.specs.declared.shape.Hex.{Hex}
+use Rattle.script.specs.declared.shape.Numbers.{Numbers}
+
+-- ---- the orders that are numbers alone, by how many there are and the largest that each may be
+
+abbrev pub when : Bool → Order → Order
+when test o = cond test o order.Unknown
+
+-- I INUSE SSI EXT POST ACTIVE
+unfoldable pub recordOrder : Numbers → Order
+recordOrder n =
+    when (eqb (n .count) 6)
+    (when (leb (getD (n .number) 0 0) 255)
+    (when (leb (getD (n .number) 1 0) 1)
+    (when (leb (getD (n .number) 4 0) 255)
+    (when (leb (getD (n .number) 5 0) 1)
+    (order.Lend (getD (n .number) 0 0)
+    (record {
+      in_use = eqb (getD (n .number) 1 0) 1;
+      ssi = getD (n .number) 2 0;
+      extension = getD (n .number) 3 0;
+      post = getD (n .number) 4 0;
+      active = eqb (getD (n .number) 5 0) 1;
+    }))))))
+
+-- CALLER EXT CALLED EXT ID
+unfoldable pub setUpOrder : Numbers → Order
+setUpOrder n =
+    when (eqb (n .count) 5)
+    (order.Call
+    (event.SetUp (record { ssi = getD (n .number) 0 0; extension = getD (n .number) 1 0 })
+    (record { ssi = getD (n .number) 2 0; extension = getD (n .number) 3 0 })
+    (getD (n .number) 4 0)))
+
+-- P ID
+unfoldable pub rejectOrder : Numbers → Order
+rejectOrder n = when (eqb (n .count) 2) (order.Call (event.Reject (getD (n .number) 0 0) (getD (n .number) 1 0)))
+
+-- ID
+unfoldable pub cancelOrder : Numbers → Order
+cancelOrder n = when (eqb (n .count) 1) (order.Call (event.Cancel (getD (n .number) 0 0)))
+
+-- BYTES
+unfoldable pub outOrder : Numbers → Order
+outOrder n = when (eqb (n .count) 1) (when (leb (getD (n .number) 0 0) 300) (order.Room (getD (n .number) 0 0)))
+
+-- I ID POST
+unfoldable pub placeOrder : Numbers → Order
+placeOrder n =
+    when (eqb (n .count) 3)
+    (when (leb (getD (n .number) 0 0) 31)
+    (when (leb (getD (n .number) 1 0) 65535)
+    (when (leb (getD (n .number) 2 0) 255)
+    (order.Fill (getD (n .number) 0 0) (record { used = true; identifier = getD (n .number) 1 0; post = getD (n .number) 2 0 })))))
+
+-- I: the place is free, all zero
+unfoldable pub unplaceOrder : Numbers → Order
+unplaceOrder n =
+    when (eqb (n .count) 1)
+    (when (leb (getD (n .number) 0 0) 31) (order.Fill (getD (n .number) 0 0) (record { used = false; identifier = 0; post = 0 })))
+
+-- ---- the lines
+
+-- nothing beside the order
+unfoldable pub plainLine : Order → Line
+plainLine o = record { order = o; profile = noProfile; count = 0; bytes = noBytes }
+
+-- P BITS, and the bytes lent
+unfoldable pub messageLine : Numbers → Hex → Line
+messageLine n h =
+    record { order = order.Call (event.Message (getD (n .number) 0 0) (getD (n .number) 1 0)); profile = noProfile; count = h .count; bytes = h .bytes }
+
+-- P BITS [HEX]: after a space there is at least one byte
+unfoldable pub postLine : Numbers → List ℕ → Line
+postLine n l =
+    cond (eqb (n .count) 2)
+    (cond (eqb (n .next) 0) (messageLine n noHex)
+    (cond (leb 1 (hexAt l (n .next) .count)) (messageLine n (hexAt l (n .next))) (plainLine order.Unknown)))
+    (plainLine order.Unknown)
+
+unfoldable pub profileLine : Numbers → Line
+profileLine n =
+    cond (leb 1 (pairsIn (n .count))) (record { order = order.Open; profile = profileOf (n .number) (pairsIn (n .count)); count = 0; bytes = noBytes })
+    (plainLine order.Unknown)
+
+-- by the keyword; in comments, what the bytes are
+unfoldable pub orderOf : List ℕ → Order
+orderOf l =
+    -- `setup `
+    cond (startsWith l (115 ∷ 101 ∷ 116 ∷ 117 ∷ 112 ∷ 32 ∷ [])) (setUpOrder (numbersAt 38 l 6))
+    -- `reject `
+    (cond (startsWith l (114 ∷ 101 ∷ 106 ∷ 101 ∷ 99 ∷ 116 ∷ 32 ∷ [])) (rejectOrder (numbersAt 38 l 7))
+    -- `cancel `
+    (cond (startsWith l (99 ∷ 97 ∷ 110 ∷ 99 ∷ 101 ∷ 108 ∷ 32 ∷ [])) (cancelOrder (numbersAt 38 l 7))
+    -- `record `
+    (cond (startsWith l (114 ∷ 101 ∷ 99 ∷ 111 ∷ 114 ∷ 100 ∷ 32 ∷ [])) (recordOrder (numbersAt 38 l 7))
+    -- `out `
+    (cond (startsWith l (111 ∷ 117 ∷ 116 ∷ 32 ∷ [])) (outOrder (numbersAt 38 l 4))
+    -- `place `
+    (cond (startsWith l (112 ∷ 108 ∷ 97 ∷ 99 ∷ 101 ∷ 32 ∷ [])) (placeOrder (numbersAt 38 l 6))
+    -- `unplace `
+    (cond (startsWith l (117 ∷ 110 ∷ 112 ∷ 108 ∷ 97 ∷ 99 ∷ 101 ∷ 32 ∷ [])) (unplaceOrder (numbersAt 38 l 8))
+    -- `dump`, the whole line
+    (cond (startsWith l (100 ∷ 117 ∷ 109 ∷ 112 ∷ [])) (when (eqb (length l) 4) order.Dump) order.Unknown)))))))
+
+unfoldable pub lineOf : List ℕ → Line
+lineOf l =
+    -- `post `
+    cond (startsWith l (112 ∷ 111 ∷ 115 ∷ 116 ∷ 32 ∷ [])) (postLine (numbersAt 2 l 5) l)
+    -- `profile `
+    (cond (startsWith l (112 ∷ 114 ∷ 111 ∷ 102 ∷ 105 ∷ 108 ∷ 101 ∷ 32 ∷ [])) (profileLine (numbersAt 38 l 8)) (plainLine (orderOf l)))

@@ -1,0 +1,162 @@
+// One line of a desk script (docs/REPLAY.md): from its bytes to what it asks for.
+//
+// `parse` equals `lineOf` for every line. Of a line that comes in pieces the first 640 bytes are kept (`words`), and `parse_kept` of these
+// is what the whole line asks for, however long it is (proofs/KeepLaws). The files: shape (keyword, numbers, hex), orders (the lines that
+// are numbers alone), profiles (the profile of a `profile` line).
+ghost use mathlib.Core.Path.{_≡_};
+ghost use Rattle.script.specs.Shape.{numbersAt};
+ghost use lib.ListN.{take};
+ghost use Rattle.script.specs.Lines.{plainLine, messageLine, postLine, profileLine, orderOf, lineOf};
+use desk::Event;
+use places::Place;
+use profile::Profile;
+use records::Record;
+use shape::Hex;
+use shape::Numbers;
+use words::Text;
+
+mod orders;
+mod profiles;
+mod shape;
+
+// What a line asks for: nothing that is understood; a call of the desk; a new desk; a record, the length of the output area or a place
+// that is set; all that there is, to be printed.
+pub enum Order {
+    Unknown,
+    Call(Event),
+    Open,
+    Lend { at: u8, record: Record },
+    Room { bytes: u16 },
+    Fill { at: u8, place: Place },
+    Dump,
+}
+
+// An order, and what goes with it: the profile of a new desk; of a post's message the first `count` of the bytes. All else is zero.
+pub struct Line {
+    pub order: Order,
+    pub profile: Profile,
+    pub count: usize,
+    pub bytes: [u8; 256],
+}
+
+pub fn parse(line: &[u8]) -> Line
+    ensures { λ r. ⌜ r ≡ lineOf (now (line .entry)) ⌝ }
+{
+    if shape::starts(line, b"post ") {
+        return post_line(shape::numbers_at(line, 5, 2), line);
+    }
+    if shape::starts(line, b"profile ") {
+        return profile_line(shape::numbers_at(line, 8, 38));
+    }
+    plain_line(order_of(line))
+}
+
+// What a line asks for that came in pieces.
+pub fn parse_kept(kept: Text) -> Line
+    ensures { λ r. ⌜ r ≡ lineOf (take (kept .len) (kept .bytes)) ⌝ }
+{
+    let bytes = kept.bytes;
+    parse_first(bytes, kept.len)
+}
+
+fn parse_first(bytes: [u8; 640], len: usize) -> Line
+    ensures { λ r. ⌜ r ≡ lineOf (take len bytes) ⌝ }
+{
+    let line: &[u8] = &bytes;
+    if len > 640 {
+        return parse(line);
+    }
+    parse(&line[..len])
+}
+
+fn order_of(line: &[u8]) -> Order
+    ensures { λ r. ⌜ r ≡ orderOf (now (line .entry)) ⌝ }
+{
+    if shape::starts(line, b"setup ") {
+        return orders::set_up(shape::numbers_at(line, 6, 38));
+    }
+    if shape::starts(line, b"reject ") {
+        return orders::reject(shape::numbers_at(line, 7, 38));
+    }
+    if shape::starts(line, b"cancel ") {
+        return orders::cancel(shape::numbers_at(line, 7, 38));
+    }
+    if shape::starts(line, b"record ") {
+        return orders::lend(shape::numbers_at(line, 7, 38));
+    }
+    if shape::starts(line, b"out ") {
+        return orders::room(shape::numbers_at(line, 4, 38));
+    }
+    if shape::starts(line, b"place ") {
+        return orders::fill(shape::numbers_at(line, 6, 38));
+    }
+    if shape::starts(line, b"unplace ") {
+        return orders::empty(shape::numbers_at(line, 8, 38));
+    }
+    if shape::starts(line, b"dump") {
+        return orders::dump(line.len());
+    }
+    Order::Unknown
+}
+
+fn post_line(n: Numbers, line: &[u8]) -> Line
+    ensures { λ r. ⌜ r ≡ postLine n (now (line .entry)) ⌝ }
+{
+    if n.count == 2 {} else {
+        return plain_line(Order::Unknown);
+    }
+    if n.next == 0 {
+        return message_line(n, shape::no_hex());
+    }
+    let hex = shape::hex_at(line, n.next);
+    if hex.count < 1 {
+        return plain_line(Order::Unknown);
+    }
+    message_line(n, hex)
+}
+
+fn message_line(n: Numbers, hex: Hex) -> Line
+    ensures { λ r. ⌜ r ≡ messageLine n hex ⌝ }
+{
+    let number = n.number;
+    let bytes = hex.bytes;
+    let profile = profiles::no_profile();
+    Line {
+        order: Order::Call(Event::Message {
+            post: number[0] as u64,
+            bits: number[1] as u64,
+        }),
+        profile: profile,
+        count: hex.count,
+        bytes: bytes,
+    }
+}
+
+fn profile_line(n: Numbers) -> Line
+    ensures { λ r. ⌜ r ≡ profileLine n ⌝ }
+{
+    let number = n.number;
+    let pairs = profiles::pairs_in(n.count);
+    if pairs < 1 {
+        return plain_line(Order::Unknown);
+    }
+    let profile = profiles::profile_of(number, pairs);
+    Line {
+        order: Order::Open,
+        profile: profile,
+        count: 0,
+        bytes: [0; 256],
+    }
+}
+
+fn plain_line(order: Order) -> Line
+    ensures { λ r. ⌜ r ≡ plainLine order ⌝ }
+{
+    let profile = profiles::no_profile();
+    Line {
+        order: order,
+        profile: profile,
+        count: 0,
+        bytes: [0; 256],
+    }
+}

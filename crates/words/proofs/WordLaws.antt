@@ -1,0 +1,44 @@
+-- Numbers in decimal and bytes in hex, turn by turn as the code's loops write them. Assumes nothing.
+use Prim.Native.Nat.{ℕ, zero, suc, _+_, _/_, _%_, _^_, _<_}
+use mathlib.Core.Path.{_≡_, refl, sym, ap, _∙_}
+use mathlib.Core.Bool.{Bool}
+use mathlib.Core.List.{List, [], _∷_, _++_}
+use native.Mathlib.Nat.{pow-suc, one-le-pow, mul-div-cancel}
+use native.Mathlib.Omega.{arith}
+use lib.ListN.{getD}
+use Rattle.words.specs.Texts.{Wrote}
+use Rattle.words.specs.Words.{digitIn, shown, digitIf, digitsFrom, hexPair, hexFrom}
+use Rattle.words.specs.declared.Text.{Text}
+use Rattle.words.proofs.TextLaws.{wrote-join, wrote-none, wrote-as}
+
+pub power-some : (k : ℕ) → 0 < 10 ^ k
+power-some k = one-le-pow k 10 (omega arith)
+
+pub power-less : (left k power : ℕ) → left ≡ suc k → power ≡ 10 ^ left → power / 10 ≡ 10 ^ k
+power-less left k power e p = rw (p, e, pow-suc) (mul-div-cancel (10 ^ k) (omega arith))
+
+module _ (seen : Bool) (left k n power d : ℕ) (s : Bool) (a b : Text) where
+  -- one digit, and then those that are left
+  pub digit-turn : left ≡ suc k → power ≡ 10 ^ left → d ≡ n / (power / 10) % 10 → s ≡ shown seen k d → Wrote a b (digitIf s d)
+      → (t : Text) → Wrote b t (digitsFrom s k n) → Wrote a t (digitsFrom seen left n)
+  unfolding digitsFrom digitIn
+  digit-turn l p e f w t v = wrote-as (wrote-join w v) (same (e ∙ rw (power-less left k power l p)))
+    where
+      same : d ≡ n / 10 ^ k % 10 → digitIf s d ++ digitsFrom s k n ≡ digitsFrom seen left n
+      same q = rw (l, f, q)
+
+pub digits-over : (seen : Bool) (left n : ℕ) (a : Text) → left ≡ 0 → Wrote a a (digitsFrom seen left n)
+unfolding digitsFrom
+digits-over seen left n a e = rw e (wrote-none a)
+
+module _ (left k : ℕ) (area : List ℕ) (at byte : ℕ) (a b : Text) where
+  pub byte-turn : left ≡ suc k → byte ≡ getD area at 0 → Wrote a b (hexPair byte) → (t : Text) → Wrote b t (hexFrom k area (at + 1)) → Wrote a t (hexFrom left area at)
+  unfolding hexFrom
+  byte-turn l e w t v = wrote-as (wrote-join w v) same
+    where
+      same : hexPair byte ++ hexFrom k area (at + 1) ≡ hexFrom left area at
+      same = rw (l, e)
+
+pub bytes-over : (left : ℕ) (area : List ℕ) (at : ℕ) (a : Text) → left ≡ 0 → Wrote a a (hexFrom left area at)
+unfolding hexFrom
+bytes-over left area at a e = rw e (wrote-none a)

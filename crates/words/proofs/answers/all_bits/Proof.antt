@@ -1,0 +1,24 @@
+-- `words::answers::all_bits` meets its contract. Assumes nothing.
+use borrow.Author.Needs.{needs}
+use Rattle.words.proofs.TextLaws.{wrote-join}
+use Rattle.words.proofs.answers.all_bits.Statement.{statement}
+use Rattle.words.proofs.answers.all_bits.Tie as tie
+
+ack-bits-requires : tie.Need-ack-bits-requires
+ack-bits-requires c κs = search needs
+
+ack-bits-requires-2 : tie.Need-ack-bits-requires-2
+ack-bits-requires-2 c κs = search needs
+
+ack-bits-requires-3 : tie.Need-ack-bits-requires-3
+ack-bits-requires-3 c κs = search needs
+
+returns : tie.Need-returns
+returns c =
+    let p1 = c .before .before in
+    let p2 = c .before in
+    wrote-join (p1 .ack-bits .ensures) (wrote-join (p2 .ack-bits2 .ensures) (c .ack-bits3 .ensures))
+
+pub all-bits-spec : {M : Type 1} → statement M
+all-bits-spec =
+    tie.close (tie.spec ack-bits-requires ack-bits-requires-2 ack-bits-requires-3 returns)

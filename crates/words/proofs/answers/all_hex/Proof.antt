@@ -1,0 +1,23 @@
+-- `words::answers::all_hex` meets its contract. Assumes nothing.
+use borrow.Author.Needs.{needs}
+use Rattle.words.proofs.TextLaws.{wrote-join}
+use Rattle.words.proofs.answers.all_hex.Statement.{statement}
+use Rattle.words.proofs.answers.all_hex.Tie as tie
+
+ack-hex-requires : tie.Need-ack-hex-requires
+ack-hex-requires c κs = search needs
+
+ack-hex-requires-2 : tie.Need-ack-hex-requires-2
+ack-hex-requires-2 c κs = search needs
+
+ack-hex-requires-3 : tie.Need-ack-hex-requires-3
+ack-hex-requires-3 c κs = search needs
+
+returns : tie.Need-returns
+returns c =
+    let p1 = c .before .before in
+    let p2 = c .before in
+    wrote-join (p1 .ack-hex .ensures) (wrote-join (p2 .ack-hex2 .ensures) (c .ack-hex3 .ensures))
+
+pub all-hex-spec : {M : Type 1} → statement M
+all-hex-spec = tie.close (tie.spec ack-hex-requires ack-hex-requires-2 ack-hex-requires-3 returns)

@@ -1,0 +1,54 @@
+-- `words::answers::place_part` meets its contract. Assumes nothing.
+use borrow.Author.Needs.{needs}
+use Rattle.words.proofs.TextLaws.{wrote-none, wrote-join}
+use Rattle.words.specs.Words.{placeWords}
+use Rattle.words.proofs.answers.place_part.Statement.{statement}
+use Rattle.words.proofs.answers.place_part.Tie as tie
+
+slice-aggregate-add : tie.Need-slice-aggregate-add
+slice-aggregate-add c = search needs
+
+add-requires : tie.Need-add-requires
+add-requires c κs = search needs
+
+add-number-requires : tie.Need-add-number-requires
+add-number-requires c κs = search needs
+
+cast-add-field : tie.Need-cast-add-field
+cast-add-field c = search needs
+
+add-field-requires : tie.Need-add-field-requires
+add-field-requires c κs = search needs
+
+cast-add-field-2 : tie.Need-cast-add-field-2
+cast-add-field-2 c = search needs
+
+add-field-requires-2 : tie.Need-add-field-requires-2
+add-field-requires-2 c κs = search needs
+
+returns : tie.Need-returns
+unfolding placeWords
+returns c =
+    let p1 = c .before .before .before .before .before .before .before in
+    let p2 = c .before .before .before .before .before in
+    let p3 = c .before .before .before .before in
+    let p4 = c .before .before in
+    rw (p1 .if1 .taken) (wrote-join (p2 .add .ensures) (wrote-join (p3 .add-number .ensures) (wrote-join (p4 .add-field .ensures) (c .add-field2 .ensures))))
+
+returns-2 : tie.Need-returns-2
+unfolding placeWords
+returns-2 c = rw (c .if1 .left) (wrote-none _)
+
+pub place-part-spec : {M : Type 1} → statement M
+place-part-spec =
+    tie.close
+    (tie.spec
+    slice-aggregate-add
+    add-requires
+    add-number-requires
+    cast-add-field
+    add-field-requires
+    cast-add-field-2
+    add-field-requires-2
+    returns
+    returns-2)

@@ -1,0 +1,24 @@
+-- `words::answers::refused` meets its contract. Assumes nothing.
+use borrow.Author.Needs.{needs}
+use Rattle.words.proofs.TextLaws.{wrote-join}
+use Rattle.words.specs.Words.{refusedOf}
+use Rattle.words.proofs.answers.refused.Statement.{statement}
+use Rattle.words.proofs.answers.refused.Tie as tie
+
+slice-aggregate-add : tie.Need-slice-aggregate-add
+slice-aggregate-add c = search needs
+
+add-requires : tie.Need-add-requires
+add-requires c κs = search needs
+
+add-number-requires : tie.Need-add-number-requires
+add-number-requires c κs = search needs
+
+returns : tie.Need-returns
+unfolding refusedOf
+returns c =
+    let p1 = c .before in
+    wrote-join (p1 .add .ensures) (c .add-number .ensures)
+
+pub refused-spec : {M : Type 1} → statement M
+refused-spec = tie.close (tie.spec slice-aggregate-add add-requires add-number-requires returns)

@@ -1,0 +1,24 @@
+-- `words::texts::add_field` meets its contract. Assumes nothing.
+use borrow.Author.Needs.{needs}
+use Rattle.words.proofs.TextLaws.{wrote-join}
+use Rattle.words.specs.Words.{fieldOf}
+use Rattle.words.proofs.texts.add_field.Statement.{statement}
+use Rattle.words.proofs.texts.add_field.Tie as tie
+
+slice-aggregate-add : tie.Need-slice-aggregate-add
+slice-aggregate-add c = search needs
+
+add-requires : tie.Need-add-requires
+add-requires c κs = search needs
+
+add-number-requires : tie.Need-add-number-requires
+add-number-requires c κs = search needs
+
+returns : tie.Need-returns
+unfolding fieldOf
+returns c =
+    let p1 = c .before in
+    wrote-join (p1 .add .ensures) (c .add-number .ensures)
+
+pub add-field-spec : {M : Type 1} → statement M
+add-field-spec = tie.close (tie.spec slice-aggregate-add add-requires add-number-requires returns)

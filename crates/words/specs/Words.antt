@@ -1,0 +1,120 @@
+-- What is printed for an answer, after the line's number; and each part of a dump.
+use Prim.Native.Nat.{ℕ, zero, suc, _+_, _*_, _/_, _%_, _^_}
+use mathlib.Core.Bool.{Bool, true, false, not, cond}
+use mathlib.Core.List.{List, [], _∷_, _++_}
+use lib.Dec.{eqb, ltb}
+use lib.ListN.{getD}
+use Rattle.profile.specs.Counting.{one}
+use Rattle.places.specs.declared.Place.{Place}
+use Rattle.records.specs.declared.Record.{Record}
+use Rattle.sending.specs.declared.Laid.{Laid}
+use Rattle.desk.specs.declared.Answer.{Answer}
+use Rattle.desk.specs.declared.Answer.the-variants as answer
+
+-- ---- numbers in decimal, up to ten digits, without zeros at the front
+
+-- the digit worth 10 ^ k
+unfoldable pub digitIn : ℕ → ℕ → ℕ
+digitIn k n = n / 10 ^ k % 10
+
+-- it is printed if a digit was, or it is the last, or it is not 0
+unfoldable pub shown : Bool → ℕ → ℕ → Bool
+shown seen k d = cond seen true (cond (eqb k 0) true (not (eqb d 0)))
+
+unfoldable pub digitIf : Bool → ℕ → List ℕ
+digitIf show d = cond show ((48 + d) ∷ []) []
+
+-- the last k digits, where one before them was seen or not
+unfoldable pub digitsFrom : Bool → ℕ → ℕ → List ℕ
+digitsFrom seen zero n = []
+digitsFrom seen (suc k) n = digitIf (shown seen k (digitIn k n)) (digitIn k n) ++ digitsFrom (shown seen k (digitIn k n)) k n
+
+unfoldable pub decimalOf : ℕ → List ℕ
+decimalOf n = digitsFrom false 10 n
+
+-- ---- bytes in hex
+
+-- 0 to 9, A to F
+unfoldable pub hexDigit : ℕ → ℕ
+hexDigit x = cond (ltb x 10) (48 + x) (55 + x)
+
+unfoldable pub hexPair : ℕ → List ℕ
+hexPair b = hexDigit (b / 16) ∷ hexDigit (b % 16) ∷ []
+
+-- n bytes of the area from one on
+unfoldable pub hexFrom : ℕ → List ℕ → ℕ → List ℕ
+hexFrom zero area at = []
+hexFrom (suc n) area at = hexPair (getD area at 0) ++ hexFrom n area (at + 1)
+
+-- the bytes of the message of so many bits that was laid at byte 100 × k
+unfoldable pub messageHex : List ℕ → ℕ → ℕ → List ℕ
+messageHex area k bits = hexFrom ((bits + 7) / 8) area (100 * k)
+
+-- how many bits message k has
+unfoldable pub bitsIn : Laid → ℕ → ℕ
+bitsIn laid k = getD (laid .lengths) k 0
+
+-- ---- the answers
+
+-- `refused ` and the number
+unfoldable pub refusedOf : ℕ → List ℕ
+refusedOf n = (114 ∷ 101 ∷ 102 ∷ 117 ∷ 115 ∷ 101 ∷ 100 ∷ 32 ∷ []) ++ decimalOf n
+
+-- no-record, other-post, active, not-active
+unfoldable pub stateWord : ℕ → List ℕ
+stateWord k =
+    cond (eqb k 0) (110 ∷ 111 ∷ 45 ∷ 114 ∷ 101 ∷ 99 ∷ 111 ∷ 114 ∷ 100 ∷ [])
+    (cond (eqb k 1) (111 ∷ 116 ∷ 104 ∷ 101 ∷ 114 ∷ 45 ∷ 112 ∷ 111 ∷ 115 ∷ 116 ∷ [])
+    (cond (eqb k 2) (97 ∷ 99 ∷ 116 ∷ 105 ∷ 118 ∷ 101 ∷ []) (110 ∷ 111 ∷ 116 ∷ 45 ∷ 97 ∷ 99 ∷ 116 ∷ 105 ∷ 118 ∷ 101 ∷ [])))
+
+-- ACK k, if there are that many: a space and its bits, a space and its bytes
+unfoldable pub ackBits : Laid → ℕ → List ℕ
+ackBits laid k = cond (ltb k (laid .count)) ((32 ∷ []) ++ decimalOf (bitsIn laid k)) []
+
+unfoldable pub ackHex : Laid → List ℕ → ℕ → List ℕ
+ackHex laid area k = cond (ltb k (laid .count)) ((32 ∷ []) ++ messageHex area k (bitsIn laid k)) []
+
+-- `acks K`, the bits of each, the bytes of each
+unfoldable pub acksWords : Laid → List ℕ → List ℕ
+acksWords laid area =
+    (97 ∷ 99 ∷ 107 ∷ 115 ∷ 32 ∷ [])
+    ++ (decimalOf (laid .count)
+    ++ ((ackBits laid 0 ++ (ackBits laid 1 ++ ackBits laid 2)) ++ (ackHex laid area 0 ++ (ackHex laid area 1 ++ ackHex laid area 2))))
+
+-- `admitted POST PLACE ` and the message
+unfoldable pub admittedWords : ℕ → ℕ → Laid → List ℕ → List ℕ
+admittedWords post place laid area =
+    (97 ∷ 100 ∷ 109 ∷ 105 ∷ 116 ∷ 116 ∷ 101 ∷ 100 ∷ 32 ∷ [])
+    ++ (decimalOf post ++ ((32 ∷ []) ++ (decimalOf place ++ ((32 ∷ []) ++ messageHex area 0 (bitsIn laid 0)))))
+
+unfoldable pub wordsOf : Answer → Laid → List ℕ → List ℕ
+wordsOf (answer.Refused s) laid area = refusedOf (s .number)
+wordsOf answer.Acks laid area = acksWords laid area
+-- `state `
+wordsOf (answer.State k) laid area = (115 ∷ 116 ∷ 97 ∷ 116 ∷ 101 ∷ 32 ∷ []) ++ stateWord k
+-- `free`
+wordsOf answer.Free laid area = 102 ∷ 114 ∷ 101 ∷ 101 ∷ []
+wordsOf (answer.Admitted post place) laid area = admittedWords post place laid area
+-- `proceed `
+wordsOf answer.Proceed laid area = (112 ∷ 114 ∷ 111 ∷ 99 ∷ 101 ∷ 101 ∷ 100 ∷ 32 ∷ []) ++ messageHex area 0 (bitsIn laid 0)
+-- `diverted `
+wordsOf answer.Diverted laid area = (100 ∷ 105 ∷ 118 ∷ 101 ∷ 114 ∷ 116 ∷ 101 ∷ 100 ∷ 32 ∷ []) ++ messageHex area 0 (bitsIn laid 0)
+-- `rejected`
+wordsOf answer.Rejected laid area = 114 ∷ 101 ∷ 106 ∷ 101 ∷ 99 ∷ 116 ∷ 101 ∷ 100 ∷ []
+-- `cancelled`
+wordsOf answer.Cancelled laid area = 99 ∷ 97 ∷ 110 ∷ 99 ∷ 101 ∷ 108 ∷ 108 ∷ 101 ∷ 100 ∷ []
+
+-- ---- a dump's parts: each with a space before it, and nothing for what is not used
+
+-- `:` and a number
+unfoldable pub fieldOf : ℕ → List ℕ
+fieldOf n = (58 ∷ []) ++ decimalOf n
+
+-- I:ID:POST
+unfoldable pub placeWords : ℕ → Place → List ℕ
+placeWords i p = cond (p .used) ((32 ∷ []) ++ (decimalOf i ++ (fieldOf (p .identifier) ++ fieldOf (p .post)))) []
+
+-- I:SSI:EXT:POST:ACTIVE
+unfoldable pub recordWords : ℕ → Record → List ℕ
+recordWords i r =
+    cond (r .in_use) ((32 ∷ []) ++ (decimalOf i ++ (fieldOf (r .ssi) ++ (fieldOf (r .extension) ++ (fieldOf (r .post) ++ fieldOf (one (r .active))))))) []

@@ -1,0 +1,158 @@
+// The words of an answer, after those that a text has.
+ghost use mathlib.Core.Path.{_≡_};
+ghost use mathlib.Core.List.{_++_};
+ghost use lib.ListN.{getD};
+ghost use Rattle.profile.specs.Counting.{one};
+ghost use Rattle.words.specs.Texts.{Wrote};
+ghost use Rattle.words.specs.Words.{messageHex, bitsIn, refusedOf, stateWord, ackBits, ackHex, acksWords, admittedWords, wordsOf, placeWords, recordWords};
+use crate::Text;
+use crate::texts;
+use desk::Answer;
+use places::Place;
+use records::Record;
+use sending::Laid;
+
+pub(crate) fn answer(text: Text, answer: Answer, laid: Laid, area: &[u8]) -> Text
+    ensures { λ r. ⌜ Wrote text r (wordsOf answer laid (now (area .entry))) ⌝ }
+{
+    match answer {
+        Answer::Refused(s) => refused(text, s.number),
+        Answer::Acks => acks(text, laid, area),
+        Answer::State(k) => state(texts::add(text, b"state "), k),
+        Answer::Free => texts::add(text, b"free"),
+        Answer::Admitted { post, place } => admitted(text, post, place, laid, area),
+        Answer::Proceed => message(texts::add(text, b"proceed "), laid, area, 0),
+        Answer::Diverted => message(texts::add(text, b"diverted "), laid, area, 0),
+        Answer::Rejected => texts::add(text, b"rejected"),
+        Answer::Cancelled => texts::add(text, b"cancelled"),
+    }
+}
+
+pub(crate) fn refused(text: Text, number: u8) -> Text
+    ensures { λ r. ⌜ Wrote text r (refusedOf number) ⌝ }
+{
+    texts::add_number(texts::add(text, b"refused "), number as u32)
+}
+
+fn state(text: Text, k: u8) -> Text
+    ensures { λ r. ⌜ Wrote text r (stateWord k) ⌝ }
+{
+    if k == 0 {
+        return texts::add(text, b"no-record");
+    }
+    if k == 1 {
+        return texts::add(text, b"other-post");
+    }
+    if k == 2 {
+        return texts::add(text, b"active");
+    }
+    texts::add(text, b"not-active")
+}
+
+fn acks(text: Text, laid: Laid, area: &[u8]) -> Text
+    ensures { λ r. ⌜ Wrote text r (acksWords laid (now (area .entry))) ⌝ }
+{
+    let counted = texts::add_number(texts::add(text, b"acks "), laid.count as u32);
+    all_hex(all_bits(counted, laid), laid, area)
+}
+
+fn all_bits(text: Text, laid: Laid) -> Text
+    ensures { λ r. ⌜ Wrote text r (ackBits laid 0 ++ (ackBits laid 1 ++ ackBits laid 2)) ⌝ }
+{
+    ack_bits(ack_bits(ack_bits(text, laid, 0), laid, 1), laid, 2)
+}
+
+fn all_hex(text: Text, laid: Laid, area: &[u8]) -> Text
+    ensures { λ r. ⌜ Wrote text r (ackHex laid (now (area .entry)) 0 ++ (ackHex laid (now (area .entry)) 1 ++ ackHex laid (now (area .entry)) 2)) ⌝ }
+{
+    ack_hex(
+        ack_hex(ack_hex(text, laid, area, 0), laid, area, 1),
+        laid,
+        area,
+        2,
+    )
+}
+
+fn ack_bits(text: Text, laid: Laid, k: u8) -> Text
+    ensures { λ r. ⌜ Wrote text r (ackBits laid k) ⌝ }
+{
+    if k < laid.count {
+        return texts::add_number(texts::add(text, b" "), bits_in(laid, k) as u32);
+    }
+    text
+}
+
+fn ack_hex(text: Text, laid: Laid, area: &[u8], k: u8) -> Text
+    ensures { λ r. ⌜ Wrote text r (ackHex laid (now (area .entry)) k) ⌝ }
+{
+    if k < laid.count {
+        return message(texts::add(text, b" "), laid, area, k);
+    }
+    text
+}
+
+fn admitted(text: Text, post: u8, place: u8, laid: Laid, area: &[u8]) -> Text
+    ensures { λ r. ⌜ Wrote text r (admittedWords post place laid (now (area .entry))) ⌝ }
+{
+    let named = texts::add_number(texts::add(text, b"admitted "), post as u32);
+    let placed = texts::add_number(texts::add(named, b" "), place as u32);
+    message(texts::add(placed, b" "), laid, area, 0)
+}
+
+// Message k of those that were laid.
+fn message(text: Text, laid: Laid, area: &[u8], k: u8) -> Text
+    ensures { λ r. ⌜ Wrote text r (messageHex (now (area .entry)) k (bitsIn laid k)) ⌝ }
+{
+    texts::add_message(text, area, k, bits_in(laid, k))
+}
+
+// Its length in bits; 0 for one past the third.
+fn bits_in(laid: Laid, k: u8) -> u16
+    ensures { λ r. ⌜ r ≡ bitsIn laid k ⌝ }
+{
+    let lengths = laid.lengths;
+    length_at(lengths, k as usize)
+}
+
+fn length_at(lengths: [u16; 3], k: usize) -> u16
+    ensures { λ r. ⌜ r ≡ getD lengths k 0 ⌝ }
+{
+    if k < 3 {
+        return lengths[k];
+    }
+    0
+}
+
+// ---- a dump's parts
+
+pub(crate) fn place_part(text: Text, i: u8, place: Place) -> Text
+    ensures { λ r. ⌜ Wrote text r (placeWords i place) ⌝ }
+{
+    if place.used {
+        let numbered = texts::add_number(texts::add(text, b" "), i as u32);
+        let named = texts::add_field(numbered, place.identifier as u32);
+        return texts::add_field(named, place.post as u32);
+    }
+    text
+}
+
+pub(crate) fn record_part(text: Text, i: u8, row: Record) -> Text
+    ensures { λ r. ⌜ Wrote text r (recordWords i row) ⌝ }
+{
+    if row.in_use {
+        let numbered = texts::add_number(texts::add(text, b" "), i as u32);
+        let named = texts::add_field(texts::add_field(numbered, row.ssi), row.extension);
+        let posted = texts::add_field(named, row.post as u32);
+        return texts::add_field(posted, one_if(row.active));
+    }
+    text
+}
+
+fn one_if(b: bool) -> u32
+    ensures { λ r. ⌜ r ≡ one b ⌝ }
+{
+    if b {
+        return 1;
+    }
+    0
+}
