@@ -1,0 +1,3 @@
+pub mod LendLaws
+pub mod Walk
+pub mod Again

@@ -1,0 +1,95 @@
+// One call of the host on what it lends (document 01, "User records and waiting calls"): the desk, the user records, the message and the
+// output area. Nothing is decided here. The records are loaded, desk's `step` is taken by value, the desk is stored and the marks are set.
+//
+// The functions on lent records or a lent desk (`set_mark`, `set_marks`, `load`, `call`) are proved by walks, the others as everywhere.
+ghost use mathlib.Core.Path.{_≡_};
+ghost use mathlib.Core.Bool.{false};
+ghost use lib.ListN.{getD, replicate, set};
+ghost use Rattle.records.specs.Records.{noRecord, rowOf};
+ghost use Rattle.host.specs.Lending.{loadedOf, markAs, markedBy};
+use desk::Answer;
+use profile::Profile;
+use records::Marks;
+use records::Record;
+use sending::Laid;
+
+// What the host is told: the answer, how many messages were laid in the output area, and their lengths in bits.
+pub struct Told {
+    pub answer: Answer,
+    pub laid: Laid,
+}
+
+const NO_RECORD: Record = Record {
+    in_use: false,
+    ssi: 0,
+    extension: 0,
+    post: 0,
+    active: false,
+};
+
+// The mark of one record. Nothing else writes to a record. A number past the last record changes nothing.
+pub fn set_mark(records: &mut [Record], at: usize, mark: bool)
+    ensures { λ _. ⌜ now (records .exit) ≡ set (now (records .entry)) at (markAs mark (rowOf (now (records .entry)) at)) ⌝ }
+{
+    if at < records.len() {
+        records[at].active = mark;
+    }
+}
+
+// The first 128 records, and no record beyond what is lent.
+pub fn load(records: &[Record]) -> [Record; 128]
+    ensures { λ r. ⌜ r ≡ loadedOf (now (records .entry)) ⌝ }
+{
+    let mut rows = no_records();
+    let mut i = 0;
+    while i < records.len() {
+        rows = with_record(rows, i, records[i]);
+        i += 1;
+    }
+    rows
+}
+
+// The records whose mark is said are marked.
+fn set_marks(records: &mut [Record], marks: Marks)
+    ensures { λ _. ⌜ now (records .exit) ≡ markedBy (now (records .entry)) (marks .at) ⌝ }
+{
+    let mut i = 0;
+    while i < Profile::RECORDS {
+        if says(marks, i) {
+            set_mark(records, i, true);
+        }
+        i += 1;
+    }
+}
+
+// The mark of record i is said.
+fn says(marks: Marks, i: usize) -> bool
+    ensures { λ r. ⌜ r ≡ getD (marks .at) i false ⌝ }
+{
+    let at = marks.at;
+    said(at, i)
+}
+
+fn said(at: [bool; 128], i: usize) -> bool
+    ensures { λ r. ⌜ r ≡ getD at i false ⌝ }
+{
+    if i < Profile::RECORDS { at[i] } else { false }
+}
+
+fn no_records() -> [Record; 128]
+    ensures { λ r. ⌜ r ≡ replicate 128 noRecord ⌝ }
+{
+    [NO_RECORD; 128]
+}
+
+// Record i is set, where there is room for it.
+fn with_record(rows: [Record; 128], i: usize, r: Record) -> [Record; 128]
+    ensures { λ s. ⌜ s ≡ set rows i r ⌝ }
+{
+    if i < Profile::RECORDS {
+        let mut next = rows;
+        next[i] = r;
+        return next;
+    }
+    rows
+}
