@@ -6,8 +6,11 @@ ghost use mathlib.Core.Path.{_≡_};
 ghost use mathlib.Core.Bool.{false};
 ghost use lib.ListN.{getD, replicate, set};
 ghost use Rattle.records.specs.Records.{noRecord, rowOf};
-ghost use Rattle.host.specs.Lending.{loadedOf, markAs, markedBy};
+ghost use Rattle.host.specs.Lending.{loadedOf, markAs, markedBy, toldOf, Called};
 use desk::Answer;
+use desk::Desk;
+use desk::Event;
+use desk::Stepped;
 use profile::Profile;
 use records::Marks;
 use records::Record;
@@ -47,6 +50,33 @@ pub fn load(records: &[Record]) -> [Record; 128]
         i += 1;
     }
     rows
+}
+
+pub fn call(
+    desk: &mut Desk,
+    records: &mut [Record],
+    event: Event,
+    message: &[u8],
+    out: &mut [u8],
+) -> Told
+    ensures { λ r. ⌜ Called (now (desk .entry)) (now (records .entry)) (now (message .entry)) (now (out .entry)) event r (now (desk .exit)) (now (records .exit)) (now (out .exit)) ⌝ }
+{
+    let rows = load(records);
+    let s = desk::step(*desk, rows, records.len(), message, out, event);
+    *desk = s.desk;
+    set_marks(records, s.marks);
+    told_of(s)
+}
+
+fn told_of(s: Stepped) -> Told
+    ensures { λ r. ⌜ r ≡ toldOf s ⌝ }
+{
+    let answer = s.answer;
+    let laid = s.laid;
+    Told {
+        answer: answer,
+        laid: laid,
+    }
 }
 
 // The records whose mark is said are marked.
