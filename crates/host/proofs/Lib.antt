@@ -2,3 +2,4 @@ pub mod LendLaws
 pub mod Walk
 pub mod Again
 pub mod Shared
+pub mod HostLaws

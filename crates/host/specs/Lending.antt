@@ -1,7 +1,7 @@
 -- What is lent for one call, and what a call leaves of it. The step itself is desk's `stepOf`.
 use Prim.Native.Nat.{ℕ, zero, suc}
 use mathlib.Core.Path.{_≡_}
-use mathlib.Core.Bool.{Bool, true, false, cond}
+use mathlib.Core.Bool.{Bool, true, cond}
 use mathlib.Core.List.{List, [], _∷_}
 use lib.ListN.{length}
 use Rattle.records.specs.Records.{noRecord}

@@ -5,8 +5,6 @@ use lib.ListN.{length, List·getD-eq-default}
 use borrow.Author.Needs.{needs}
 use Rattle.host.proofs.said.Statement.{statement}
 use Rattle.host.proofs.said.Tie as tie
-use Rattle.host.proofs.said.Reads as reads
-use Rattle.host.proofs.said.Lts as lts
 
 array-read-result : tie.Need-array-read-result
 array-read-result c = search needs

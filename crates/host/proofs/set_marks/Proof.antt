@@ -52,7 +52,6 @@ use Rattle.host.proofs.LendLaws.{length-marked, mark-none, mark-yes, ma
 use Rattle.host.proofs.Walk.{rest-of, holds, fails}
 use Rattle.host.proofs.Again.{LentAgain, lends-again, comes-back}
 use Rattle.records.proofs.Record as T
-use Rattle.records.proofs.Record.Laws as T′
 use Rattle.records.proofs.Marks as K
 use Rattle.records.proofs.Marks.Laws as K′
 use Rattle.host.proofs.says as says′

@@ -7,8 +7,6 @@ use lib.Seq.{set-out}
 use borrow.Author.Needs.{needs}
 use Rattle.host.proofs.with_record.Statement.{statement}
 use Rattle.host.proofs.with_record.Tie as tie
-use Rattle.host.proofs.with_record.Reads as reads
-use Rattle.host.proofs.with_record.Lts as lts
 
 mul-next : tie.Need-mul-next
 mul-next c = search needs
