@@ -3,8 +3,8 @@ use Prim.Native.Nat.{ℕ, zero, suc}
 use mathlib.Core.Path.{_≡_}
 use mathlib.Core.Bool.{Bool, true, cond}
 use mathlib.Core.List.{List, [], _∷_}
-use lib.ListN.{length}
-use Rattle.records.specs.Records.{noRecord}
+use lib.ListN.{length, set}
+use Rattle.records.specs.Records.{noRecord, rowOf}
 use Rattle.records.specs.declared.Record.{Record}
 use Rattle.desk.specs.Steps.{stepOf, areaAfter}
 use Rattle.desk.specs.declared.Desk.{Desk}
@@ -28,6 +28,10 @@ loadedOf rows = firstOf 128 rows
 -- a record with this mark, and nothing else changed
 abbrev pub markAs : Bool → Record → Record
 markAs m r = record { in_use = r .in_use; ssi = r .ssi; extension = r .extension; post = r .post; active = m }
+
+-- the mark of record i, where there is one
+abbrev pub setMark : List Record → ℕ → Bool → List Record
+setMark rows i m = set rows i (markAs m (rowOf rows i))
 
 -- the marks that are said are set; a record past the last of them stays
 unfoldable pub markedBy : List Record → List Bool → List Record

@@ -5,8 +5,8 @@
 ghost use mathlib.Core.Path.{_≡_};
 ghost use mathlib.Core.Bool.{false};
 ghost use lib.ListN.{getD, replicate, set};
-ghost use Rattle.records.specs.Records.{noRecord, rowOf};
-ghost use Rattle.host.specs.Lending.{loadedOf, markAs, markedBy, toldOf, Called};
+ghost use Rattle.records.specs.Records.{noRecord};
+ghost use Rattle.host.specs.Lending.{loadedOf, setMark, markedBy, toldOf, Called};
 use desk::Answer;
 use desk::Desk;
 use desk::Event;
@@ -32,7 +32,7 @@ const NO_RECORD: Record = Record {
 
 // The mark of one record. Nothing else writes to a record. A number past the last record changes nothing.
 pub fn set_mark(records: &mut [Record], at: usize, mark: bool)
-    ensures { λ _. ⌜ now (records .exit) ≡ set (now (records .entry)) at (markAs mark (rowOf (now (records .entry)) at)) ⌝ }
+    ensures { λ _. ⌜ now (records .exit) ≡ setMark (now (records .entry)) at mark ⌝ }
 {
     if at < records.len() {
         records[at].active = mark;
