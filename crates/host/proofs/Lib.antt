@@ -1,0 +1,5 @@
+pub mod LendLaws
+pub mod Walk
+pub mod Again
+pub mod Shared
+pub mod HostLaws

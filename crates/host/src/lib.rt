@@ -1,0 +1,125 @@
+// One call of the host on what it lends (document 01, "User records and waiting calls"): the desk, the user records, the message and the
+// output area. Nothing is decided here. The records are loaded, desk's `step` is taken by value, the desk is stored and the marks are set.
+//
+// The functions on lent records or a lent desk (`set_mark`, `set_marks`, `load`, `call`) are proved by walks, the others as everywhere.
+ghost use mathlib.Core.Path.{_≡_};
+ghost use mathlib.Core.Bool.{false};
+ghost use lib.ListN.{getD, replicate, set};
+ghost use Rattle.records.specs.Records.{noRecord};
+ghost use Rattle.host.specs.Lending.{loadedOf, setMark, markedBy, toldOf, Called};
+use desk::Answer;
+use desk::Desk;
+use desk::Event;
+use desk::Stepped;
+use profile::Profile;
+use records::Marks;
+use records::Record;
+use sending::Laid;
+
+// What the host is told: the answer, how many messages were laid in the output area, and their lengths in bits.
+pub struct Told {
+    pub answer: Answer,
+    pub laid: Laid,
+}
+
+const NO_RECORD: Record = Record {
+    in_use: false,
+    ssi: 0,
+    extension: 0,
+    post: 0,
+    active: false,
+};
+
+// The mark of one record. Nothing else writes to a record. A number past the last record changes nothing.
+pub fn set_mark(records: &mut [Record], at: usize, mark: bool)
+    ensures { λ _. ⌜ now (records .exit) ≡ setMark (now (records .entry)) at mark ⌝ }
+{
+    if at < records.len() {
+        records[at].active = mark;
+    }
+}
+
+// The first 128 records, and no record beyond what is lent.
+pub fn load(records: &[Record]) -> [Record; 128]
+    ensures { λ r. ⌜ r ≡ loadedOf (now (records .entry)) ⌝ }
+{
+    let mut rows = no_records();
+    let mut i = 0;
+    while i < records.len() {
+        rows = with_record(rows, i, records[i]);
+        i += 1;
+    }
+    rows
+}
+
+pub fn call(
+    desk: &mut Desk,
+    records: &mut [Record],
+    event: Event,
+    message: &[u8],
+    out: &mut [u8],
+) -> Told
+    ensures { λ r. ⌜ Called (now (desk .entry)) (now (records .entry)) (now (message .entry)) (now (out .entry)) event r (now (desk .exit)) (now (records .exit)) (now (out .exit)) ⌝ }
+{
+    let rows = load(records);
+    let s = desk::step(*desk, rows, records.len(), message, out, event);
+    *desk = s.desk;
+    set_marks(records, s.marks);
+    told_of(s)
+}
+
+fn told_of(s: Stepped) -> Told
+    ensures { λ r. ⌜ r ≡ toldOf s ⌝ }
+{
+    let answer = s.answer;
+    let laid = s.laid;
+    Told {
+        answer: answer,
+        laid: laid,
+    }
+}
+
+// The records whose mark is said are marked.
+fn set_marks(records: &mut [Record], marks: Marks)
+    ensures { λ _. ⌜ now (records .exit) ≡ markedBy (now (records .entry)) (marks .at) ⌝ }
+{
+    let mut i = 0;
+    while i < Profile::RECORDS {
+        if says(marks, i) {
+            set_mark(records, i, true);
+        }
+        i += 1;
+    }
+}
+
+// The mark of record i is said.
+fn says(marks: Marks, i: usize) -> bool
+    ensures { λ r. ⌜ r ≡ getD (marks .at) i false ⌝ }
+{
+    let at = marks.at;
+    said(at, i)
+}
+
+fn said(at: [bool; 128], i: usize) -> bool
+    ensures { λ r. ⌜ r ≡ getD at i false ⌝ }
+{
+    if i < Profile::RECORDS { at[i] } else { false }
+}
+
+fn no_records() -> [Record; 128]
+    ensures { λ r. ⌜ r ≡ replicate 128 noRecord ⌝ }
+{
+    [NO_RECORD; 128]
+}
+
+// Record i is set, where there is room for it.
+fn with_record(rows: [Record; 128], i: usize, r: Record) -> [Record; 128]
+    ensures { λ s. ⌜ s ≡ set rows i r ⌝ }
+{
+    if i < Profile::RECORDS {
+        let mut next = rows;
+        next[i] = r;
+        return next;
+    }
+    rows
+}
