@@ -52,6 +52,7 @@ pub fn load(records: &[Record]) -> [Record; 128]
     rows
 }
 
+// One call. The step is told the true number of records: of more than 128 it is the step that refuses, in its order.
 pub fn call(
     desk: &mut Desk,
     records: &mut [Record],

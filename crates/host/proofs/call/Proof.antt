@@ -249,7 +249,7 @@ module _ {M : Type 1} (𝓤 : URA M) (H : Heap 𝓤) (A : Atoms 𝓤) (W : Given
     abbrev Taken : ℕ → ℕ → ℕ → ℕ → ℕ → ℕ → ℕ → ℕ → ℕ → ℕ → ℕ → ℕ → ℕ → ℕ → ℕ → ℕ → ℕ → Val → List ℕ → List (Item 𝓤)
     Taken l₀ l₁ l₂ l₃ l₄ l₅ l₆ l₇ l₈ l₉ l₁₀ l₁₁ l₁₂ l₁₃ l₁₄ l₁₅ l₁₆ w′ os = ‵ (cellAt fullShare (D.the-row .mir) (desk-vals h) b o) ∷ ‵ (fobor κ q (Body (mem D.the-row) b o γ)) ∷ ‵ (fobs γ (D.the-row .coded .code h)) ∷ ‵ (fauth γ (D.the-row .coded .code h)) ∷ ‵ (flft κ₁ q₁) ∷ ‵ (MutSlice (named 1) κ₁ R.the-row .own (y γ₁) (s ∷ [])) ∷ (‵ (flft κ₂ q₂) ⊛ (‵ (flft κ₃ q₃) ⊛ ‵ ftrue)) ∷ ‵ (finally u8 (c .name) os) ∷ ‵ (froom (spell body.table (slice-ty (tyRef erased mut row-ty))) l₁₆ 0) ∷ ‵ (fdies (spell body.table (slice-ty (tyRef erased mut row-ty))) l₁₆) ∷ ‵ (froom (spell body.table (tyRef erased mut row-ty)) l₁₅ 0) ∷ ‵ (fdies (spell body.table (tyRef erased mut row-ty)) l₁₅) ∷ ‵ (froom (spell body.table tyUnit) l₁₄ 0) ∷ ‵ (fdies (spell body.table tyUnit) l₁₄) ∷ ‵ (froom (spell body.table (slice-ty (tyRef erased mut (tyInt w8)))) l₁₃ 0) ∷ ‵ (fdies (spell body.table (slice-ty (tyRef erased mut (tyInt w8)))) l₁₃) ∷ ‵ (froom (spell body.table (tyRef erased mut (tyInt w8))) l₁₂ 0) ∷ ‵ (fdies (spell body.table (tyRef erased mut (tyInt w8))) l₁₂) ∷ ‵ (froom (spell body.table (tyInt w64)) l₁₁ 0) ∷ ‵ (fdies (spell body.table (tyInt w64)) l₁₁) ∷ ‵ (froom (spell body.table (tyNamed ((100 ∷ 101 ∷ 115 ∷ 107 ∷ 58 ∷ 58 ∷ 68 ∷ 101 ∷ 115 ∷ 107 ∷ []), []))) l₁₀ 0) ∷ ‵ (fdies (spell body.table (tyNamed ((100 ∷ 101 ∷ 115 ∷ 107 ∷ 58 ∷ 58 ∷ 68 ∷ 101 ∷ 115 ∷ 107 ∷ []), []))) l₁₀) ∷ ‵ (froom (spell body.table (slice-ty (tyRef erased imm row-ty))) l₉ 0) ∷ ‵ (fdies (spell body.table (slice-ty (tyRef erased imm row-ty))) l₉) ∷ ‵ (froom (spell body.table (tyRef erased imm row-ty)) l₈ 0) ∷ ‵ (fdies (spell body.table (tyRef erased imm row-ty)) l₈) ∷ ‵ (fat fullShare (spell body.table (tyNamed ((100 ∷ 101 ∷ 115 ∷ 107 ∷ 58 ∷ 58 ∷ 83 ∷ 116 ∷ 101 ∷ 112 ∷ 112 ∷ 101 ∷ 100 ∷ []), []))) l₇ 0 w′) ∷ ‵ (fdies (spell body.table (tyNamed ((100 ∷ 101 ∷ 115 ∷ 107 ∷ 58 ∷ 58 ∷ 83 ∷ 116 ∷ 101 ∷ 112 ∷ 112 ∷ 101 ∷ 100 ∷ []), []))) l₇) ∷ ‵ (froom (spell body.table (tyArray row-ty 128)) l₆ 0) ∷ ‵ (fdies (spell body.table (tyArray row-ty 128)) l₆) ∷ ‵ (froom (spell body.table (slice-ty (tyRef (named 3) mut (tyInt w8)))) l₅ 0) ∷ ‵ (fdies (spell body.table (slice-ty (tyRef (named 3) mut (tyInt w8)))) l₅) ∷ ‵ (froom (spell body.table (slice-ty (tyRef (named 2) imm (tyInt w8)))) l₄ 0) ∷ ‵ (fdies (spell body.table (slice-ty (tyRef (named 2) imm (tyInt w8)))) l₄) ∷ ‵ (froom (spell body.table (tyNamed ((100 ∷ 101 ∷ 115 ∷ 107 ∷ 58 ∷ 58 ∷ 69 ∷ 118 ∷ 101 ∷ 110 ∷ 116 ∷ []), []))) l₃ 0) ∷ ‵ (fdies (spell body.table (tyNamed ((100 ∷ 101 ∷ 115 ∷ 107 ∷ 58 ∷ 58 ∷ 69 ∷ 118 ∷ 101 ∷ 110 ∷ 116 ∷ []), []))) l₃) ∷ ‵ (fat fullShare (spell body.table (slice-ty (tyRef (named 1) mut row-ty))) l₂ 0 s) ∷ ‵ (fdies (spell body.table (slice-ty (tyRef (named 1) mut row-ty))) l₂) ∷ ‵ (fat fullShare (spell body.table (tyRef (named 0) mut (tyNamed ((100 ∷ 101 ∷ 115 ∷ 107 ∷ 58 ∷ 58 ∷ 68 ∷ 101 ∷ 115 ∷ 107 ∷ []), [])))) l₁ 0 (vptr b o)) ∷ ‵ (fdies (spell body.table (tyRef (named 0) mut (tyNamed ((100 ∷ 101 ∷ 115 ∷ 107 ∷ 58 ∷ 58 ∷ 68 ∷ 101 ∷ 115 ∷ 107 ∷ []), [])))) l₁) ∷ ‵ (froom (spell body.table (tyNamed ((104 ∷ 111 ∷ 115 ∷ 116 ∷ 58 ∷ 58 ∷ 84 ∷ 111 ∷ 108 ∷ 100 ∷ []), []))) l₀ 0) ∷ ‵ (fdies (spell body.table (tyNamed ((104 ∷ 111 ∷ 115 ∷ 116 ∷ 58 ∷ 58 ∷ 84 ∷ 111 ∷ 108 ∷ 100 ∷ []), []))) l₀) ∷ []
 
-    -- from there on: the desk is stored and the borrow is closed at it
+    -- from there on: the desk is stored and the borrow is closed at it. In a step the desk lies from byte 12 on and the marks from byte 268; they are written out because to find them takes too long
     ends : (l₀ l₁ l₂ l₃ l₄ l₅ l₆ l₇ l₈ l₉ l₁₀ l₁₁ l₁₂ l₁₃ l₁₄ l₁₅ l₁₆ : ℕ) (r : Stepped) (w′ : Val) (os : List ℕ) → Said r os → length os ≡ length (c .now) → Is S.the-row r (w′ ∷ []) → Sq W (Taken l₀ l₁ l₂ l₃ l₄ l₅ l₆ l₇ l₈ l₉ l₁₀ l₁₁ l₁₂ l₁₃ l₁₄ l₁₅ l₁₆ w′ os) (runs C Λ (En l₀ l₁ l₂ l₃ l₄ l₅ l₆ l₇ l₈ l₉ l₁₀ l₁₁ l₁₂ l₁₃ l₁₄ l₁₅ l₁₆) body.t-9 (atRet (En l₀ l₁ l₂ l₃ l₄ l₅ l₆ l₇ l₈ l₉ l₁₀ l₁₁ l₁₂ l₁₃ l₁₄ l₁₅ l₁₆) Post))
     ends l₀ l₁ l₂ l₃ l₄ l₅ l₆ l₇ l₈ l₉ l₁₀ l₁₁ l₁₂ l₁₃ l₁₄ l₁₅ l₁₆ r w′ os e₁ lo is =
         let fields = LL.owed S.the-type S′.the-laws r (w′ ∷ []) is in
