@@ -14,3 +14,4 @@ pub mod Desk
 pub mod Lines
 pub mod Words
 pub mod Script
+pub mod Host
