@@ -1,14 +1,15 @@
--- Optional elements make good codecs, and what reading one comes to where it is there. Assumes nothing.
-use Prim.Native.Nat.{ℕ, zero, suc, _<_, _^_}
+-- Optional elements make good codecs. Assumes nothing.
+use Prim.Native.Nat.{ℕ, zero, suc, _+_, _≤_, _<_, _^_}
 use mathlib.Core.Path.{_≡_, refl, ap, _∙_}
 use mathlib.Core.Bool.{Bool, true, false, cond}
 use native.Mathlib.Omega.{arith}
 use lib.Dec.{eqb}
+use lib.ListN.{length}
 use borrow.Author.Tests.{ltb-true}
-use Rattle.codec.specs.Stops.{refusal}
 use Rattle.codec.specs.Codec.{Read, got, no, bind, Codec, number, pure, guard, choose}
-use Rattle.codec.specs.Options.{flag, given, options, isAbsent, option}
-use Rattle.codec.proofs.Good.{both-true, both-left, both-right, not-both, Good}
+use Rattle.codec.specs.Options.{flag, given, Optional, absent, there, isThere, isAbsent, thereBits, thereOk, thereC, optional, options}
+use Rattle.bits.proofs.Stands.{AreBits, Stands}
+use Rattle.codec.proofs.Good.{both-right, not-both, View, refused, found, Good}
 use Rattle.codec.proofs.Combinators.{good-number, good-pure, good-guard, good-seq, good-iso, good-choose}
 
 -- ---- a flag
@@ -26,11 +27,55 @@ pub good-flag : (e : ℕ) → Good (flag e)
 unfolding flag number
 good-flag e = good-iso (λ v. eqb v 1) (λ b. cond b 1 0) (number e 1) (λ v h. flag-back v (ltb-true v 2 h)) (λ b _. flag-there b) (good-number e 1)
 
--- ---- one element behind its P-bit
+-- ---- one element behind a bit
 
 module _ {A : Type 0} (p : ℕ) (none : A) (isNone : A → Bool) (C : Codec A) (self : isNone none ≡ true) (only : (a : A) → isNone a ≡ true → a ≡ none) (G : Good C) where
   pub good-given : Good (given p none isNone C)
   good-given = good-seq (flag p) (λ b. choose b C (pure none isNone)) (good-flag p) (λ b _. good-choose b G (good-pure none isNone self only))
+
+-- ---- one optional element behind its P-bit
+
+module _ {A : Type 0} (C : Codec A) (G : Good C) where
+  there-view : (f : ℕ → ℕ) (n at : ℕ) (r : Read A) → View C f n at r → View (thereC C) f n at (bind r (λ a p. got (there a) p))
+  there-view f n at (no s) (refused _) = refused s
+  there-view f n at (got a p) (found _ _ w) = found (there a) p (record { valid = w .valid; next = w .next; within = w .within; stands = w .stands })
+
+  there-forward : (f : ℕ → ℕ) (n at : ℕ) (x : Optional A) → thereOk C x ≡ true → Stands f at (thereBits C x) → at + length (thereBits C x) ≤ n
+      → thereC C .read f n at ≡ got x (at + length (thereBits C x))
+  there-forward f n at absent v s k = not-both v
+  there-forward f n at (there a) v s k = rw (G .forward f n at a v s k)
+
+  there-are-bits : (x : Optional A) → thereOk C x ≡ true → AreBits (thereBits C x)
+  there-are-bits absent v = tt
+  there-are-bits (there a) v = G .are-bits a v
+
+  good-there : Good (thereC C)
+  good-there =
+      record {
+        are-bits = there-are-bits;
+        forward = there-forward;
+        backward = λ f n hf at. there-view f n at (C .read f n at) (G .backward f n hf at);
+        alike = λ f g n at hf e. rw (G .alike f g n at hf e);
+      }
+
+absent-is : {A : Type 0} (x : Optional A) → isAbsent x ≡ true → x ≡ absent
+absent-is absent e = refl
+absent-is (there a) e = not-both e
+
+module _ {A : Type 0} (p : ℕ) (C : Codec A) (G : Good C) where
+  -- the P-bit says whether the element is there
+  p-bit : (b : Bool) (x : Optional A) → choose b (thereC C) (pure absent isAbsent) .ok x ≡ true → isThere x ≡ b
+  p-bit true absent v = not-both v
+  p-bit true (there a) v = refl
+  p-bit false absent v = refl
+  p-bit false (there a) v = not-both v
+
+  pub good-optional : Good (optional p C)
+  good-optional =
+      good-iso _ _ _
+      (λ x v. ap (λ (b : Bool). (b, x .1)) (p-bit (x .0) (x .1) (both-right (flag p .ok (x .0)) _ v)))
+      (λ x v. refl)
+      (good-seq (flag p) (λ b. choose b (thereC C) (pure absent isAbsent)) (good-flag p) (λ b _. good-choose b (good-there C G) (good-pure absent isAbsent refl absent-is)))
 
 -- ---- the elements behind the O-bit
 
@@ -47,24 +92,3 @@ module _ {A : Type 0} (o : ℕ) (none : A) (isNone some : A → Bool) (D : Codec
       (λ x v. ap (λ (b : Bool). (b, x .1)) (o-bit (x .0) (x .1) (both-right (flag o .ok (x .0)) _ v)))
       (λ a v. refl)
       (good-seq (flag o) (λ b. choose b (guard 12 some D) (pure none isNone)) (good-flag o) (λ b _. good-choose b (good-guard 12 some D G) (good-pure none isNone self only)))
-
--- ---- one optional element
-
-module _ {A : Type 0} (o p : ℕ) (none : A) (isNone : A → Bool) (C : Codec A) where
-  absent-is : (only : (a : A) → isNone a ≡ true → a ≡ none) (x : Bool × A) → isAbsent isNone x ≡ true → x ≡ (false, none)
-  absent-is only (true, a) e = not-both (both-left false (isNone a) e)
-  absent-is only (false, a) e = ap (λ (b : A). (false, b)) (only a (both-right true (isNone a) e))
-
-  pub good-option : isNone none ≡ true → ((a : A) → isNone a ≡ true → a ≡ none) → Good C → Good (option o p none isNone C)
-  good-option self only G =
-      good-options o (false, none) (isAbsent isNone) (λ x. x .0) (given p none isNone C) (both-true true (isNone none) refl self) (absent-is only) refl (good-given p none isNone C self only G)
-
-  -- after an O-bit and a P-bit of 1 the element itself is read
-  pub option-given : (f : ℕ → ℕ) (n at : ℕ) (b d : Bool) (q r : ℕ) → flag o .read f n at ≡ got b q → b ≡ true → flag p .read f n q ≡ got d r → d ≡ true
-      → option o p none isNone C .read f n at ≡ bind (C .read f n r) (λ a t. got (true, a) t)
-  option-given f n at b d q r e eb h hd = rw (e, eb, h, hd) (go (C .read f n r))
-    where
-      go : (x : Read A) → bind (bind (bind (bind x (λ a t. got (true, a) t)) (λ (y : Bool × A) t. cond (y .0) (got y t) (no (refusal 12)))) (λ y t. got (true, y) t)) (λ (z : Bool × (Bool × A)) t. got (z .1) t)
-          ≡ bind x (λ a t. got (true, a) t)
-      go (got a t) = refl
-      go (no s) = refl

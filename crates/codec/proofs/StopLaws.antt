@@ -6,7 +6,7 @@ use lib.Dec.{leb}
 use Rattle.bits.specs.Fields.{fieldAt}
 use Rattle.codec.specs.Stops.{short, refusal}
 use Rattle.codec.specs.Codec.{Read, got, no, bind, Codec, number, pure, guard, seq, map, choose, vec, vecRead}
-use Rattle.codec.specs.Options.{flag, given, isAbsent, option}
+use Rattle.codec.specs.Options.{flag, given, absent, isAbsent, thereC, optional, options}
 
 -- a refusal has a number that passes the test
 abbrev pub StopsBy : {A : Type 0} → (ℕ → Bool) → Read A → Type 0
@@ -72,19 +72,17 @@ module _ (test : ℕ → Bool) where
     only-given p none isNone C o =
         only-seq (flag p) (λ b. choose b C (pure none isNone)) (only-flag four p) (λ b. only-choose b C (pure none isNone) o (only-pure none isNone))
 
-    pub only-option : {A : Type 0} (o p : ℕ) (none : A) (isNone : A → Bool) (C : Codec A) → test 12 ≡ true → Only test C → Only test (option o p none isNone C)
-    only-option {A} o p none isNone C twelve only = only-map (λ (x : Bool × (Bool × A)). x .1) (λ a. (a .0, a)) (λ _. true) behind behind-only
-      where
-        some : Codec (Bool × A)
-        some = guard 12 (λ x. x .0) (given p none isNone C)
+    only-there : {A : Type 0} (C : Codec A) → Only test C → Only test (thereC C)
+    only-there C o = record { stops = λ f n at. bind-only (C .read f n at) _ (o .stops f n at) (λ a p. tt) }
 
-        nothing : Codec (Bool × A)
-        nothing = pure (false, none) (isAbsent isNone)
+    pub only-optional : {A : Type 0} (p : ℕ) (C : Codec A) → Only test C → Only test (optional p C)
+    only-optional p C o =
+        only-map _ _ _ _
+        (only-seq (flag p) (λ b. choose b (thereC C) (pure absent isAbsent)) (only-flag four p)
+        (λ b. only-choose b (thereC C) (pure absent isAbsent) (only-there C o) (only-pure absent isAbsent)))
 
-        behind : Codec (Bool × (Bool × A))
-        behind = seq (flag o) (λ b. choose b some nothing)
-
-        behind-only : Only test behind
-        behind-only =
-            only-seq (flag o) (λ b. choose b some nothing) (only-flag four o)
-            (λ b. only-choose b some nothing (only-guard 12 (λ x. x .0) (given p none isNone C) twelve (only-given p none isNone C only)) (only-pure (false, none) (isAbsent isNone)))
+    pub only-options : {A : Type 0} (o : ℕ) (none : A) (isNone some : A → Bool) (D : Codec A) → test 12 ≡ true → Only test D → Only test (options o none isNone some D)
+    only-options o none isNone some D twelve only =
+        only-map _ _ _ _
+        (only-seq (flag o) (λ b. choose b (guard 12 some D) (pure none isNone)) (only-flag four o)
+        (λ b. only-choose b (guard 12 some D) (pure none isNone) (only-guard 12 some D twelve only) (only-pure none isNone)))

@@ -16,8 +16,11 @@ use Rattle.message.specs.Elements as element
 use Rattle.message.specs.Addresses.{nobody, kindC, extensionC, addressC}
 use Rattle.message.specs.Groups.{addressesIn, allowedIn, nobodies, placesC, rangeOk, endsOk, addressesC, rangeC, groupC, noGroup, oneGroup, spanIn, spanOf}
 use Rattle.message.specs.Acks.{maskC, maskedC, resultC}
-use Rattle.message.specs.Values.{activateV, plainV}
-use Rattle.message.specs.Messages.{activateC, ackC, interrogateC, interceptedC, callC, acceptedC, bodyC, isKnown, isCarried, headerC, messageC}
+use Rattle.message.specs.Numbers as place
+use Rattle.message.specs.Numbers.{elements, elementOf, widths, widthOf}
+use Rattle.message.specs.Values.{blank, withNumber, withUsers, withDispatchers, withGiven}
+use Rattle.message.specs.Rows.{rowOf, partsC, puts, eachC, optionsC, putOptions, firstParts}
+use Rattle.message.specs.Messages.{bodyC, isKnown, isCarried, headerC, messageC}
 use Rattle.message.specs.Reading.{wholeOf, lengthOk, readBits, readOf}
 use Rattle.message.specs.declared.Value.{Value}
 use Rattle.message.specs.declared.Address.{Address}
@@ -38,7 +41,10 @@ home s = record { kind = 1; ssi = s; extension = 0 }
 
 -- a message with an identifier or with nothing
 abbrev pub call : ℕ → ℕ → Value
-call t i = plainV t nobody 0 i false nobody
+call t i = withNumber place.identifier i (blank t)
+
+abbrev pub caused : ℕ → ℕ → Value
+caused t c = withNumber place.cause c (blank t)
 
 abbrev pub cases : List Case
 cases =
@@ -50,16 +56,16 @@ cases =
     ∷ reads (0x25 ∷ 0x80 ∷ 0x02 ∷ 0x80 ∷ []) 25 (got (call 12 5) 25)
     ∷ reads (0x25 ∷ 0xFF ∷ 0xFF ∷ 0x80 ∷ []) 25 (got (call 15 16383) 25)
     -- 4, 5, 6: INTERCEPTED, cause 0, no option; DIVERTED likewise; INTERCEPTED, cause 2, kind 1, SSI 1
-    ∷ reads (0x25 ∷ 0x40 ∷ 0x00 ∷ []) 17 (got (plainV 10 nobody 0 0 false nobody) 17)
-    ∷ reads (0x26 ∷ 0x00 ∷ 0x00 ∷ []) 17 (got (plainV 16 nobody 0 0 false nobody) 17)
-    ∷ reads (0x25 ∷ 0x42 ∷ 0xD0 ∷ 0x00 ∷ 0x00 ∷ 0x10 ∷ []) 44 (got (plainV 10 nobody 2 0 true (home 1)) 44)
+    ∷ reads (0x25 ∷ 0x40 ∷ 0x00 ∷ []) 17 (got (blank 10) 17)
+    ∷ reads (0x26 ∷ 0x00 ∷ 0x00 ∷ []) 17 (got (blank 16) 17)
+    ∷ reads (0x25 ∷ 0x42 ∷ 0xD0 ∷ 0x00 ∷ 0x00 ∷ 0x10 ∷ []) 44 (got (withGiven 0 true (withDispatchers (oneGroup (home 1)) (caused 10 2))) 44)
     -- 7: INTERROGATE, SSI 1,001
-    ∷ reads (0x25 ∷ 0x08 ∷ 0x00 ∷ 0x1F ∷ 0x48 ∷ []) 37 (got (plainV 8 (home 1001) 0 0 false nobody) 37)
+    ∷ reads (0x25 ∷ 0x08 ∷ 0x00 ∷ 0x1F ∷ 0x48 ∷ []) 37 (got (withUsers (oneGroup (home 1001)) (blank 8)) 37)
     -- 8: ACTIVATE, range 15, SSI 1,001 to 1,004, no option
     ∷ reads (0x24 ∷ 0x5E ∷ 0x80 ∷ 0x01 ∷ 0xF4 ∷ 0xA0 ∷ 0x00 ∷ 0x7D ∷ 0x80 ∷ []) 68
-    (got (activateV (record { range = 15; addresses = set (set nobodies 0 (home 1001)) 1 (home 1004) }) false noGroup) 68)
+    (got (withUsers (record { range = 15; addresses = set (set nobodies 0 (home 1001)) 1 (home 1004) }) (blank 2)) 68)
     -- kinds: 2 with an extension of 5; 3 and 0 are refused, though nothing follows
-    ∷ reads (0x25 ∷ 0x10 ∷ 0x00 ∷ 0x1F ∷ 0x48 ∷ 0x00 ∷ 0x00 ∷ 0x28 ∷ []) 61 (got (plainV 8 (record { kind = 2; ssi = 1001; extension = 5 }) 0 0 false nobody) 61)
+    ∷ reads (0x25 ∷ 0x10 ∷ 0x00 ∷ 0x1F ∷ 0x48 ∷ 0x00 ∷ 0x00 ∷ 0x28 ∷ []) 61 (got (withUsers (oneGroup (record { kind = 2; ssi = 1001; extension = 5 })) (blank 8)) 61)
     ∷ reads (0x25 ∷ 0x18 ∷ []) 13 (no (refusal 10))
     ∷ reads (0x25 ∷ 0x00 ∷ []) 13 (no (refusal 10))
     -- SS type 10 with PDU type 1 and with type 4: 5 comes before 6 and 7
@@ -68,5 +74,5 @@ cases =
     ∷ []
 
 pub cases-right : list.map gives cases ≡ list.map wants cases
-unfolding bitAt fieldAt both number vecRead flag every sum meaningOk meaningIn airOk shareOk shareIn sharesOk profileOk sample sampleMeanings sampleShare kindC extensionC addressC addressesIn allowedIn nobodies placesC rangeOk endsOk addressesC rangeC groupC noGroup oneGroup spanIn spanOf maskC maskedC resultC activateC ackC interrogateC interceptedC callC acceptedC bodyC isKnown isCarried headerC messageC wholeOf lengthOk readBits readOf
+unfolding bitAt fieldAt both number vecRead flag every sum meaningOk meaningIn airOk shareOk shareIn sharesOk profileOk sample sampleMeanings sampleShare kindC extensionC addressC addressesIn allowedIn nobodies placesC rangeOk endsOk addressesC rangeC groupC noGroup oneGroup spanIn spanOf maskC maskedC resultC elements elementOf widths widthOf blank rowOf partsC puts eachC optionsC putOptions firstParts bodyC isKnown isCarried headerC messageC wholeOf lengthOk readBits readOf
 cases-right = refl

@@ -19,7 +19,7 @@ use Rattle.profile.specs.declared.Meaning.{Meaning}
 use Rattle.profile.specs.declared.Air.{Air}
 use Rattle.message.specs.Elements as element
 use Rattle.message.specs.Addresses.{nobody, isZero, isNobody, addressC}
-use Rattle.message.specs.Groups.{addressesBy, addressesIn, allowedBy, allowedIn, nobodies, areNobody, placesC, rangeOk, endsBy, endsOk, addressesC, rangeC, groupC, noGroup, oneGroup, isNoGroup, isOneGroup, spanBy, spanIn, spanOf}
+use Rattle.message.specs.Groups.{addressesBy, addressesIn, allowedBy, allowedIn, nobodies, areNobody, placesC, rangeOk, endsBy, endsOk, addressesC, rangeC, groupC, spanBy, spanIn, spanOf}
 use Rattle.message.specs.declared.Address.{Address}
 use Rattle.message.specs.declared.Group.{Group}
 use Rattle.message.proofs.AddressLaws.{zero-is, good-address, is-nobody, nobody-is}
@@ -131,33 +131,3 @@ module _ (air : Air) (none : Bool) (g : Group) (v : groupC air none .ok g ≡ tr
   few-identities =
       span-by (meaningIn (air .meanings) (g .range) .kind) (meaningIn (air .meanings) (g .range) .count) none (g .addresses)
       (range-allowed air none (g .range) range-valid) (both-right _ _ (both-right _ _ (both-right true _ v)))
-
--- ---- no group, and one address
-
-pub no-group-is : isNoGroup noGroup ≡ true
-unfolding isNoGroup noGroup nobodies areNobody isNobody both
-no-group-is = refl
-
-group-eq : (g : Group) (r : ℕ) (l : List Address) → g .range ≡ r → g .addresses ≡ l → _≡_ {A = Group} (record { range = g .range; addresses = g .addresses }) (record { range = r; addresses = l })
-group-eq g r l e d = rw (e, d)
-
-pub is-no-group : (g : Group) → isNoGroup g ≡ true → g ≡ noGroup
-unfolding isNoGroup noGroup nobodies
-is-no-group g e = group-eq g 0 (replicate 15 nobody) (zero-is _ (both-left _ _ e)) (are-nobody 15 (g .addresses) (both-right (isZero (g .range)) _ e))
-
-one-list : (l : List Address) → areNobody 14 (drop 1 l) ≡ true → set (replicate 15 nobody) 0 (getD l 0 nobody) ≡ l
-unfolding areNobody
-one-list [] e = not-both e
-one-list (a ∷ l) e = ap (λ (t : List Address). a ∷ t) (sym (are-nobody 14 l e))
-
-pub is-one-group : (g : Group) → isOneGroup g ≡ true → oneGroup (getD (g .addresses) 0 nobody) ≡ g
-unfolding isOneGroup oneGroup nobodies
-is-one-group g e = sym (group-eq g 0 _ (zero-is _ (both-left _ _ e)) (sym (one-list (g .addresses) (both-right (isZero (g .range)) _ e))))
-
-pub one-group-is : (a : Address) → isOneGroup (oneGroup a) ≡ true
-unfolding isOneGroup oneGroup nobodies areNobody isNobody both
-one-group-is a = refl
-
-pub first-one : (a : Address) → getD (oneGroup a .addresses) 0 nobody ≡ a
-unfolding oneGroup nobodies
-first-one a = refl

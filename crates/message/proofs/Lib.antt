@@ -6,3 +6,4 @@ pub mod MessageLaws
 pub mod ReadingLaws
 pub mod StopLaws
 pub mod Cases
+pub mod RowLaws

@@ -1,95 +1,136 @@
--- Each message is a good codec, and so is the whole of them under their header. Assumes nothing.
-use Prim.Native.Nat.{ℕ}
-use mathlib.Core.Path.{_≡_, refl, sym, ap, _∙_}
-use mathlib.Core.Bool.{Bool, true, false, _||_}
+-- Each message is a good codec, and so is the whole of them under their header; any row is one that puts no two things into one place.
+-- Assumes nothing.
+use Prim.Native.Nat.{ℕ, suc}
+use mathlib.Core.Path.{_≡_, refl, sym, ap, _∙_, subst}
+use mathlib.Core.Bool.{Bool, true, false, not, cond}
+use mathlib.Core.List.{List, [], _∷_}
 use lib.Dec.{eqb}
 use borrow.Author.Tests.{eqb-true}
-use Rattle.codec.specs.Codec.{Codec, number, seq, choose}
+use Rattle.codec.specs.Codec.{Codec, number, pure, seq}
+use Rattle.codec.specs.Options.{Optional, optional}
 use Rattle.codec.proofs.Good.{Good, both-left, both-right}
-use Rattle.codec.proofs.Combinators.{good-number, good-pure, good-guard, good-seq, good-map, good-iso, good-choose}
-use Rattle.codec.proofs.OptionLaws.{good-option}
+use Rattle.codec.proofs.Combinators.{good-number, good-pure, good-guard, good-seq, good-map, good-iso}
+use Rattle.codec.proofs.OptionLaws.{good-optional, good-options}
 use Rattle.profile.specs.declared.Air.{Air}
 use Rattle.message.specs.Elements as element
-use Rattle.message.specs.Addresses.{nobody, isNobody, addressC}
-use Rattle.message.specs.Groups.{groupC, noGroup, isNoGroup, spanOf}
-use Rattle.message.specs.Acks.{maskedC, resultC}
-use Rattle.message.specs.Values.{activateV, ackV, plainV, activateFits, ackFits, interrogateFits, interceptedFits, callFits, acceptedFits}
-use Rattle.message.specs.Messages.{dispatchersC, dispatcherC, activateC, ackC, interrogateC, interceptedC, callC, acceptedC, bodyC, isKnown, isCarried, headerC, messageC}
+use Rattle.message.specs.Numbers.{elementOf, widthOf}
+use Rattle.message.specs.Groups.{noGroup, nobodies}
+use Rattle.message.specs.Values.{blank, sameValue}
+use Rattle.message.specs.Rows.{rowOf, Holds, partC, put, get, Tuple, partsC, puts, gets, Options, orElse, putOption, putOptions, getOptions, someOf, noneOf, eachC, optionsC, firstParts, partsOf, optionsOf}
+use Rattle.message.specs.Messages.{fill, taken, holdsJust, messageOf, bodyC, isKnown, isCarried, headerC, messageC}
+use Rattle.message.specs.declared.Address.{Address}
+use Rattle.message.specs.declared.Group.{Group}
+use Rattle.message.specs.declared.Part.{Part}
+use Rattle.message.specs.declared.Part.the-variants as part
+use Rattle.message.specs.declared.Row.{Row}
 use Rattle.message.specs.declared.Value.{Value}
-use Rattle.message.proofs.AddressLaws.{good-address, is-nobody, nobody-is}
-use Rattle.message.proofs.GroupLaws.{good-group, no-group-is, is-no-group, first-one}
+use Rattle.message.proofs.AddressLaws.{good-address}
+use Rattle.message.proofs.GroupLaws.{good-group}
 use Rattle.message.proofs.AckLaws.{good-masked, good-result}
-use Rattle.message.proofs.ValueLaws.{activate-there, activate-fits, activate-pdu, ack-there, ack-fits, ack-pdu, interrogate-there, interrogate-fits, interrogate-pdu, intercepted-there, intercepted-fits, intercepted-pdu, call-there, call-fits, call-pdu, accepted-is, accepted-fits, accepted-pdu}
+use Rattle.message.proofs.ValueLaws.{value-self, value-one}
+use Rattle.message.proofs.RowLaws.{given-back, none-none, none-only}
 
--- ---- the eight
+-- ---- each part, and some of them
 
-pub good-activate : (air : Air) → Good (activateC air)
-unfolding activateC activateV
-good-activate air =
-    good-map _ _ activateFits _ (λ x v. refl) (λ x v. activate-fits (x .0) (x .1 .0) (x .1 .1)) (λ v e _. activate-there v e)
-    (good-seq (groupC air false) (λ u. dispatchersC air) (good-group air false)
-    (λ u _. good-option element.oBit element.pBit noGroup isNoGroup (groupC air true) no-group-is is-no-group (good-group air true)))
+good-nothing : Good (pure {A = Unit} tt (λ _. true))
+good-nothing = good-pure tt (λ _. true) refl (λ b e. refl)
 
-pub good-ack : (air : Air) → Good (ackC air)
-unfolding ackC ackV
-good-ack air =
-    good-map _ _ ackFits _ (λ x v. refl) (λ x v. ack-fits _ _ _ _ _) (λ v e _. ack-there v e)
-    (good-seq (groupC air false) (λ u. seq (maskedC (spanOf air u)) (λ m. resultC)) (good-group air false)
-    (λ u _. good-seq (maskedC (spanOf air u)) (λ m. resultC) (good-masked (spanOf air u)) (λ m _. good-result)))
+pub good-part : (air : Air) (v : Value) (p : Part) → Good (partC air v p)
+good-part air v part.Nothing = good-nothing
+good-part air v (part.Number k) = good-number (elementOf k) (widthOf k)
+good-part air v part.Users = good-group air false
+good-part air v (part.User i) = good-address
+good-part air v part.Masked = good-masked _
+good-part air v part.Result = good-result
+good-part air v part.Dispatchers = good-group air true
+good-part air v part.Dispatcher = good-address
 
-pub good-interrogate : Good interrogateC
-unfolding interrogateC plainV
-good-interrogate = good-map _ _ interrogateFits _ (λ x v. first-one x) (λ x v. interrogate-fits x) (λ v e _. interrogate-there v e) good-address
+pub good-parts : (air : Air) (v : Value) (ps : List Part) → Good (partsC air v ps)
+unfolding partsC
+good-parts air v [] = good-nothing
+good-parts air v (p ∷ ps) = good-seq (partC air v p) (λ x. partsC air (put p x v) ps) (good-part air v p) (λ x _. good-parts air (put p x v) ps)
 
-pub good-intercepted : (t : ℕ) → Good (interceptedC t)
-unfolding interceptedC plainV
-good-intercepted t =
-    good-map _ _ (interceptedFits t) _ (λ x v. rw (first-one (x .1 .1))) (λ x v. intercepted-fits t _ _ _) (λ v e _. intercepted-there t v e)
-    (good-seq (number element.cause 5) (λ c. dispatcherC) (good-number element.cause 5)
-    (λ c _. good-option element.oBit element.pBit nobody isNobody addressC nobody-is is-nobody good-address))
+good-each : (air : Air) (i : ℕ) (v : Value) (qs : List Part) → Good (eachC air i v qs)
+unfolding eachC
+good-each air i v [] = good-nothing
+good-each air i v (q ∷ qs) =
+    good-seq (optional element.pBit (partC air v q)) (λ x. eachC air (suc i) (putOption i q x v) qs)
+    (good-optional element.pBit (partC air v q) (good-part air v q)) (λ x _. good-each air (suc i) (putOption i q x v) qs)
 
-pub good-call : (t : ℕ) → Good (callC t)
-unfolding callC plainV
-good-call t = good-map _ _ (callFits t) _ (λ x v. refl) (λ x v. call-fits t x) (λ v e _. call-there t v e) (good-number element.identifier 14)
+-- any options under one O-bit, of addresses, groups and numbers
+pub good-row-options : (air : Air) (v : Value) (qs : List Part) → Good (optionsC air v qs)
+unfolding optionsC
+good-row-options air v [] = good-nothing
+good-row-options air v (q ∷ qs) =
+    good-options element.oBit (noneOf (q ∷ qs)) (λ x. not (someOf (q ∷ qs) x)) (someOf (q ∷ qs)) (eachC air 0 v (q ∷ qs))
+    (ap not (none-none (q ∷ qs))) (none-only (q ∷ qs)) (none-none (q ∷ qs)) (good-each air 0 v (q ∷ qs))
 
-pub good-accepted : Good acceptedC
-unfolding acceptedC
-good-accepted = good-pure _ acceptedFits accepted-fits accepted-is
+-- ---- what is put into a blank value is taken out of it again: no two parts of a row share a place
+
+abbrev pub Back : ℕ → List Part → List Part → Type 0
+Back t ps qs = (x : Tuple ps) (y : Options qs) → taken t ps qs (fill t ps qs (x, y)) ≡ (x, y)
+
+module _ (air : Air) (t : ℕ) (ps qs : List Part) (back : Back t ps qs) where
+  -- such a row is a good codec
+  pub good-row : Good (messageOf t ps qs air)
+  good-row =
+      good-map (fill t ps qs) (taken t ps qs) (holdsJust t ps qs) (seq (partsC air (blank t) ps) (λ x. optionsC air (puts ps x (blank t)) qs))
+      (λ x _. back (x .0) (x .1))
+      (λ x _. subst (λ (y : Tuple ps × Options qs). sameValue (fill t ps qs y) (fill t ps qs x) ≡ true) (sym (back (x .0) (x .1))) (value-self (fill t ps qs x)))
+      (λ v e _. value-one (fill t ps qs (taken t ps qs v)) v e)
+      (good-seq (partsC air (blank t) ps) (λ x. optionsC air (puts ps x (blank t)) qs) (good-parts air (blank t) ps) (λ x _. good-row-options air (puts ps x (blank t)) qs))
+
+-- every row of the table is one: each in its turn
+arm : (b : Bool) (t : ℕ) (r s : Row) → Back t (partsOf r) (optionsOf r) → Back t (partsOf s) (optionsOf s) → Back t (partsOf (cond b r s)) (optionsOf (cond b r s))
+arm true t r s h k = h
+arm false t r s h k = k
+
+back-of : (t : ℕ) → Back t (partsOf (rowOf t)) (optionsOf (rowOf t))
+unfolding rowOf firstParts gets puts getOptions putOptions blank noGroup nobodies
+back-of t =
+    arm (eqb t 2) t _ _ (λ x y. ap (λ (o : Optional Group). (x, (o, tt))) (given-back (y .0) _))
+    (arm (eqb t 3) t _ _ (λ x y. refl)
+    (arm (eqb t 8) t _ _ (λ x y. refl)
+    (arm (eqb t 10) t _ _ (λ x y. ap (λ (o : Optional Address). (x, (o, tt))) (given-back (y .0) _))
+    (arm (eqb t 12) t _ _ (λ x y. refl)
+    (arm (eqb t 13) t _ _ (λ x y. refl)
+    (arm (eqb t 15) t _ _ (λ x y. refl)
+    (arm (eqb t 16) t _ _ (λ x y. ap (λ (o : Optional Address). (x, (o, tt))) (given-back (y .0) _))
+    (λ x y. refl))))))))
 
 good-body : (air : Air) (t : ℕ) → Good (bodyC air t)
 unfolding bodyC
-good-body air t =
-    good-choose (eqb t 2) (good-activate air)
-    (good-choose (eqb t 3) (good-ack air)
-    (good-choose (eqb t 8) good-interrogate
-    (good-choose (eqb t 10) (good-intercepted 10)
-    (good-choose (eqb t 12) (good-call 12)
-    (good-choose (eqb t 13) good-accepted
-    (good-choose (eqb t 15) (good-call 15)
-    (good-intercepted 16)))))))
+good-body air t = good-row air t (partsOf (rowOf t)) (optionsOf (rowOf t)) (back-of t)
 
 -- ---- a body's value has the header's type
 
--- one arm of the choice
-arm : (t k : ℕ) (C D : Codec Value) (R : Bool) (v : Value) → (C .ok v ≡ true → v .pdu ≡ k) → (R ≡ true → D .ok v ≡ true → v .pdu ≡ t)
-    → (eqb t k || R) ≡ true → choose (eqb t k) C D .ok v ≡ true → v .pdu ≡ t
-arm t k C D R v here rest = go (eqb t k) refl
-  where
-    go : (b : Bool) → eqb t k ≡ b → (b || R) ≡ true → choose b C D .ok v ≡ true → v .pdu ≡ t
-    go true e r w = here w ∙ sym (eqb-true t k e)
-    go false e r w = rest r w
+put-pdu : (p : Part) (x : Holds p) (v : Value) → put p x v .pdu ≡ v .pdu
+put-pdu part.Nothing x v = refl
+put-pdu (part.Number k) x v = refl
+put-pdu part.Users x v = refl
+put-pdu (part.User i) x v = refl
+put-pdu part.Masked x v = refl
+put-pdu part.Result x v = refl
+put-pdu part.Dispatchers x v = refl
+put-pdu part.Dispatcher x v = refl
 
-body-pdu : (air : Air) (t : ℕ) (v : Value) → isCarried t ≡ true → bodyC air t .ok v ≡ true → v .pdu ≡ t
-unfolding isCarried bodyC activateC ackC interrogateC interceptedC callC acceptedC
-body-pdu air t v =
-    arm t 2 _ _ _ v (λ w. activate-pdu v (both-left _ _ w))
-    (arm t 3 _ _ _ v (λ w. ack-pdu v (both-left _ _ w))
-    (arm t 8 _ _ _ v (λ w. interrogate-pdu v (both-left _ _ w))
-    (arm t 10 _ _ _ v (λ w. intercepted-pdu 10 v (both-left _ _ w))
-    (arm t 12 _ _ _ v (λ w. call-pdu 12 v (both-left _ _ w))
-    (arm t 13 _ _ _ v (λ w. accepted-pdu v w)
-    (arm t 15 _ _ _ v (λ w. call-pdu 15 v (both-left _ _ w))
-    (λ e w. intercepted-pdu 16 v (both-left _ _ w) ∙ sym (eqb-true t 16 e))))))))
+puts-pdu : (ps : List Part) (x : Tuple ps) (v : Value) → puts ps x v .pdu ≡ v .pdu
+unfolding puts
+puts-pdu [] x v = refl
+puts-pdu (p ∷ ps) x v = puts-pdu ps (x .1) (put p (x .0) v) ∙ put-pdu p (x .0) v
+
+options-pdu : (i : ℕ) (qs : List Part) (y : Options qs) (v : Value) → putOptions i qs y v .pdu ≡ v .pdu
+unfolding putOptions
+options-pdu i [] y v = refl
+options-pdu i (q ∷ qs) y v = options-pdu (suc i) qs (y .1) (putOption i q (y .0) v) ∙ put-pdu q (orElse (y .0) (get q v)) v
+
+body-pdu : (air : Air) (t : ℕ) (v : Value) → bodyC air t .ok v ≡ true → v .pdu ≡ t
+unfolding bodyC blank
+body-pdu air t v e =
+    let ps = partsOf (rowOf t) in
+    let qs = optionsOf (rowOf t) in
+    sym (ap (λ (w : Value). w .pdu) (value-one (fill t ps qs (taken t ps qs v)) v (both-left _ _ e)))
+    ∙ options-pdu 0 qs (getOptions 0 qs v) (puts ps (gets ps v) (blank t)) ∙ puts-pdu ps (gets ps v) (blank t)
 
 -- ---- the header and the message
 
@@ -101,10 +142,6 @@ good-header ss =
     (good-guard 5 (λ x. eqb (x .0) ss) _
     (good-seq (number element.ssType 6) (λ _. number element.pduType 5) (good-number element.ssType 6) (λ _ _. good-number element.pduType 5))))
 
-header-carried : (ss : ℕ) (h : ℕ × ℕ) → headerC ss .ok h ≡ true → isCarried (h .1) ≡ true
-unfolding headerC
-header-carried ss h v = both-right _ _ v
-
 header-ss : (ss : ℕ) (h : ℕ × ℕ) → headerC ss .ok h ≡ true → h .0 ≡ ss
 unfolding headerC
 header-ss ss h v = eqb-true (h .0) ss (both-right _ _ (both-left _ _ (both-left _ _ v)))
@@ -114,6 +151,6 @@ unfolding messageC
 good-message air =
     good-iso _ _ _
     (λ x v. ap (λ (s : ℕ). ((s, x .1 .pdu), x .1)) (sym (header-ss (air .ss) (x .0) (both-left _ _ v)))
-    ∙ ap (λ (t : ℕ). ((x .0 .0, t), x .1)) (body-pdu air (x .0 .1) (x .1) (header-carried (air .ss) (x .0) (both-left _ _ v)) (both-right _ _ v)))
+    ∙ ap (λ (t : ℕ). ((x .0 .0, t), x .1)) (body-pdu air (x .0 .1) (x .1) (both-right _ _ v)))
     (λ b _. refl)
     (good-seq (headerC (air .ss)) (λ h. bodyC air (h .1)) (good-header (air .ss)) (λ h _. good-body air (h .1)))

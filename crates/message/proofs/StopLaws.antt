@@ -1,27 +1,32 @@
 -- The numbers that reading gives: 1, and 3 to 13 without 8. Assumes nothing.
-use Prim.Native.Nat.{ℕ}
+use Prim.Native.Nat.{ℕ, suc}
 use mathlib.Core.Path.{_≡_, refl, subst}
-use mathlib.Core.Bool.{Bool, true, false, cond}
-use mathlib.Core.List.{List}
+use mathlib.Core.Bool.{Bool, true, false, not, cond}
+use mathlib.Core.List.{List, [], _∷_}
 use native.Mathlib.Omega.{arith}
 use lib.Dec.{eqb, leb}
 use borrow.Author.Tests.{le-leb, leb-true}
 use Rattle.bits.specs.Fields.{bitAt}
 use Rattle.codec.specs.Stops.{refusal, published}
 use Rattle.codec.specs.Codec.{Read, no, both, number, pure, seq, choose}
+use Rattle.codec.specs.Options.{optional}
 use Rattle.codec.specs.declared.Stop.{Stop}
 use Rattle.codec.proofs.Good.{both-left, both-right}
-use Rattle.codec.proofs.StopLaws.{StopsBy, Only, bind-only, test-only, only-number, only-pure, only-guard, only-seq, only-map, only-choose, only-vec, only-given, only-option}
+use Rattle.codec.proofs.StopLaws.{StopsBy, Only, bind-only, test-only, only-number, only-pure, only-guard, only-seq, only-map, only-choose, only-vec, only-given, only-optional, only-options}
 use Rattle.profile.specs.Rules.{profileOk, meaningIn}
 use Rattle.profile.specs.declared.Air.{Air}
 use Rattle.profile.specs.declared.Meaning.{Meaning}
 use Rattle.profile.specs.declared.Profile.{Profile}
 use Rattle.message.specs.Elements as element
-use Rattle.message.specs.Addresses.{nobody, isZero, isNobody, isKind, kindC, extensionC, addressC}
-use Rattle.message.specs.Groups.{placesC, addressesIn, addressesC, allowedIn, endsOk, rangeC, groupC, noGroup, isNoGroup, spanOf}
+use Rattle.message.specs.Addresses.{isZero, isKind, kindC, extensionC, addressC}
+use Rattle.message.specs.Groups.{placesC, addressesIn, addressesC, allowedIn, endsOk, rangeC, groupC}
 use Rattle.message.specs.Acks.{maskC, maskedC, resultC}
-use Rattle.message.specs.Values.{acceptedFits}
-use Rattle.message.specs.Messages.{activateC, ackC, interrogateC, interceptedC, callC, acceptedC, bodyC, isKnown, isCarried, headerC, messageC}
+use Rattle.message.specs.Values.{blank}
+use Rattle.message.specs.Numbers.{elementOf, widthOf}
+use Rattle.message.specs.Rows.{rowOf, partC, put, partsC, puts, putOption, someOf, noneOf, eachC, optionsC, partsOf, optionsOf}
+use Rattle.message.specs.declared.Part.{Part}
+use Rattle.message.specs.declared.Part.the-variants as part
+use Rattle.message.specs.Messages.{bodyC, isKnown, isCarried, headerC, messageC}
 use Rattle.message.specs.Reading.{wholeOf, lengthOk, readBits, readOf, isReading}
 use Rattle.message.specs.declared.Value.{Value}
 
@@ -101,52 +106,46 @@ only-result =
     only-seq isReading (number element.result 1) (λ r. choose (eqb r 1) (pure 0 isZero) (number element.reason 7)) (only-number isReading four element.result 1)
     (λ r. only-choose isReading (eqb r 1) (pure 0 isZero) (number element.reason 7) (only-pure isReading 0 isZero) (only-number isReading four element.reason 7))
 
--- ---- message by message
+-- ---- part by part
 
-only-activate : (air : Air) → Only isReading (activateC air)
-unfolding activateC
-only-activate air =
-    only-map isReading _ _ _ _
-    (only-seq isReading (groupC air false) _ (only-group air false)
-    (λ u. only-option isReading four element.oBit element.pBit noGroup isNoGroup (groupC air true) twelve (only-group air true)))
+only-nothing : Only isReading (pure {A = Unit} tt (λ _. true))
+only-nothing = only-pure isReading tt (λ _. true)
 
-only-ack : (air : Air) → Only isReading (ackC air)
-unfolding ackC
-only-ack air =
-    only-map isReading _ _ _ _
-    (only-seq isReading (groupC air false) (λ u. seq (maskedC (spanOf air u)) (λ m. resultC)) (only-group air false)
-    (λ u. only-seq isReading (maskedC (spanOf air u)) (λ m. resultC) (only-masked (spanOf air u)) (λ m. only-result)))
+only-part : (air : Air) (v : Value) (p : Part) → Only isReading (partC air v p)
+only-part air v part.Nothing = only-nothing
+only-part air v (part.Number k) = only-number isReading four (elementOf k) (widthOf k)
+only-part air v part.Users = only-group air false
+only-part air v (part.User i) = only-address
+only-part air v part.Masked = only-masked _
+only-part air v part.Result = only-result
+only-part air v part.Dispatchers = only-group air true
+only-part air v part.Dispatcher = only-address
 
-only-interrogate : Only isReading interrogateC
-unfolding interrogateC
-only-interrogate = only-map isReading _ _ _ _ only-address
+only-parts : (air : Air) (v : Value) (ps : List Part) → Only isReading (partsC air v ps)
+unfolding partsC
+only-parts air v [] = only-nothing
+only-parts air v (p ∷ ps) = only-seq isReading (partC air v p) (λ x. partsC air (put p x v) ps) (only-part air v p) (λ x. only-parts air (put p x v) ps)
 
-only-intercepted : (t : ℕ) → Only isReading (interceptedC t)
-unfolding interceptedC
-only-intercepted t =
-    only-map isReading _ _ _ _
-    (only-seq isReading (number element.cause 5) _ (only-number isReading four element.cause 5)
-    (λ c. only-option isReading four element.oBit element.pBit nobody isNobody addressC twelve only-address))
+only-each : (air : Air) (i : ℕ) (v : Value) (qs : List Part) → Only isReading (eachC air i v qs)
+unfolding eachC
+only-each air i v [] = only-nothing
+only-each air i v (q ∷ qs) =
+    only-seq isReading (optional element.pBit (partC air v q)) (λ x. eachC air (suc i) (putOption i q x v) qs)
+    (only-optional isReading four element.pBit (partC air v q) (only-part air v q)) (λ x. only-each air (suc i) (putOption i q x v) qs)
 
-only-call : (t : ℕ) → Only isReading (callC t)
-unfolding callC
-only-call t = only-map isReading _ _ _ _ (only-number isReading four element.identifier 14)
-
-only-accepted : Only isReading acceptedC
-unfolding acceptedC
-only-accepted = only-pure isReading _ acceptedFits
+only-row-options : (air : Air) (v : Value) (qs : List Part) → Only isReading (optionsC air v qs)
+unfolding optionsC
+only-row-options air v [] = only-nothing
+only-row-options air v (q ∷ qs) =
+    only-options isReading four element.oBit (noneOf (q ∷ qs)) (λ x. not (someOf (q ∷ qs) x)) (someOf (q ∷ qs)) (eachC air 0 v (q ∷ qs)) twelve (only-each air 0 v (q ∷ qs))
 
 only-body : (air : Air) (t : ℕ) → Only isReading (bodyC air t)
 unfolding bodyC
 only-body air t =
-    only-choose isReading (eqb t 2) _ _ (only-activate air)
-    (only-choose isReading (eqb t 3) _ _ (only-ack air)
-    (only-choose isReading (eqb t 8) _ _ only-interrogate
-    (only-choose isReading (eqb t 10) _ _ (only-intercepted 10)
-    (only-choose isReading (eqb t 12) _ _ (only-call 12)
-    (only-choose isReading (eqb t 13) _ _ only-accepted
-    (only-choose isReading (eqb t 15) _ _ (only-call 15)
-    (only-intercepted 16)))))))
+    let ps = partsOf (rowOf t) in
+    let qs = optionsOf (rowOf t) in
+    only-map isReading _ _ _ _
+    (only-seq isReading (partsC air (blank t) ps) (λ x. optionsC air (puts ps x (blank t)) qs) (only-parts air (blank t) ps) (λ x. only-row-options air (puts ps x (blank t)) qs))
 
 only-header : (ss : ℕ) → Only isReading (headerC ss)
 unfolding headerC

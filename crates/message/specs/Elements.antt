@@ -42,3 +42,21 @@ oBit = 13
 
 abbrev pub pBit : ℕ
 pBit = 14
+
+abbrev pub mni : ℕ
+mni = 15
+
+abbrev pub area : ℕ
+area = 16
+
+abbrev pub basicService : ℕ
+basicService = 17
+
+abbrev pub activationType : ℕ
+activationType = 18
+
+abbrev pub interceptionType : ℕ
+interceptionType = 19
+
+abbrev pub typeOfRestriction : ℕ
+typeOfRestriction = 20

@@ -94,14 +94,15 @@ noGroup = record { range = 0; addresses = nobodies }
 unfoldable pub oneGroup : Address → Group
 oneGroup a = record { range = 0; addresses = set nobodies 0 a }
 
-unfoldable pub isNoGroup : Group → Bool
-isNoGroup g = both (isZero (g .range)) (areNobody 15 (g .addresses))
+-- the address at a place of a group, and the group with another one there
+abbrev pub addressAt : ℕ → Group → Address
+addressAt i g = getD (g .addresses) i nobody
 
-unfoldable pub isOneGroup : Group → Bool
-isOneGroup g = both (isZero (g .range)) (areNobody 14 (drop 1 (g .addresses)))
+abbrev pub withAddress : ℕ → Address → Group → Group
+withAddress i a g = record { range = g .range; addresses = set (g .addresses) i a }
 
 abbrev pub firstOf : Group → Address
-firstOf g = getD (g .addresses) 0 nobody
+firstOf g = addressAt 0 g
 
 -- ---- how many identities a group names
 

@@ -1,7 +1,9 @@
 pub mod Elements
+pub mod Numbers
 pub mod Addresses
 pub mod Groups
 pub mod Acks
 pub mod Values
+pub mod Rows
 pub mod Messages
 pub mod Reading

@@ -1,79 +1,36 @@
--- The eight messages as codecs of one flat value: document 01's table, row by row, and the header before each.
+-- The messages as codecs of one flat value: a row of parts after the header. A value is a message's if it is what its parts and options
+-- make of a blank one: so all that the message doesn't carry is zero.
 use Prim.Native.Nat.{ℕ}
-use mathlib.Core.Bool.{Bool, true, false, _||_}
+use mathlib.Core.Bool.{Bool, true}
+use mathlib.Core.List.{List}
 use lib.Dec.{eqb, leb}
-use Rattle.codec.specs.Codec.{Codec, both, number, pure, guard, seq, map, choose}
-use Rattle.codec.specs.Options.{option}
+use Rattle.codec.specs.Codec.{Codec, both, number, guard, seq, map}
 use Rattle.profile.specs.declared.Air.{Air}
 use Rattle.message.specs.Elements as element
-use Rattle.message.specs.Addresses.{nobody, isNobody, addressC}
-use Rattle.message.specs.Groups.{groupC, noGroup, isNoGroup, spanOf, firstOf}
-use Rattle.message.specs.Acks.{maskedC, resultC}
-use Rattle.message.specs.Values.{activateV, ackV, plainV, activateFits, ackFits, interrogateFits, interceptedFits, callFits, acceptedFits}
-use Rattle.message.specs.declared.Address.{Address}
-use Rattle.message.specs.declared.Group.{Group}
+use Rattle.message.specs.Values.{blank, sameValue}
+use Rattle.message.specs.Rows.{rowOf, partsOf, optionsOf, Tuple, Options, partsC, puts, gets, optionsC, putOptions, getOptions}
 use Rattle.message.specs.declared.Value.{Value}
-
--- ---- the optional elements: what an ACTIVATE has after its users, and an INTERCEPTED or DIVERTED after its cause
-
-abbrev pub dispatchersC : Air → Codec (Bool × Group)
-dispatchersC air = option element.oBit element.pBit noGroup isNoGroup (groupC air true)
-
-abbrev pub dispatcherC : Codec (Bool × Address)
-dispatcherC = option element.oBit element.pBit nobody isNobody addressC
+use Rattle.message.specs.declared.Part.{Part}
 
 -- ---- after the first 11 bits
 
--- ACTIVATE: users; option: dispatchers, which may be "none"
-unfoldable pub activateC : Air → Codec Value
-activateC air =
-    map
-    (λ (x : Group × (Bool × Group)). activateV (x .0) (x .1 .0) (x .1 .1))
-    (λ (v : Value). (v .users, (v .option, v .dispatchers)))
-    activateFits
-    (seq (groupC air false) (λ u. dispatchersC air))
+module _ (t : ℕ) (ps qs : List Part) where
+  -- what a message of type t holds in its parts and in its options, as a value, and taken out of one
+  abbrev pub fill : Tuple ps × Options qs → Value
+  fill x = putOptions 0 qs (x .1) (puts ps (x .0) (blank t))
 
--- ACTIVATE ACK: users, mask present, mask, result, reason
-unfoldable pub ackC : Air → Codec Value
-ackC air =
-    map
-    (λ (x : Group × ((Bool × ℕ) × (ℕ × ℕ))). ackV (x .0) (x .1 .0 .0) (x .1 .0 .1) (x .1 .1 .0) (x .1 .1 .1))
-    (λ (v : Value). (v .users, ((v .masked, v .mask), (v .result, v .reason))))
-    ackFits
-    (seq (groupC air false) (λ u. seq (maskedC (spanOf air u)) (λ m. resultC)))
+  abbrev pub taken : Value → Tuple ps × Options qs
+  taken v = (gets ps v, getOptions 0 qs v)
 
--- INTERROGATE: one user address
-unfoldable pub interrogateC : Codec Value
-interrogateC = map (λ a. plainV 8 a 0 0 false nobody) (λ (v : Value). firstOf (v .users)) interrogateFits addressC
+  -- the value has these parts and options, and nothing else
+  abbrev pub holdsJust : Value → Bool
+  holdsJust v = sameValue (fill (taken v)) v
 
--- INTERCEPTED (10) and DIVERTED (16): cause; option: one dispatcher address
-unfoldable pub interceptedC : ℕ → Codec Value
-interceptedC t =
-    map
-    (λ (x : ℕ × (Bool × Address)). plainV t nobody (x .0) 0 (x .1 .0) (x .1 .1))
-    (λ (v : Value). (v .cause, (v .option, firstOf (v .dispatchers))))
-    (interceptedFits t)
-    (seq (number element.cause 5) (λ c. dispatcherC))
+  abbrev pub messageOf : Air → Codec Value
+  messageOf air = map fill taken holdsJust (seq (partsC air (blank t) ps) (λ x. optionsC air (puts ps x (blank t)) qs))
 
--- ACCEPT (12) and DIVERT (15): call identifier
-unfoldable pub callC : ℕ → Codec Value
-callC t = map (λ i. plainV t nobody 0 i false nobody) (λ (v : Value). v .identifier) (callFits t) (number element.identifier 14)
-
--- ACCEPTED: nothing
-unfoldable pub acceptedC : Codec Value
-acceptedC = pure (plainV 13 nobody 0 0 false nobody) acceptedFits
-
--- by the PDU type, of which the header lets only these eight pass
 unfoldable pub bodyC : Air → ℕ → Codec Value
-bodyC air t =
-    choose (eqb t 2) (activateC air)
-    (choose (eqb t 3) (ackC air)
-    (choose (eqb t 8) interrogateC
-    (choose (eqb t 10) (interceptedC 10)
-    (choose (eqb t 12) (callC 12)
-    (choose (eqb t 13) acceptedC
-    (choose (eqb t 15) (callC 15)
-    (interceptedC 16)))))))
+bodyC air t = messageOf t (partsOf (rowOf t)) (optionsOf (rowOf t)) air
 
 -- ---- the first 11 bits
 
@@ -83,7 +40,7 @@ isKnown t = both (leb 2 t) (leb t 18)
 
 -- the types that are carried
 unfoldable pub isCarried : ℕ → Bool
-isCarried t = eqb t 2 || (eqb t 3 || (eqb t 8 || (eqb t 10 || (eqb t 12 || (eqb t 13 || (eqb t 15 || eqb t 16))))))
+isCarried t = rowOf t .carried
 
 -- SS type and PDU type; then 5, 6, 7
 unfoldable pub headerC : ℕ → Codec (ℕ × ℕ)

@@ -1,69 +1,95 @@
--- One flat value for all messages. Each constructor here is the value of a message with these contents; all else is zero. Each test
--- says that nothing else is in a value.
+-- One flat value for all messages. `blank` is a message of a type with nothing in it, and each `with..` puts one thing in.
 use Prim.Native.Nat.{ℕ}
-use mathlib.Core.Bool.{Bool, false, not}
+use mathlib.Core.Bool.{Bool, true, false, not}
+use mathlib.Core.List.{List, [], _∷_}
 use lib.Dec.{eqb}
+use lib.ListN.{getD, set, replicate}
 use Rattle.codec.specs.Codec.{both}
-use Rattle.message.specs.Addresses.{nobody, isZero, isNobody}
-use Rattle.message.specs.Groups.{noGroup, oneGroup, isNoGroup, isOneGroup, firstOf}
+use Rattle.message.specs.Groups.{noGroup}
 use Rattle.message.specs.declared.Address.{Address}
 use Rattle.message.specs.declared.Group.{Group}
 use Rattle.message.specs.declared.Value.{Value}
 
-unfoldable pub activateV : Group → Bool → Group → Value
-activateV users option dispatchers =
-    record { pdu = 2; users = users; masked = false; mask = 0; result = 0; reason = 0; cause = 0; identifier = 0; option = option; dispatchers = dispatchers }
-
-unfoldable pub ackV : Group → Bool → ℕ → ℕ → ℕ → Value
-ackV users masked mask result reason =
-    record { pdu = 3; users = users; masked = masked; mask = mask; result = result; reason = reason; cause = 0; identifier = 0; option = false; dispatchers = noGroup }
-
--- every other message: a user address, a cause, an identifier, an optional dispatcher address
-unfoldable pub plainV : ℕ → Address → ℕ → ℕ → Bool → Address → Value
-plainV pdu user cause identifier option dispatcher =
-    record {
-      pdu = pdu;
-      users = oneGroup user;
-      masked = false;
-      mask = 0;
-      result = 0;
-      reason = 0;
-      cause = cause;
-      identifier = identifier;
-      option = option;
-      dispatchers = oneGroup dispatcher;
-    }
+unfoldable pub blank : ℕ → Value
+blank t =
+    record { pdu = t; numbers = replicate 12 0; users = noGroup; masked = false; mask = 0; given = replicate 7 false; dispatchers = noGroup }
 
 -- what stands beside a refusal
-unfoldable pub noValue : Value
-noValue = plainV 0 nobody 0 0 false nobody
+abbrev pub noValue : Value
+noValue = blank 0
 
-unfoldable pub activateFits : Value → Bool
-activateFits v =
-    both (eqb (v .pdu) 2)
-    (both (not (v .masked))
-    (both (isZero (v .mask)) (both (isZero (v .result)) (both (isZero (v .reason)) (both (isZero (v .cause)) (isZero (v .identifier)))))))
+-- ---- what is in a value
 
-unfoldable pub ackFits : Value → Bool
-ackFits v =
-    both (eqb (v .pdu) 3) (both (isZero (v .cause)) (both (isZero (v .identifier)) (both (not (v .option)) (isNoGroup (v .dispatchers)))))
+-- the number at a place (Numbers)
+abbrev pub numberAt : ℕ → Value → ℕ
+numberAt k v = getD (v .numbers) k 0
 
-unfoldable pub plainFits : ℕ → Value → Bool
-plainFits t v =
-    both (eqb (v .pdu) t)
-    (both (isOneGroup (v .users))
-    (both (not (v .masked)) (both (isZero (v .mask)) (both (isZero (v .result)) (both (isZero (v .reason)) (isOneGroup (v .dispatchers)))))))
+-- the i-th option of its row is there
+abbrev pub givenAt : ℕ → Value → Bool
+givenAt i v = getD (v .given) i false
 
-unfoldable pub interrogateFits : Value → Bool
-interrogateFits v =
-    both (plainFits 8 v) (both (isZero (v .cause)) (both (isZero (v .identifier)) (both (not (v .option)) (isNobody (firstOf (v .dispatchers))))))
+-- ---- a value with one thing in it changed
 
-unfoldable pub interceptedFits : ℕ → Value → Bool
-interceptedFits t v = both (plainFits t v) (both (isZero (v .identifier)) (isNobody (firstOf (v .users))))
+abbrev pub withNumbers : List ℕ → Value → Value
+withNumbers l v =
+    record { pdu = v .pdu; numbers = l; users = v .users; masked = v .masked; mask = v .mask; given = v .given; dispatchers = v .dispatchers }
 
-unfoldable pub callFits : ℕ → Value → Bool
-callFits t v =
-    both (plainFits t v) (both (isZero (v .cause)) (both (not (v .option)) (both (isNobody (firstOf (v .users))) (isNobody (firstOf (v .dispatchers))))))
+abbrev pub withNumber : ℕ → ℕ → Value → Value
+withNumber k n v = withNumbers (set (v .numbers) k n) v
 
-unfoldable pub acceptedFits : Value → Bool
-acceptedFits v = both (callFits 13 v) (isZero (v .identifier))
+abbrev pub withUsers : Group → Value → Value
+withUsers g v =
+    record { pdu = v .pdu; numbers = v .numbers; users = g; masked = v .masked; mask = v .mask; given = v .given; dispatchers = v .dispatchers }
+
+abbrev pub withMask : Bool → ℕ → Value → Value
+withMask b m v =
+    record { pdu = v .pdu; numbers = v .numbers; users = v .users; masked = b; mask = m; given = v .given; dispatchers = v .dispatchers }
+
+abbrev pub withDispatchers : Group → Value → Value
+withDispatchers g v =
+    record { pdu = v .pdu; numbers = v .numbers; users = v .users; masked = v .masked; mask = v .mask; given = v .given; dispatchers = g }
+
+abbrev pub withGivens : List Bool → Value → Value
+withGivens l v =
+    record { pdu = v .pdu; numbers = v .numbers; users = v .users; masked = v .masked; mask = v .mask; given = l; dispatchers = v .dispatchers }
+
+abbrev pub withGiven : ℕ → Bool → Value → Value
+withGiven i b v = withGivens (set (v .given) i b) v
+
+-- ---- two values are one
+
+abbrev pub sameBool : Bool → Bool → Bool
+sameBool true b = b
+sameBool false b = not b
+
+unfoldable pub sameBools : List Bool → List Bool → Bool
+sameBools [] [] = true
+sameBools [] (y ∷ ys) = false
+sameBools (x ∷ xs) [] = false
+sameBools (x ∷ xs) (y ∷ ys) = both (sameBool x y) (sameBools xs ys)
+
+unfoldable pub sameNumbers : List ℕ → List ℕ → Bool
+sameNumbers [] [] = true
+sameNumbers [] (y ∷ ys) = false
+sameNumbers (x ∷ xs) [] = false
+sameNumbers (x ∷ xs) (y ∷ ys) = both (eqb x y) (sameNumbers xs ys)
+
+unfoldable pub sameAddress : Address → Address → Bool
+sameAddress a b = both (eqb (a .kind) (b .kind)) (both (eqb (a .ssi) (b .ssi)) (eqb (a .extension) (b .extension)))
+
+unfoldable pub sameAddresses : List Address → List Address → Bool
+sameAddresses [] [] = true
+sameAddresses [] (y ∷ ys) = false
+sameAddresses (x ∷ xs) [] = false
+sameAddresses (x ∷ xs) (y ∷ ys) = both (sameAddress x y) (sameAddresses xs ys)
+
+unfoldable pub sameGroup : Group → Group → Bool
+sameGroup g h = both (eqb (g .range) (h .range)) (sameAddresses (g .addresses) (h .addresses))
+
+unfoldable pub sameValue : Value → Value → Bool
+sameValue v w =
+    both (eqb (v .pdu) (w .pdu))
+    (both (sameNumbers (v .numbers) (w .numbers))
+    (both (sameGroup (v .users) (w .users))
+    (both (sameBool (v .masked) (w .masked))
+    (both (eqb (v .mask) (w .mask)) (both (sameBools (v .given) (w .given)) (sameGroup (v .dispatchers) (w .dispatchers)))))))

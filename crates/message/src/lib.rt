@@ -1,17 +1,24 @@
-// The messages' vocabulary: addresses, groups of them, and one flat value for all eight messages. specs/ has each message as a
-// codec (document 01, "Bits on the air"), and proofs/ that each is a good one, so that both round trips are there for the asking.
+// The messages' vocabulary: addresses, groups of them, one flat value for all messages, and each message as a row of parts. specs/ has
+// each part as a codec (document 01, "Bits on the air"), and proofs/ that each row of them is a good one, so that both round trips are
+// there for the asking.
 //
 // The functions are the small ones that reading, validity, writing and the desk share. Each takes every input.
 ghost use mathlib.Core.Path.{_≡_};
+ghost use mathlib.Core.Bool.{true};
 ghost use Prim.Native.Nat.{_+_, _-_};
-ghost use lib.ListN.{getD};
-ghost use Rattle.message.specs.Addresses.{nobody};
-ghost use Rattle.message.specs.Groups.{addressesIn, allowedIn, rangeOk, endsOk, noGroup, oneGroup, firstOf, spanIn, spanOf};
-ghost use Rattle.message.specs.Values.{ackV, plainV};
+ghost use Rattle.message.specs.Groups.{addressesIn, allowedIn, rangeOk, endsOk, noGroup, addressAt, spanIn, spanOf};
+ghost use Rattle.message.specs.Numbers.{elementOf, widthOf};
+ghost use Rattle.message.specs.Values.{blank, numberAt, givenAt, withNumber, withUsers, withMask, withDispatchers, withGiven};
+ghost use Rattle.message.specs.Rows.{row, rowOf, put, copyOf, copyOption};
 ghost use Rattle.message.specs.Messages.{isCarried};
+ghost use Rattle.message.specs.declared.Part.the-variants.{User, Result, Dispatcher};
 use profile::Air;
 use profile::Kind;
 use profile::Meaning;
+
+mod copy;
+mod rows;
+mod store;
 
 // With kind 1 the extension is not on the air, and zero.
 pub struct Address {
@@ -26,19 +33,43 @@ pub struct Group {
     pub addresses: [Address; 15],
 }
 
-// A message. All that it doesn't carry is zero. INTERROGATE's address is user address 0, the dispatcher of INTERCEPTED and DIVERTED
-// dispatcher address 0, both with range number 0. Identity i, from 0, is bit 63 − i of the mask, however many there are.
+// A message. All that it doesn't carry is zero. A number stands at its place (specs/Numbers); `given` says which of the row's options are
+// there. INTERROGATE's address is user address 0, the dispatcher of INTERCEPTED and DIVERTED dispatcher address 0, both with range number
+// 0. Identity i, from 0, is bit 63 − i of the mask.
 pub struct Value {
     pub pdu: u8,
+    pub numbers: [u32; 12],
     pub users: Group,
     pub masked: bool,
     pub mask: u64,
-    pub result: u8,
-    pub reason: u8,
-    pub cause: u8,
-    pub identifier: u32,
-    pub option: bool,
+    pub given: [bool; 7],
     pub dispatchers: Group,
+}
+
+// What a message has next: a number at its place, a group or the address at one of its places, a mask, a result with its reason. (An
+// array holds the first variant past its end.)
+pub enum Part {
+    Nothing,
+    Number(u8),
+    Users,
+    User(u8),
+    Masked,
+    Result,
+    Dispatchers,
+    Dispatcher,
+}
+
+pub struct Slot {
+    pub part: Part,
+}
+
+// A message after the first 11 bits: so many parts, one after the other, then so many options under one O-bit.
+pub struct Row {
+    pub carried: bool,
+    pub count: u8,
+    pub parts: [Slot; 6],
+    pub options: u8,
+    pub optional: [Slot; 7],
 }
 
 impl Group {
@@ -148,51 +179,175 @@ fn span(first: u32, last: u32) -> usize
     (last - first) as usize + 1
 }
 
-// ---- the PDU types
+// ---- the messages
+
+// The elements by number (specs/Elements).
+pub const SS_TYPE: u8 = 1;
+
+pub const PDU_TYPE: u8 = 2;
+
+pub const RANGE: u8 = 3;
+
+pub const KIND: u8 = 4;
+
+pub const SSI: u8 = 5;
+
+pub const EXTENSION: u8 = 6;
+
+pub const MASK_PRESENT: u8 = 7;
+
+pub const MASK: u8 = 8;
+
+pub const RESULT: u8 = 9;
+
+pub const REASON: u8 = 10;
+
+pub const CAUSE: u8 = 11;
+
+pub const IDENTIFIER: u8 = 12;
+
+pub const O_BIT: u8 = 13;
+
+pub const P_BIT: u8 = 14;
+
+pub const MNI: u8 = 15;
+
+pub const AREA: u8 = 16;
+
+pub const BASIC_SERVICE: u8 = 17;
+
+pub const ACTIVATION_TYPE: u8 = 18;
+
+pub const INTERCEPTION_TYPE: u8 = 19;
+
+pub const TYPE_OF_RESTRICTION: u8 = 20;
+
+// The places of the numbers (specs/Numbers).
+pub const IDENTIFIER_AT: u8 = 0;
+
+pub const CAUSE_AT: u8 = 1;
+
+pub const RESULT_AT: u8 = 2;
+
+pub const REASON_AT: u8 = 3;
+
+const ELEMENTS: [u8; 12] = [
+    IDENTIFIER,
+    CAUSE,
+    RESULT,
+    REASON,
+    MNI,
+    AREA,
+    AREA,
+    BASIC_SERVICE,
+    BASIC_SERVICE,
+    ACTIVATION_TYPE,
+    INTERCEPTION_TYPE,
+    TYPE_OF_RESTRICTION,
+];
+
+const WIDTHS: [usize; 12] = [14, 5, 1, 7, 24, 4, 4, 2, 2, 1, 1, 4];
+
+// Which element the number at a place is.
+pub fn element_of(place: u8) -> u8
+    ensures { λ r. ⌜ r ≡ elementOf place ⌝ }
+{
+    let i = place as usize;
+    if i < 12 {
+        return ELEMENTS[i];
+    }
+    0
+}
+
+// How many bits it has.
+pub fn width_of(place: u8) -> usize
+    ensures { λ r. ⌜ r ≡ widthOf place ⌝ }
+{
+    let i = place as usize;
+    if i < 12 {
+        return WIDTHS[i];
+    }
+    0
+}
+
+const IDENTIFIER_PART: Part = Part::Number(IDENTIFIER_AT);
+
+const CAUSE_PART: Part = Part::Number(CAUSE_AT);
+
+// Document 01's table: what each message has after the first 11 bits; any other type is not carried.
+pub fn row_of(pdu: u8) -> Row
+    ensures { λ r. ⌜ r ≡ rowOf pdu ⌝ }
+{
+    // ACTIVATE
+    if pdu == 2 {
+        return rows::one_and_option(Part::Users, Part::Dispatchers);
+    }
+    // ACTIVATE ACK
+    if pdu == 3 {
+        return rows::three(Part::Users, Part::Masked, Part::Result);
+    }
+    // INTERROGATE
+    if pdu == 8 {
+        return rows::one(Part::User(0));
+    }
+    // INTERCEPTED
+    if pdu == 10 {
+        return rows::one_and_option(CAUSE_PART, Part::Dispatcher);
+    }
+    // ACCEPT
+    if pdu == 12 {
+        return rows::one(IDENTIFIER_PART);
+    }
+    // ACCEPTED
+    if pdu == 13 {
+        return rows::none();
+    }
+    // DIVERT
+    if pdu == 15 {
+        return rows::one(IDENTIFIER_PART);
+    }
+    // DIVERTED
+    if pdu == 16 {
+        return rows::one_and_option(CAUSE_PART, Part::Dispatcher);
+    }
+    rows::not_carried()
+}
 
 // The types that are carried.
 pub fn is_carried(pdu: u8) -> bool
     ensures { λ r. ⌜ r ≡ isCarried pdu ⌝ }
 {
-    if pdu == 2 {
-        return true;
-    }
-    if pdu == 3 {
-        return true;
-    }
-    if pdu == 8 {
-        return true;
-    }
-    if pdu == 10 {
-        return true;
-    }
-    if pdu == 12 {
-        return true;
-    }
-    if pdu == 13 {
-        return true;
-    }
-    if pdu == 15 {
-        return true;
-    }
-    pdu == 16
+    let row = row_of(pdu);
+    row.carried
+}
+
+// ---- what is in a group and in a value
+
+// A group's address at a place; none past the last place.
+pub fn address_at(group: Group, place: u8) -> Address
+    ensures { λ r. ⌜ r ≡ addressAt place group ⌝ }
+{
+    let addresses = group.addresses;
+    store::address_in(addresses, place)
+}
+
+// The number at a place; 0 past the last.
+pub fn number_at(value: Value, place: u8) -> u32
+    ensures { λ r. ⌜ r ≡ numberAt place value ⌝ }
+{
+    let numbers = value.numbers;
+    store::number_in(numbers, place)
+}
+
+// The option of that number in its row is there.
+pub fn given_at(value: Value, option: usize) -> bool
+    ensures { λ r. ⌜ r ≡ givenAt option value ⌝ }
+{
+    let given = value.given;
+    store::given_in(given, option)
 }
 
 // ---- groups and values
-
-// A group's first address.
-pub fn first_of(group: Group) -> Address
-    ensures { λ r. ⌜ r ≡ firstOf group ⌝ }
-{
-    let addresses = group.addresses;
-    first_in(addresses)
-}
-
-fn first_in(addresses: [Address; 15]) -> Address
-    ensures { λ r. ⌜ r ≡ getD addresses 0 nobody ⌝ }
-{
-    addresses[0]
-}
 
 pub fn no_group() -> Group
     ensures { λ r. ⌜ r ≡ noGroup ⌝ }
@@ -203,59 +358,107 @@ pub fn no_group() -> Group
     }
 }
 
-pub fn ack_value(users: Group, masked: bool, mask: u64, result: u8, reason: u8) -> Value
-    ensures { λ r. ⌜ r ≡ ackV users masked mask result reason ⌝ }
+// A message of this type with nothing in it.
+pub fn blank(pdu: u8) -> Value
+    ensures { λ r. ⌜ r ≡ blank pdu ⌝ }
 {
+    let users = no_group();
     let dispatchers = no_group();
     Value {
-        pdu: 3,
-        users: users,
-        masked: masked,
-        mask: mask,
-        result: result,
-        reason: reason,
-        cause: 0,
-        identifier: 0,
-        option: false,
-        dispatchers: dispatchers,
-    }
-}
-
-// Any other message: one user address, a cause, an identifier, an optional dispatcher address, each zero where it has none.
-pub fn plain_value(
-    pdu: u8,
-    user: Address,
-    cause: u8,
-    identifier: u32,
-    option: bool,
-    dispatcher: Address,
-) -> Value
-    ensures { λ r. ⌜ r ≡ plainV pdu user cause identifier option dispatcher ⌝ }
-{
-    let users = one_group(user);
-    let dispatchers = one_group(dispatcher);
-    Value {
         pdu: pdu,
+        numbers: [0; 12],
         users: users,
         masked: false,
         mask: 0,
-        result: 0,
-        reason: 0,
-        cause: cause,
-        identifier: identifier,
-        option: option,
+        given: [false; 7],
         dispatchers: dispatchers,
     }
 }
 
-// One address alone.
-fn one_group(address: Address) -> Group
-    ensures { λ r. ⌜ r ≡ oneGroup address ⌝ }
+// Each of these is the value with one thing in it changed; at a place that is not there all stays.
+
+pub fn with_number(value: Value, place: u8, n: u32) -> Value
+    ensures { λ r. ⌜ r ≡ withNumber place n value ⌝ }
 {
-    let mut list = [NOBODY; 15];
-    list[0] = address;
-    Group {
-        range: 0,
-        addresses: list,
+    let numbers = value.numbers;
+    store::with_numbers(value, store::set_number(numbers, place, n))
+}
+
+pub fn with_users(value: Value, users: Group) -> Value
+    ensures { λ r. ⌜ r ≡ withUsers users value ⌝ }
+{
+    let mut v = value;
+    v.users = users;
+    v
+}
+
+pub fn with_user(value: Value, place: u8, user: Address) -> Value
+    ensures { λ r. ⌜ r ≡ put (User place) user value ⌝ }
+{
+    let users = value.users;
+    with_users(value, store::with_address(users, place, user))
+}
+
+pub fn with_mask(value: Value, masked: bool, mask: u64) -> Value
+    ensures { λ r. ⌜ r ≡ withMask masked mask value ⌝ }
+{
+    let mut v = value;
+    v.masked = masked;
+    v.mask = mask;
+    v
+}
+
+pub fn with_result(value: Value, result: u32, reason: u32) -> Value
+    ensures { λ r. ⌜ r ≡ put Result (result, reason) value ⌝ }
+{
+    with_number(with_number(value, RESULT_AT, result), REASON_AT, reason)
+}
+
+pub fn with_dispatchers(value: Value, dispatchers: Group) -> Value
+    ensures { λ r. ⌜ r ≡ withDispatchers dispatchers value ⌝ }
+{
+    let mut v = value;
+    v.dispatchers = dispatchers;
+    v
+}
+
+pub fn with_dispatcher(value: Value, dispatcher: Address) -> Value
+    ensures { λ r. ⌜ r ≡ put Dispatcher dispatcher value ⌝ }
+{
+    let dispatchers = value.dispatchers;
+    with_dispatchers(value, store::with_address(dispatchers, 0, dispatcher))
+}
+
+// The option of that number in its row is there from now on.
+pub fn with_given(value: Value, option: usize) -> Value
+    ensures { λ r. ⌜ r ≡ withGiven option true value ⌝ }
+{
+    let given = value.given;
+    store::with_givens(value, store::set_given(given, option))
+}
+
+// What a part holds in one value, put into another.
+pub fn copied(part: Part, from: Value, to: Value) -> Value
+    ensures { λ r. ⌜ r ≡ copyOf part from to ⌝ }
+{
+    match part {
+        Part::Nothing => copy::nothing(from, to),
+        Part::Number(place) => copy::number(place, from, to),
+        Part::Users => copy::users(from, to),
+        Part::User(place) => copy::user(place, from, to),
+        Part::Masked => copy::mask(from, to),
+        Part::Result => copy::result(from, to),
+        Part::Dispatchers => copy::dispatchers(from, to),
+        Part::Dispatcher => copy::dispatcher(from, to),
     }
+}
+
+// The same of a part that is the row's option of that number: nothing where it is not there.
+pub fn copied_option(option: usize, part: Part, from: Value, to: Value) -> Value
+    ensures { λ r. ⌜ r ≡ copyOption option part from to ⌝ }
+{
+    if given_at(from, option) {
+        return with_given(copied(part, from, to), option);
+    }
+    to
 }

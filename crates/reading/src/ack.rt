@@ -1,20 +1,15 @@
-// ACTIVATE ACK: users, a mask of one bit for each identity, a result.
+// What an ACK has after its users: a mask of one bit for each identity, a result.
 ghost use mathlib.Core.Path.{_≡_};
 ghost use Prim.Native.Nat.{_*_, _-_, _<_, _≤_, _^_};
 ghost use Rattle.bits.specs.Fields.{bitAt};
 ghost use Rattle.codec.specs.Taking.{tookOf};
 ghost use Rattle.message.specs.Acks.{maskC, maskedC, resultC};
-ghost use Rattle.message.specs.Messages.{ackC};
-ghost use Rattle.reading.specs.Answers.{maskedOf, resultOf, bodyOf};
-use crate::body;
-use crate::body::Body;
+ghost use Rattle.reading.specs.Answers.{maskedOf, resultOf};
 use crate::element;
 use crate::element::ByteTook;
 use crate::element::FlagTook;
-use crate::group;
 use codec::Stop;
 use codec::Took;
-use profile::Air;
 
 pub enum MaskedTook {
     Got(bool, u64, usize),
@@ -26,28 +21,7 @@ pub enum ResultTook {
     Refused(Stop),
 }
 
-pub(crate) fn read_ack(air: Air, buf: &[u8], bits: usize, at: usize) -> Body
-    ensures { λ r. ⌜ r ≡ bodyOf (ackC air .read (bitAt (now (buf .entry))) bits at) ⌝ }
-{
-    let u = group::read_group(air, false, buf, bits, at);
-    if u.found {
-        let p = u.next;
-        let users = u.group;
-        return match read_masked(message::span_of(air, users), buf, bits, p) {
-            MaskedTook::Refused(s) => body::no_body(s),
-            MaskedTook::Got(masked, mask, q) => match read_result(buf, bits, q) {
-                ResultTook::Refused(s) => body::no_body(s),
-                ResultTook::Got(result, reason, e) => {
-                    body::carried(message::ack_value(users, masked, mask, result, reason), e)
-                }
-            },
-        };
-    }
-    let s = u.stop;
-    body::no_body(s)
-}
-
-fn read_masked(count: usize, buf: &[u8], bits: usize, at: usize) -> MaskedTook
+pub(crate) fn read_masked(count: usize, buf: &[u8], bits: usize, at: usize) -> MaskedTook
     requires { ⌜ count ≤ 64 ⌝ }
     ensures { λ r. ⌜ maskedOf r ≡ maskedC count .read (bitAt (now (buf .entry))) bits at ⌝ }
 {
@@ -86,7 +60,7 @@ fn aligned(v: u64, count: usize) -> u64
     v << (64 - count)
 }
 
-fn read_result(buf: &[u8], bits: usize, at: usize) -> ResultTook
+pub(crate) fn read_result(buf: &[u8], bits: usize, at: usize) -> ResultTook
     ensures { λ r. ⌜ resultOf r ≡ resultC .read (bitAt (now (buf .entry))) bits at ⌝ }
 {
     match element::byte(element::RESULT, buf, bits, at, 1) {

@@ -1,21 +1,26 @@
-// What each message has after the first 11 bits.
+// What each message has after the first 11 bits: its row's parts, one after the other.
 ghost use mathlib.Core.Path.{_≡_};
+ghost use Prim.Native.Nat.{min};
 ghost use Rattle.bits.specs.Fields.{bitAt};
 ghost use Rattle.codec.specs.Codec.{got, no};
-ghost use Rattle.message.specs.Values.{activateV, noValue};
-ghost use Rattle.message.specs.Messages.{activateC, interrogateC, interceptedC, callC, acceptedC, bodyC};
+ghost use Rattle.message.specs.Values.{noValue};
+ghost use Rattle.message.specs.Messages.{bodyC};
+ghost use Rattle.message.specs.declared.Part.the-variants.{Number, Users, User, Masked, Result, Dispatchers, Dispatcher};
 ghost use Rattle.reading.specs.Answers.{bodyOf};
+ghost use Rattle.reading.specs.Parts.{partRead, rowRead};
 use crate::ack;
+use crate::ack::MaskedTook;
+use crate::ack::ResultTook;
 use crate::address;
 use crate::address::AddressTook;
 use crate::element;
-use crate::element::ByteTook;
 use crate::element::WordTook;
 use crate::group;
 use crate::option;
 use crate::option::OptionTook;
 use codec::Stop;
-use message::Group;
+use message::Part;
+use message::Slot;
 use message::Value;
 use profile::Air;
 
@@ -29,110 +34,150 @@ pub struct Body {
 pub(crate) fn read_body(air: Air, pdu: u8, buf: &[u8], bits: usize, at: usize) -> Body
     ensures { λ r. ⌜ r ≡ bodyOf (bodyC air pdu .read (bitAt (now (buf .entry))) bits at) ⌝ }
 {
-    if pdu == 2 {
-        return read_activate(air, buf, bits, at);
-    }
-    if pdu == 3 {
-        return ack::read_ack(air, buf, bits, at);
-    }
-    if pdu == 8 {
-        return read_interrogate(buf, bits, at);
-    }
-    if pdu == 10 {
-        return read_intercepted(10, buf, bits, at);
-    }
-    if pdu == 12 {
-        return read_call(12, buf, bits, at);
-    }
-    if pdu == 13 {
-        return read_accepted(buf, bits, at);
-    }
-    if pdu == 15 {
-        return read_call(15, buf, bits, at);
-    }
-    read_intercepted(16, buf, bits, at)
+    let row = message::row_of(pdu);
+    let parts = row.parts;
+    read_row(air, parts, row.count, message::blank(pdu), buf, bits, at)
 }
 
-fn read_activate(air: Air, buf: &[u8], bits: usize, at: usize) -> Body
-    ensures { λ r. ⌜ r ≡ bodyOf (activateC air .read (bitAt (now (buf .entry))) bits at) ⌝ }
+fn read_row(
+    air: Air,
+    parts: [Slot; 4],
+    count: u8,
+    empty: Value,
+    buf: &[u8],
+    bits: usize,
+    at: usize,
+) -> Body
+    ensures { λ r. ⌜ r ≡ bodyOf (rowRead air empty count parts (bitAt (now (buf .entry))) bits at) ⌝ }
+{
+    let mut value = empty;
+    let mut next = at;
+    let mut i: usize = 0;
+    while i < count as usize {
+        if i >= 4 {
+            return carried(value, next);
+        }
+        let slot = parts[i];
+        let part = slot.part;
+        let b = read_part(air, value, part, buf, bits, next);
+        i += 1;
+        if b.found {
+            let v = b.value;
+            value = v;
+            next = b.next;
+        } else {
+            let s = b.stop;
+            return no_body(s);
+        }
+    }
+    carried(value, next)
+}
+
+fn read_part(air: Air, value: Value, part: Part, buf: &[u8], bits: usize, at: usize) -> Body
+    ensures { λ r. ⌜ r ≡ bodyOf (partRead air value part (bitAt (now (buf .entry))) bits at) ⌝ }
+{
+    match part {
+        Part::Nothing => carried(value, at),
+        Part::Number(element) => number_part(air, value, element, buf, bits, at),
+        Part::Users => users_part(air, value, buf, bits, at),
+        Part::User => user_part(air, value, buf, bits, at),
+        Part::Masked => mask_part(air, value, buf, bits, at),
+        Part::Result => result_part(air, value, buf, bits, at),
+        Part::Dispatchers => dispatchers_part(air, value, buf, bits, at),
+        Part::Dispatcher => dispatcher_part(air, value, buf, bits, at),
+    }
+}
+
+fn number_part(air: Air, value: Value, element: u8, buf: &[u8], bits: usize, at: usize) -> Body
+    ensures { λ r. ⌜ r ≡ bodyOf (partRead air value (Number element) (bitAt (now (buf .entry))) bits at) ⌝ }
+{
+    match element::word(element, buf, bits, at, message::width_of(element)) {
+        WordTook::Refused(s) => no_body(s),
+        WordTook::Got(n, p) => carried(message::with_number(value, element, n), p),
+    }
+}
+
+fn users_part(air: Air, value: Value, buf: &[u8], bits: usize, at: usize) -> Body
+    ensures { λ r. ⌜ r ≡ bodyOf (partRead air value Users (bitAt (now (buf .entry))) bits at) ⌝ }
 {
     let u = group::read_group(air, false, buf, bits, at);
     if u.found {
-        let p = u.next;
-        let o = option::read_dispatchers(air, buf, bits, p);
-        if o.found {
-            let users = u.group;
-            let dispatchers = o.group;
-            return carried(activate_value(users, o.present, dispatchers), o.next);
-        }
-        let s = o.stop;
-        return no_body(s);
+        let users = u.group;
+        return carried(message::with_users(value, users), u.next);
     }
     let s = u.stop;
     no_body(s)
 }
 
-fn read_interrogate(buf: &[u8], bits: usize, at: usize) -> Body
-    ensures { λ r. ⌜ r ≡ bodyOf (interrogateC .read (bitAt (now (buf .entry))) bits at) ⌝ }
+fn user_part(air: Air, value: Value, buf: &[u8], bits: usize, at: usize) -> Body
+    ensures { λ r. ⌜ r ≡ bodyOf (partRead air value User (bitAt (now (buf .entry))) bits at) ⌝ }
 {
     match address::read_address(buf, bits, at) {
         AddressTook::Refused(s) => no_body(s),
-        AddressTook::Got(a, p) => {
-            carried(message::plain_value(8, a, 0, 0, false, message::NOBODY), p)
-        }
+        AddressTook::Got(a, p) => carried(message::with_users(value, message::one_group(a)), p),
     }
 }
 
-fn read_intercepted(pdu: u8, buf: &[u8], bits: usize, at: usize) -> Body
-    ensures { λ r. ⌜ r ≡ bodyOf (interceptedC pdu .read (bitAt (now (buf .entry))) bits at) ⌝ }
+fn mask_part(air: Air, value: Value, buf: &[u8], bits: usize, at: usize) -> Body
+    ensures { λ r. ⌜ r ≡ bodyOf (partRead air value Masked (bitAt (now (buf .entry))) bits at) ⌝ }
 {
-    match element::byte(element::CAUSE, buf, bits, at, 5) {
-        ByteTook::Refused(s) => no_body(s),
-        ByteTook::Got(cause, p) => match option::read_dispatcher(buf, bits, p) {
-            OptionTook::Refused(s) => no_body(s),
-            OptionTook::Got(present, dispatcher, q) => carried(
-                message::plain_value(pdu, message::NOBODY, cause, 0, present, dispatcher),
-                q,
+    let users = value.users;
+    match ack::read_masked(few(message::span_of(air, users)), buf, bits, at) {
+        MaskedTook::Refused(s) => no_body(s),
+        MaskedTook::Got(masked, mask, p) => carried(message::with_mask(value, masked, mask), p),
+    }
+}
+
+// Users that were read have no more.
+fn few(count: usize) -> usize
+    ensures { λ r. ⌜ r ≡ min count 64 ⌝ }
+{
+    if count < 64 {
+        return count;
+    }
+    64
+}
+
+fn result_part(air: Air, value: Value, buf: &[u8], bits: usize, at: usize) -> Body
+    ensures { λ r. ⌜ r ≡ bodyOf (partRead air value Result (bitAt (now (buf .entry))) bits at) ⌝ }
+{
+    match ack::read_result(buf, bits, at) {
+        ResultTook::Refused(s) => no_body(s),
+        ResultTook::Got(result, reason, p) => carried(
+            message::with_number(
+                message::with_number(value, element::RESULT, result as u32),
+                element::REASON,
+                reason as u32,
             ),
-        },
-    }
-}
-
-fn read_call(pdu: u8, buf: &[u8], bits: usize, at: usize) -> Body
-    ensures { λ r. ⌜ r ≡ bodyOf (callC pdu .read (bitAt (now (buf .entry))) bits at) ⌝ }
-{
-    match element::word(element::IDENTIFIER, buf, bits, at, 14) {
-        WordTook::Refused(s) => no_body(s),
-        WordTook::Got(identifier, p) => carried(
-            message::plain_value(pdu, message::NOBODY, 0, identifier, false, message::NOBODY),
             p,
         ),
     }
 }
 
-fn read_accepted(buf: &[u8], bits: usize, at: usize) -> Body
-    ensures { λ r. ⌜ r ≡ bodyOf (acceptedC .read (bitAt (now (buf .entry))) bits at) ⌝ }
+fn dispatchers_part(air: Air, value: Value, buf: &[u8], bits: usize, at: usize) -> Body
+    ensures { λ r. ⌜ r ≡ bodyOf (partRead air value Dispatchers (bitAt (now (buf .entry))) bits at) ⌝ }
 {
-    carried(
-        message::plain_value(13, message::NOBODY, 0, 0, false, message::NOBODY),
-        at,
-    )
+    let o = option::read_dispatchers(air, buf, bits, at);
+    if o.found {
+        let dispatchers = o.group;
+        return carried(
+            message::with_dispatchers(value, o.present, dispatchers),
+            o.next,
+        );
+    }
+    let s = o.stop;
+    no_body(s)
 }
 
-fn activate_value(users: Group, option: bool, dispatchers: Group) -> Value
-    ensures { λ r. ⌜ r ≡ activateV users option dispatchers ⌝ }
+fn dispatcher_part(air: Air, value: Value, buf: &[u8], bits: usize, at: usize) -> Body
+    ensures { λ r. ⌜ r ≡ bodyOf (partRead air value Dispatcher (bitAt (now (buf .entry))) bits at) ⌝ }
 {
-    Value {
-        pdu: 2,
-        users: users,
-        masked: false,
-        mask: 0,
-        result: 0,
-        reason: 0,
-        cause: 0,
-        identifier: 0,
-        option: option,
-        dispatchers: dispatchers,
+    match option::read_dispatcher(buf, bits, at) {
+        OptionTook::Refused(s) => no_body(s),
+        OptionTook::Got(present, dispatcher, p) => carried(
+            message::with_dispatchers(value, present, message::one_group(dispatcher)),
+            p,
+        ),
     }
 }
 
@@ -163,5 +208,5 @@ pub(crate) fn no_body(s: Stop) -> Body
 pub(crate) fn no_value() -> Value
     ensures { λ r. ⌜ r ≡ noValue ⌝ }
 {
-    message::plain_value(0, message::NOBODY, 0, 0, false, message::NOBODY)
+    message::blank(0)
 }

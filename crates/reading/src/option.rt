@@ -4,7 +4,7 @@ ghost use mathlib.Core.Bool.{true, false};
 ghost use Rattle.bits.specs.Fields.{bitAt};
 ghost use Rattle.codec.specs.Codec.{got, no};
 ghost use Rattle.message.specs.Groups.{noGroup, groupC};
-ghost use Rattle.message.specs.Messages.{dispatchersC, dispatcherC};
+ghost use Rattle.message.specs.Rows.{dispatchersC, dispatcherC};
 ghost use Rattle.reading.specs.Answers.{optionOf, optionAddressOf, present};
 use crate::address;
 use crate::address::AddressTook;

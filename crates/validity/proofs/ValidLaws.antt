@@ -1,7 +1,7 @@
 -- What the tests of validity go by. Assumes nothing.
 use Prim.Native.Nat.{ℕ, suc, _+_, _-_, _*_, _/_, _%_, _^_, _≤_, _<_}
 use mathlib.Core.Path.{_≡_, refl, sym, _∙_}
-use mathlib.Core.Bool.{Bool, true, false, _||_}
+use mathlib.Core.Bool.{Bool, true, false, cond}
 use mathlib.Core.List.{List, _∷_}
 use native.Mathlib.Numerals.{add-one}
 use native.Mathlib.Omega.{arith}
@@ -12,11 +12,13 @@ use lib.Seq.{drop-cons, getD-take}
 use borrow.Author.Tests.{eqb-true, eqb-false, eq-eqb, ne-eqb, lt-ltb, le-ltb, le-leb}
 use Rattle.codec.specs.Codec.{Codec, both, number, vecOk}
 use Rattle.codec.specs.Options.{flag, option}
-use Rattle.codec.proofs.Good.{both-true, both-none}
+use Rattle.codec.proofs.Good.{both-true, both-none, not-both}
 use Rattle.message.specs.Addresses.{nobody, isZero, isNobody, kindC, addressC}
 use Rattle.message.specs.Groups.{areNobody}
 use Rattle.message.specs.Acks.{maskC, maskedC}
+use Rattle.message.specs.Rows.{rowOf}
 use Rattle.message.specs.Messages.{isKnown, isCarried, headerC}
+use Rattle.message.specs.declared.Row.{Row}
 use Rattle.message.specs.declared.Address.{Address}
 
 -- ---- both
@@ -141,23 +143,31 @@ module _ {A : Type 0} (o p : ℕ) (none : A) (isNone : A → Bool) (C : Codec A)
 
 -- ---- the header
 
-or-true : {A : Type 0} (a b : Bool) → (a ≡ true → A) → (b ≡ true → A) → (a || b) ≡ true → A
-or-true true b f g e = f refl
-or-true false b f g e = g e
+carried-arm : (t k : ℕ) (r s : Row) → 2 ≤ k → k ≤ 18 → (s .carried ≡ true → (2 ≤ t) × (t ≤ 18)) → cond (eqb t k) r s .carried ≡ true → (2 ≤ t) × (t ≤ 18)
+carried-arm t k r s l h rest = go (eqb t k) refl
+  where
+    go : (b : Bool) → eqb t k ≡ b → cond b r s .carried ≡ true → (2 ≤ t) × (t ≤ 18)
+    go true e w = let z = eqb-true t k e in (omega arith, omega arith)
+    go false e w = rest w
 
-one-of : (t k : ℕ) → 2 ≤ k → k ≤ 16 → eqb t k ≡ true → (2 ≤ t) × (t ≤ 16)
-one-of t k l h e = let z = eqb-true t k e in (omega arith, omega arith)
-
-carried-small : (t : ℕ) → isCarried t ≡ true → (2 ≤ t) × (t ≤ 16)
-unfolding isCarried
-carried-small t e =
-    or-true (eqb t 2) _ (one-of t 2 (omega arith) (omega arith))
-    (or-true (eqb t 3) _ (one-of t 3 (omega arith) (omega arith))
-    (or-true (eqb t 8) _ (one-of t 8 (omega arith) (omega arith))
-    (or-true (eqb t 10) _ (one-of t 10 (omega arith) (omega arith))
-    (or-true (eqb t 12) _ (one-of t 12 (omega arith) (omega arith))
-    (or-true (eqb t 13) _ (one-of t 13 (omega arith) (omega arith))
-    (or-true (eqb t 15) _ (one-of t 15 (omega arith) (omega arith)) (one-of t 16 (omega arith) (omega arith)))))))) e
+carried-small : (t : ℕ) → isCarried t ≡ true → (2 ≤ t) × (t ≤ 18)
+unfolding isCarried rowOf
+carried-small t =
+    carried-arm t 2 _ _ (omega arith) (omega arith)
+    (carried-arm t 3 _ _ (omega arith) (omega arith)
+    (carried-arm t 4 _ _ (omega arith) (omega arith)
+    (carried-arm t 5 _ _ (omega arith) (omega arith)
+    (carried-arm t 8 _ _ (omega arith) (omega arith)
+    (carried-arm t 10 _ _ (omega arith) (omega arith)
+    (carried-arm t 11 _ _ (omega arith) (omega arith)
+    (carried-arm t 12 _ _ (omega arith) (omega arith)
+    (carried-arm t 13 _ _ (omega arith) (omega arith)
+    (carried-arm t 14 _ _ (omega arith) (omega arith)
+    (carried-arm t 15 _ _ (omega arith) (omega arith)
+    (carried-arm t 16 _ _ (omega arith) (omega arith)
+    (carried-arm t 17 _ _ (omega arith) (omega arith)
+    (carried-arm t 18 _ _ (omega arith) (omega arith)
+    (λ e. not-both e))))))))))))))
 
 -- so the header of a carried type is a good one
 pub carried-ok : (ss t : ℕ) → ss < 64 → isCarried t ≡ true → headerC ss .ok (ss, t) ≡ true

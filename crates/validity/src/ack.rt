@@ -27,7 +27,7 @@ fn mask_ok(count: usize, mask: u64) -> bool
 }
 
 // Result 1 has no reason, and it is zero; result 0 has one.
-pub(crate) fn result_ok(result: u8, reason: u8) -> bool
+pub(crate) fn result_ok(result: u32, reason: u32) -> bool
     ensures { λ r. ⌜ r ≡ resultC .ok (result, reason) ⌝ }
 {
     if result >= 2 {

@@ -1,85 +1,125 @@
-// Each message after the first 11 bits: what it carries is good, and all that it doesn't carry is zero.
+// What each message has after the first 11 bits: each part of its row is good, and the value is what these parts make of a blank one.
 ghost use mathlib.Core.Path.{_≡_};
-ghost use Rattle.message.specs.Values.{activateFits, ackFits, plainFits, interrogateFits, interceptedFits, callFits};
-ghost use Rattle.message.specs.Messages.{dispatchersC, dispatcherC, activateC, ackC, interrogateC, interceptedC, callC, acceptedC, bodyC};
+ghost use Prim.Native.Nat.{_^_, _≤_, min};
+ghost use lib.Dec.{ltb};
+ghost use Rattle.message.specs.Rows.{dispatchersC, dispatcherC};
+ghost use Rattle.message.specs.Messages.{bodyC};
+ghost use Rattle.message.specs.declared.Part.the-variants.{Number, Users, User, Masked, Result, Dispatchers, Dispatcher};
+ghost use Rattle.validity.specs.Parts.{partOk, rowOk};
 use crate::ack;
 use crate::address;
 use crate::group;
+use crate::same;
 use message::Address;
 use message::Group;
+use message::Part;
+use message::Slot;
 use message::Value;
 use profile::Air;
 
-// The contents that the type `pdu` has; a type that is not one of the eight is taken for DIVERTED.
 pub(crate) fn body_ok(air: Air, pdu: u8, v: Value) -> bool
     ensures { λ r. ⌜ r ≡ bodyC air pdu .ok v ⌝ }
 {
-    if pdu == 2 {
-        return activate_ok(air, v);
-    }
-    if pdu == 3 {
-        return ack_ok(air, v);
-    }
-    if pdu == 8 {
-        return interrogate_ok(v);
-    }
-    if pdu == 10 {
-        return intercepted_ok(10, v);
-    }
-    if pdu == 12 {
-        return call_ok(12, v);
-    }
-    if pdu == 13 {
-        return accepted_ok(v);
-    }
-    if pdu == 15 {
-        return call_ok(15, v);
-    }
-    intercepted_ok(16, v)
+    let row = message::row_of(pdu);
+    let parts = row.parts;
+    row_ok(air, parts, row.count, message::blank(pdu), v)
 }
 
-// ---- ACTIVATE
-
-fn activate_ok(air: Air, v: Value) -> bool
-    ensures { λ r. ⌜ r ≡ activateC air .ok v ⌝ }
+// `made` is what the parts so far make of the blank value.
+fn row_ok(air: Air, parts: [Slot; 4], count: u8, blank: Value, v: Value) -> bool
+    ensures { λ r. ⌜ r ≡ rowOk air blank count parts v ⌝ }
 {
-    if activate_fits(v) {
-        let users = v.users;
-        if group::group_ok(air, false, users) {
-            let dispatchers = v.dispatchers;
-            return dispatchers_ok(air, v.option, dispatchers);
+    let mut made = blank;
+    let mut i: usize = 0;
+    while i < count as usize {
+        if i >= 4 {
+            return same::same_value(made, v);
         }
-        return false;
+        let slot = parts[i];
+        let part = slot.part;
+        i += 1;
+        if part_ok(air, made, part, v) {
+            made = message::copied(part, v, made);
+        } else {
+            return false;
+        }
     }
-    false
+    same::same_value(made, v)
 }
 
-fn activate_fits(v: Value) -> bool
-    ensures { λ r. ⌜ r ≡ activateFits v ⌝ }
+fn part_ok(air: Air, made: Value, part: Part, v: Value) -> bool
+    ensures { λ r. ⌜ r ≡ partOk air made part v ⌝ }
 {
-    if v.pdu != 2 {
-        return false;
+    match part {
+        Part::Nothing => true,
+        Part::Number(element) => number_ok(air, made, element, v),
+        Part::Users => users_ok(air, made, v),
+        Part::User => user_ok(air, made, v),
+        Part::Masked => mask_ok(air, made, v),
+        Part::Result => result_ok(air, made, v),
+        Part::Dispatchers => dispatchers_ok(air, made, v),
+        Part::Dispatcher => dispatcher_ok(air, made, v),
     }
-    if v.masked {
-        return false;
+}
+
+fn number_ok(air: Air, made: Value, element: u8, v: Value) -> bool
+    ensures { λ r. ⌜ r ≡ partOk air made (Number element) v ⌝ }
+{
+    fits(message::number_of(v, element), message::width_of(element))
+}
+
+fn users_ok(air: Air, made: Value, v: Value) -> bool
+    ensures { λ r. ⌜ r ≡ partOk air made Users v ⌝ }
+{
+    let users = v.users;
+    group::group_ok(air, false, users)
+}
+
+fn user_ok(air: Air, made: Value, v: Value) -> bool
+    ensures { λ r. ⌜ r ≡ partOk air made User v ⌝ }
+{
+    let users = v.users;
+    address::address_ok(message::first_of(users))
+}
+
+fn mask_ok(air: Air, made: Value, v: Value) -> bool
+    ensures { λ r. ⌜ r ≡ partOk air made Masked v ⌝ }
+{
+    let users = made.users;
+    ack::masked_ok(few(message::span_of(air, users)), v.masked, v.mask)
+}
+
+fn few(count: usize) -> usize
+    ensures { λ r. ⌜ r ≡ min count 64 ⌝ }
+{
+    if count < 64 {
+        return count;
     }
-    if v.mask != 0 {
-        return false;
-    }
-    if v.result != 0 {
-        return false;
-    }
-    if v.reason != 0 {
-        return false;
-    }
-    if v.cause != 0 {
-        return false;
-    }
-    v.identifier == 0
+    64
+}
+
+fn result_ok(air: Air, made: Value, v: Value) -> bool
+    ensures { λ r. ⌜ r ≡ partOk air made Result v ⌝ }
+{
+    ack::result_ok(message::number_of(v, 9), message::number_of(v, 10))
+}
+
+fn dispatchers_ok(air: Air, made: Value, v: Value) -> bool
+    ensures { λ r. ⌜ r ≡ partOk air made Dispatchers v ⌝ }
+{
+    let dispatchers = v.dispatchers;
+    group_given(air, v.option, dispatchers)
+}
+
+fn dispatcher_ok(air: Air, made: Value, v: Value) -> bool
+    ensures { λ r. ⌜ r ≡ partOk air made Dispatcher v ⌝ }
+{
+    let dispatchers = v.dispatchers;
+    address_given(v.option, message::first_of(dispatchers))
 }
 
 // Dispatchers, who may be "none", or no option and then zero.
-fn dispatchers_ok(air: Air, present: bool, dispatchers: Group) -> bool
+fn group_given(air: Air, present: bool, dispatchers: Group) -> bool
     ensures { λ r. ⌜ r ≡ dispatchersC air .ok (present, dispatchers) ⌝ }
 {
     if present {
@@ -88,104 +128,8 @@ fn dispatchers_ok(air: Air, present: bool, dispatchers: Group) -> bool
     group::is_no_group(dispatchers)
 }
 
-// ---- ACTIVATE ACK
-
-fn ack_ok(air: Air, v: Value) -> bool
-    ensures { λ r. ⌜ r ≡ ackC air .ok v ⌝ }
-{
-    if ack_fits(v) {
-        let users = v.users;
-        if group::group_ok(air, false, users) {
-            if ack::masked_ok(message::span_of(air, users), v.masked, v.mask) {
-                return ack::result_ok(v.result, v.reason);
-            }
-            return false;
-        }
-        return false;
-    }
-    false
-}
-
-fn ack_fits(v: Value) -> bool
-    ensures { λ r. ⌜ r ≡ ackFits v ⌝ }
-{
-    if v.pdu != 3 {
-        return false;
-    }
-    if v.cause != 0 {
-        return false;
-    }
-    if v.identifier != 0 {
-        return false;
-    }
-    if v.option {
-        return false;
-    }
-    let dispatchers = v.dispatchers;
-    group::is_no_group(dispatchers)
-}
-
-// ---- INTERROGATE
-
-fn interrogate_ok(v: Value) -> bool
-    ensures { λ r. ⌜ r ≡ interrogateC .ok v ⌝ }
-{
-    if interrogate_fits(v) {
-        let users = v.users;
-        return address::address_ok(message::first_of(users));
-    }
-    false
-}
-
-fn interrogate_fits(v: Value) -> bool
-    ensures { λ r. ⌜ r ≡ interrogateFits v ⌝ }
-{
-    if plain_fits(8, v) {
-        if v.cause != 0 {
-            return false;
-        }
-        if v.identifier != 0 {
-            return false;
-        }
-        if v.option {
-            return false;
-        }
-        let dispatchers = v.dispatchers;
-        return address::is_nobody(message::first_of(dispatchers));
-    }
-    false
-}
-
-// ---- INTERCEPTED and DIVERTED
-
-fn intercepted_ok(pdu: u8, v: Value) -> bool
-    ensures { λ r. ⌜ r ≡ interceptedC pdu .ok v ⌝ }
-{
-    if intercepted_fits(pdu, v) {
-        if v.cause >= 32 {
-            return false;
-        }
-        let dispatchers = v.dispatchers;
-        return dispatcher_ok(v.option, message::first_of(dispatchers));
-    }
-    false
-}
-
-fn intercepted_fits(pdu: u8, v: Value) -> bool
-    ensures { λ r. ⌜ r ≡ interceptedFits pdu v ⌝ }
-{
-    if plain_fits(pdu, v) {
-        if v.identifier != 0 {
-            return false;
-        }
-        let users = v.users;
-        return address::is_nobody(message::first_of(users));
-    }
-    false
-}
-
 // One dispatcher address, or no option and then zero.
-fn dispatcher_ok(present: bool, dispatcher: Address) -> bool
+fn address_given(present: bool, dispatcher: Address) -> bool
     ensures { λ r. ⌜ r ≡ dispatcherC .ok (present, dispatcher) ⌝ }
 {
     if present {
@@ -194,71 +138,10 @@ fn dispatcher_ok(present: bool, dispatcher: Address) -> bool
     address::is_nobody(dispatcher)
 }
 
-// ---- ACCEPT, DIVERT and ACCEPTED
-
-fn call_ok(pdu: u8, v: Value) -> bool
-    ensures { λ r. ⌜ r ≡ callC pdu .ok v ⌝ }
+// The number has so many bits.
+fn fits(n: u32, width: usize) -> bool
+    requires { ⌜ width ≤ 32 ⌝ }
+    ensures { λ r. ⌜ r ≡ ltb n (2 ^ width) ⌝ }
 {
-    if call_fits(pdu, v) {
-        return v.identifier < 0x4000;
-    }
-    false
-}
-
-fn call_fits(pdu: u8, v: Value) -> bool
-    ensures { λ r. ⌜ r ≡ callFits pdu v ⌝ }
-{
-    if plain_fits(pdu, v) {
-        if v.cause != 0 {
-            return false;
-        }
-        if v.option {
-            return false;
-        }
-        let users = v.users;
-        if address::is_nobody(message::first_of(users)) {
-            let dispatchers = v.dispatchers;
-            return address::is_nobody(message::first_of(dispatchers));
-        }
-        return false;
-    }
-    false
-}
-
-fn accepted_ok(v: Value) -> bool
-    ensures { λ r. ⌜ r ≡ acceptedC .ok v ⌝ }
-{
-    if call_fits(13, v) {
-        return v.identifier == 0;
-    }
-    false
-}
-
-// ---- all but ACTIVATE and its ACK
-
-// The type is `pdu`, each group has one address at most, and what only an ACK carries is zero.
-fn plain_fits(pdu: u8, v: Value) -> bool
-    ensures { λ r. ⌜ r ≡ plainFits pdu v ⌝ }
-{
-    if v.pdu != pdu {
-        return false;
-    }
-    let users = v.users;
-    if group::is_one_group(users) {
-        if v.masked {
-            return false;
-        }
-        if v.mask != 0 {
-            return false;
-        }
-        if v.result != 0 {
-            return false;
-        }
-        if v.reason != 0 {
-            return false;
-        }
-        let dispatchers = v.dispatchers;
-        return group::is_one_group(dispatchers);
-    }
-    false
+    (n as u64) < 1 << width
 }

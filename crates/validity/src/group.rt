@@ -4,7 +4,7 @@ ghost use Prim.Native.Nat.{_-_, _≤_};
 ghost use lib.ListN.{take, drop};
 ghost use Rattle.codec.specs.Codec.{vecOk};
 ghost use Rattle.message.specs.Addresses.{addressC};
-ghost use Rattle.message.specs.Groups.{addressesIn, areNobody, placesC, addressesC, rangeC, groupC, isNoGroup, isOneGroup};
+ghost use Rattle.message.specs.Groups.{addressesIn, areNobody, placesC, addressesC, rangeC, groupC, isNoGroup};
 use crate::address;
 use message::Address;
 use message::Group;
@@ -97,15 +97,4 @@ pub(crate) fn is_no_group(group: Group) -> bool
     }
     let list = group.addresses;
     rest_zero(list, 0)
-}
-
-// There is nothing in the group but its first address.
-pub(crate) fn is_one_group(group: Group) -> bool
-    ensures { λ r. ⌜ r ≡ isOneGroup group ⌝ }
-{
-    if group.range != 0 {
-        return false;
-    }
-    let list = group.addresses;
-    rest_zero(list, 1)
 }

@@ -13,6 +13,7 @@ mod ack;
 mod address;
 mod body;
 mod group;
+mod same;
 
 // True exactly if the value is a valid one under the profile's ranges (document 01, "Bits on the air").
 pub fn valid(profile: Profile, value: Value) -> bool

@@ -15,16 +15,17 @@ use Rattle.profile.specs.Counting.{every, sum}
 use Rattle.profile.specs.Rules.{meaningOk, meaningIn, airOk, shareOk, shareIn, sharesOk, profileOk}
 use Rattle.profile.specs.Sample.{sample, sampleMeanings, sampleShare}
 use Rattle.message.specs.Addresses.{nobody, isNobody, kindC, extensionC, addressC}
-use Rattle.message.specs.Groups.{addressesIn, allowedIn, nobodies, areNobody, placesC, rangeOk, endsOk, addressesC, rangeC, groupC, noGroup, oneGroup, isNoGroup, isOneGroup, spanIn, spanOf}
+use Rattle.message.specs.Groups.{addressesIn, allowedIn, nobodies, areNobody, placesC, rangeOk, endsOk, addressesC, rangeC, groupC, noGroup, oneGroup, isNoGroup, spanIn, spanOf}
 use Rattle.message.specs.Acks.{maskC, maskedC, resultC}
-use Rattle.message.specs.Values.{activateV, ackV, plainV, activateFits, ackFits, plainFits, interrogateFits, interceptedFits, callFits, acceptedFits}
-use Rattle.message.specs.Messages.{activateC, ackC, interrogateC, interceptedC, callC, acceptedC, bodyC, isKnown, isCarried, headerC, messageC}
+use Rattle.message.specs.Values.{blank, withNumber, withUsers, withMask, withDispatchers, sameNumbers, sameAddress, sameAddresses, sameGroup, sameValue}
+use Rattle.message.specs.Rows.{rowOf, widths, widthOf, rowC, puts, gets, firstParts}
+use Rattle.message.specs.Messages.{bodyC, isKnown, isCarried, headerC, messageC}
 use Rattle.message.specs.Reading.{wholeOf, lengthOk, readBits, readOf}
 use Rattle.message.specs.declared.Address.{Address}
 use Rattle.message.specs.declared.Group.{Group}
 use Rattle.message.specs.declared.Value.{Value}
 use Rattle.validity.specs.Validity.{validOf}
-use Rattle.validity.proofs.Cases.{home, abroad, none, one, two, four, activate, interrogate, intercepted, call}
+use Rattle.validity.proofs.Cases.{home, abroad, none, one, two, four, activateV, ackV, plainV, activate, interrogate, intercepted, call}
 use Rattle.writing.specs.Writing.{Write, laid, refused, bitsOf, padded, layOf, layIn, writeValid, writeOf}
 
 abbrev three : ℕ → Address → Address → Address → Group
@@ -97,7 +98,7 @@ abbrev pub written : Row → Write
 written (row v n bytes) = laid (bytes ++ (0xAA ∷ [])) n
 
 pub rows-written : list.map writes rows ≡ list.map written rows
-unfolding withDigit setBit putBits binary spare both number flag every sum meaningOk meaningIn airOk shareOk shareIn sharesOk profileOk sample sampleMeanings sampleShare isNobody kindC extensionC addressC addressesIn allowedIn nobodies areNobody placesC rangeOk endsOk addressesC rangeC groupC noGroup oneGroup isNoGroup isOneGroup spanIn spanOf maskC maskedC resultC activateV ackV plainV activateFits ackFits plainFits interrogateFits interceptedFits callFits acceptedFits activateC ackC interrogateC interceptedC callC acceptedC bodyC isKnown isCarried headerC messageC validOf bitsOf padded layOf layIn writeValid writeOf
+unfolding withDigit setBit putBits binary spare both number flag every sum meaningOk meaningIn airOk shareOk shareIn sharesOk profileOk sample sampleMeanings sampleShare isNobody kindC extensionC addressC addressesIn allowedIn nobodies areNobody placesC rangeOk endsOk addressesC rangeC groupC noGroup oneGroup isNoGroup spanIn spanOf maskC maskedC resultC blank sameNumbers sameAddress sameAddresses sameGroup sameValue rowOf widths widthOf rowC puts gets firstParts bodyC isKnown isCarried headerC messageC validOf bitsOf padded layOf layIn writeValid writeOf
 rows-written = refl
 
 -- ---- and read back
@@ -109,17 +110,17 @@ abbrev pub found : Row → Read Value
 found (row v n bytes) = got v n
 
 pub rows-read : list.map reads rows ≡ list.map found rows
-unfolding bitAt fieldAt both number vecRead flag every sum meaningOk meaningIn airOk shareOk shareIn sharesOk profileOk sample sampleMeanings sampleShare kindC extensionC addressC addressesIn allowedIn nobodies placesC rangeOk endsOk addressesC rangeC groupC noGroup oneGroup spanIn spanOf maskC maskedC resultC activateC ackC interrogateC interceptedC callC acceptedC bodyC isKnown isCarried headerC messageC wholeOf lengthOk readBits readOf
+unfolding blank rowOf widths widthOf rowC puts gets firstParts bitAt fieldAt both number vecRead flag every sum meaningOk meaningIn airOk shareOk shareIn sharesOk profileOk sample sampleMeanings sampleShare kindC extensionC addressC addressesIn allowedIn nobodies placesC rangeOk endsOk addressesC rangeC groupC noGroup oneGroup spanIn spanOf maskC maskedC resultC bodyC isKnown isCarried headerC messageC wholeOf lengthOk readBits readOf
 rows-read = refl
 
 -- ---- one byte too few, and from another byte of the area on
 
 pub sizes-right : list.map (λ (l : List ℕ). writeOf sample (call 13 0) l 0) ((0xAA ∷ 0xAA ∷ []) ∷ (0xAA ∷ []) ∷ [] ∷ [])
     ≡ laid (0x25 ∷ 0xA0 ∷ []) 11 ∷ refused (refusal 14) ∷ refused (refusal 14) ∷ []
-unfolding withDigit setBit putBits binary spare both number flag every sum meaningOk meaningIn airOk shareOk shareIn sharesOk profileOk sample sampleMeanings sampleShare isNobody kindC extensionC addressC addressesIn allowedIn nobodies areNobody placesC rangeOk endsOk addressesC rangeC groupC noGroup oneGroup isNoGroup isOneGroup spanIn spanOf maskC maskedC resultC activateV ackV plainV activateFits ackFits plainFits interrogateFits interceptedFits callFits acceptedFits activateC ackC interrogateC interceptedC callC acceptedC bodyC isKnown isCarried headerC messageC validOf bitsOf padded layOf layIn writeValid writeOf
+unfolding withDigit setBit putBits binary spare both number flag every sum meaningOk meaningIn airOk shareOk shareIn sharesOk profileOk sample sampleMeanings sampleShare isNobody kindC extensionC addressC addressesIn allowedIn nobodies areNobody placesC rangeOk endsOk addressesC rangeC groupC noGroup oneGroup isNoGroup spanIn spanOf maskC maskedC resultC blank sameNumbers sameAddress sameAddresses sameGroup sameValue rowOf widths widthOf rowC puts gets firstParts bodyC isKnown isCarried headerC messageC validOf bitsOf padded layOf layIn writeValid writeOf
 sizes-right = refl
 
 pub start-right : list.map (λ (b : ℕ). writeOf sample (call 13 0) (0xAA ∷ 0xAA ∷ 0xAA ∷ []) b) (0 ∷ 1 ∷ 2 ∷ [])
     ≡ laid (0x25 ∷ 0xA0 ∷ 0xAA ∷ []) 11 ∷ laid (0xAA ∷ 0x25 ∷ 0xA0 ∷ []) 11 ∷ refused (refusal 14) ∷ []
-unfolding withDigit setBit putBits binary spare both number flag every sum meaningOk meaningIn airOk shareOk shareIn sharesOk profileOk sample sampleMeanings sampleShare isNobody kindC extensionC addressC addressesIn allowedIn nobodies areNobody placesC rangeOk endsOk addressesC rangeC groupC noGroup oneGroup isNoGroup isOneGroup spanIn spanOf maskC maskedC resultC activateV ackV plainV activateFits ackFits plainFits interrogateFits interceptedFits callFits acceptedFits activateC ackC interrogateC interceptedC callC acceptedC bodyC isKnown isCarried headerC messageC validOf bitsOf padded layOf layIn writeValid writeOf
+unfolding withDigit setBit putBits binary spare both number flag every sum meaningOk meaningIn airOk shareOk shareIn sharesOk profileOk sample sampleMeanings sampleShare isNobody kindC extensionC addressC addressesIn allowedIn nobodies areNobody placesC rangeOk endsOk addressesC rangeC groupC noGroup oneGroup isNoGroup spanIn spanOf maskC maskedC resultC blank sameNumbers sameAddress sameAddresses sameGroup sameValue rowOf widths widthOf rowC puts gets firstParts bodyC isKnown isCarried headerC messageC validOf bitsOf padded layOf layIn writeValid writeOf
 start-right = refl

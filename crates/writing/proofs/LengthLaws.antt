@@ -1,7 +1,7 @@
 -- How long a valid message is. Assumes nothing.
-use Prim.Native.Nat.{ℕ, _+_, _*_, _-_, _/_, _^_, _≤_}
+use Prim.Native.Nat.{ℕ, _+_, _*_, _-_, _/_, _^_, _≤_, min}
 use mathlib.Core.Path.{_≡_, refl, ap}
-use mathlib.Core.Bool.{Bool, true, false}
+use mathlib.Core.Bool.{Bool, true, false, cond}
 use mathlib.Core.List.{List, [], _∷_, _++_}
 use native.Mathlib.Omega.{arith}
 use lib.Dec.{eqb}
@@ -20,7 +20,12 @@ use Rattle.message.specs.Elements as element
 use Rattle.message.specs.Addresses.{isZero, kindC, extensionC, addressC}
 use Rattle.message.specs.Groups.{addressesBy, addressesIn, spanBy, spanIn, placesC, addressesC, rangeC, groupC, spanOf, firstOf}
 use Rattle.message.specs.Acks.{maskC, maskedC, resultC}
-use Rattle.message.specs.Messages.{dispatchersC, dispatcherC, activateC, ackC, interrogateC, interceptedC, callC, acceptedC, bodyC, headerC, messageC}
+use Rattle.message.specs.Values.{blank}
+use Rattle.message.specs.Rows.{dispatchersC, dispatcherC, rowOf, widths, widthOf, Holds, partC, put, Tuple, rowC, gets, firstParts, partsOf}
+use Rattle.message.specs.Messages.{bodyC, headerC, messageC}
+use Rattle.message.specs.declared.Part.{Part}
+use Rattle.message.specs.declared.Part.the-variants as part
+use Rattle.message.specs.declared.Row.{Row}
 use Rattle.message.proofs.GroupLaws.{few-addresses, few-identities, range-allowed}
 use Rattle.message.specs.declared.Address.{Address}
 use Rattle.message.specs.declared.Group.{Group}
@@ -33,20 +38,6 @@ use Rattle.validity.specs.Validity.{validOf}
 pub valid-body : (air : Air) (v : Value) → validOf air v ≡ true → bodyC air (v .pdu) .ok v ≡ true
 unfolding validOf messageC
 valid-body air v e = both-right _ _ (both-right true _ e)
-
-ack-body : (air : Air) (v : Value) → v .pdu ≡ 3 → bodyC air (v .pdu) ≡ ackC air
-unfolding bodyC
-ack-body air v e = rw e
-
--- the users of a valid ACTIVATE ACK
-ack-users : (air : Air) (v : Value) → ackC air .ok v ≡ true → groupC air false .ok (v .users) ≡ true
-unfolding ackC
-ack-users air v e = both-left _ _ (both-right _ _ e)
-
--- a valid ACTIVATE ACK is of at most 64 identities
-pub valid-span : (air : Air) (v : Value) → validOf air v ≡ true → v .pdu ≡ 3 → spanOf air (v .users) ≤ 64
-valid-span air v ok e =
-    few-identities air false (v .users) (ack-users air v (rw (ack-body air v e) at (valid-body air v ok)))
 
 -- ---- how long the parts are
 
@@ -119,67 +110,71 @@ result-most r w = go (eqb r 1)
     go true = omega (arith, length-append (binary 1 r) [], length-binary 1 r)
     go false = omega (arith, length-append (binary 1 r) (binary 7 w), length-binary 1 r, length-binary 7 w)
 
--- ---- how long the messages are after the first 11 bits
+-- ---- how long a row's parts are
 
-activate-most : (air : Air) (v : Value) → activateC air .ok v ≡ true → length (activateC air .bits v) ≤ 1510
-unfolding activateC
-activate-most air v e =
-    let ok = both-right _ _ e in
+abbrev mostOf : Part → ℕ
+mostOf part.Nothing = 0
+mostOf (part.Number e) = widthOf e
+mostOf part.Users = 754
+mostOf part.User = 50
+mostOf part.Masked = 65
+mostOf part.Result = 8
+mostOf part.Dispatchers = 756
+mostOf part.Dispatcher = 52
+
+part-most : (air : Air) (w : Value) (p : Part) (x : Holds p) → partC air w p .ok x ≡ true → length (partC air w p .bits x) ≤ mostOf p
+unfolding number
+part-most air w part.Nothing x e = omega arith
+part-most air w (part.Number e) x h = omega (arith, length-binary (widthOf e) x)
+part-most air w part.Users x e = group-most air false x e
+part-most air w part.User x e = address-most x
+part-most air w part.Masked x e = omega (arith, masked-most (min (spanOf air (w .users)) 64) (x .0) (x .1))
+part-most air w part.Result x e = result-most (x .0) (x .1)
+part-most air w part.Dispatchers x e = dispatchers-most air (x .0) (x .1) e
+part-most air w part.Dispatcher x e = dispatcher-most (x .0) (x .1)
+
+abbrev mostIn : List Part → ℕ
+mostIn [] = 0
+mostIn (p ∷ ps) = mostOf p + mostIn ps
+
+row-most : (air : Air) (w : Value) (ps : List Part) (x : Tuple ps) → rowC air w ps .ok x ≡ true → length (rowC air w ps .bits x) ≤ mostIn ps
+unfolding rowC
+row-most air w [] x e = omega arith
+row-most air w (p ∷ ps) x e =
     omega (
       arith,
-      length-append (groupC air false .bits (v .users)) (dispatchersC air .bits (v .option, v .dispatchers)),
-      group-most air false (v .users) (both-left _ _ ok),
-      dispatchers-most air (v .option) (v .dispatchers) (both-right _ _ ok),
+      length-append (partC air w p .bits (x .0)) (rowC air (put p (x .0) w) ps .bits (x .1)),
+      part-most air w p (x .0) (both-left _ _ e),
+      row-most air (put p (x .0) w) ps (x .1) (both-right (partC air w p .ok (x .0)) _ e),
     )
 
-pub ack-most : (air : Air) (v : Value) → ackC air .ok v ≡ true → length (ackC air .bits v) ≤ 778
-unfolding ackC
-ack-most air v e =
-    let n = spanOf air (v .users) in
-    omega (
-      arith,
-      length-append (groupC air false .bits (v .users)) (maskedC n .bits (v .masked, v .mask) ++ resultC .bits (v .result, v .reason)),
-      length-append (maskedC n .bits (v .masked, v .mask)) (resultC .bits (v .result, v .reason)),
-      group-span-most air false (v .users) (both-left _ _ (both-right _ _ e)),
-      masked-most n (v .masked) (v .mask),
-      result-most (v .result) (v .reason),
-    )
+few-arm : (b : Bool) (r s : Row) → mostIn (partsOf r) ≤ 1510 → mostIn (partsOf s) ≤ 1510 → mostIn (partsOf (cond b r s)) ≤ 1510
+few-arm true r s h k = h
+few-arm false r s h k = k
 
-interrogate-most : (v : Value) → length (interrogateC .bits v) ≤ 50
-unfolding interrogateC
-interrogate-most v = address-most (firstOf (v .users))
-
-intercepted-most : (t : ℕ) (v : Value) → length (interceptedC t .bits v) ≤ 57
-unfolding interceptedC number
-intercepted-most t v =
-    omega (
-      arith,
-      length-append (binary 5 (v .cause)) (dispatcherC .bits (v .option, firstOf (v .dispatchers))),
-      length-binary 5 (v .cause),
-      dispatcher-most (v .option) (firstOf (v .dispatchers)),
-    )
-
-call-most : (t : ℕ) (v : Value) → length (callC t .bits v) ≤ 14
-unfolding callC number
-call-most t v = omega (arith, length-binary 14 (v .identifier))
-
--- one arm of the choice
-arm-most : (b : Bool) (C D : Codec Value) (v : Value) → (C .ok v ≡ true → length (C .bits v) ≤ 1510) → (D .ok v ≡ true → length (D .bits v) ≤ 1510)
-    → choose b C D .ok v ≡ true → length (choose b C D .bits v) ≤ 1510
-arm-most true C D v h k e = h e
-arm-most false C D v h k e = k e
+few-in : (t : ℕ) → mostIn (partsOf (rowOf t)) ≤ 1510
+unfolding rowOf firstParts widthOf widths
+few-in t =
+    few-arm (eqb t 2) _ _ (omega arith)
+    (few-arm (eqb t 3) _ _ (omega arith)
+    (few-arm (eqb t 4) _ _ (omega arith)
+    (few-arm (eqb t 5) _ _ (omega arith)
+    (few-arm (eqb t 8) _ _ (omega arith)
+    (few-arm (eqb t 10) _ _ (omega arith)
+    (few-arm (eqb t 11) _ _ (omega arith)
+    (few-arm (eqb t 12) _ _ (omega arith)
+    (few-arm (eqb t 13) _ _ (omega arith)
+    (few-arm (eqb t 14) _ _ (omega arith)
+    (few-arm (eqb t 15) _ _ (omega arith)
+    (few-arm (eqb t 16) _ _ (omega arith)
+    (few-arm (eqb t 17) _ _ (omega arith)
+    (few-arm (eqb t 18) _ _ (omega arith)
+    (omega arith))))))))))))))
 
 body-most : (air : Air) (t : ℕ) (v : Value) → bodyC air t .ok v ≡ true → length (bodyC air t .bits v) ≤ 1510
-unfolding bodyC acceptedC
-body-most air t v =
-    arm-most (eqb t 2) _ _ v (λ e. activate-most air v e)
-    (arm-most (eqb t 3) _ _ v (λ e. omega (arith, ack-most air v e))
-    (arm-most (eqb t 8) _ _ v (λ e. omega (arith, interrogate-most v))
-    (arm-most (eqb t 10) _ _ v (λ e. omega (arith, intercepted-most 10 v))
-    (arm-most (eqb t 12) _ _ v (λ e. omega (arith, call-most 12 v))
-    (arm-most (eqb t 13) _ _ v (λ e. omega arith)
-    (arm-most (eqb t 15) _ _ v (λ e. omega (arith, call-most 15 v))
-    (λ e. omega (arith, intercepted-most 16 v))))))))
+unfolding bodyC
+body-most air t v e =
+    omega (arith, few-in t, row-most air (blank t) (partsOf (rowOf t)) (gets (partsOf (rowOf t)) v) (both-right _ _ e))
 
 -- ---- how long the messages are
 
@@ -194,11 +189,3 @@ message-some air v = omega (arith, header-length air v)
 -- the longest is an ACTIVATE of 1,521 bits: fifteen users and fifteen dispatchers of kind 2; 2,048 are allowed
 pub message-most : (air : Air) (v : Value) → validOf air v ≡ true → length (bitsOf air v) ≤ 1521
 message-most air v ok = omega (arith, header-length air v, body-most air (v .pdu) v (valid-body air v ok))
-
--- the longest ACTIVATE ACK has 789 bits, so 99 bytes: the desk's stand 100 bytes apart
-pub ack-message-most : (air : Air) (v : Value) → validOf air v ≡ true → v .pdu ≡ 3 → length (bitsOf air v) ≤ 789
-ack-message-most air v ok e =
-    omega (arith, header-length air v, ack-most air v (rw (ack-body air v e) at (valid-body air v ok)), ap (λ (C : Codec Value). length (C .bits v)) (ack-body air v e))
-
-pub ack-bytes-most : (air : Air) (v : Value) → validOf air v ≡ true → v .pdu ≡ 3 → bytesFor (length (bitsOf air v)) ≤ 99
-ack-bytes-most air v ok e = omega (arith, ack-message-most air v ok e)

@@ -1,32 +1,17 @@
-// ACTIVATE ACK: users, a mask of one bit for each identity, a result.
+// What an ACK has after its users: a mask of one bit for each identity, a result.
 ghost use mathlib.Core.Path.{_≡_};
 ghost use Prim.Native.Nat.{_-_, _/_, _^_, _≤_};
-ghost use Rattle.message.specs.Groups.{spanOf};
 ghost use Rattle.message.specs.Acks.{maskedC, resultC};
-ghost use Rattle.message.specs.Messages.{ackC};
 ghost use Rattle.writing.specs.Wrote.{Wrote};
 use crate::element;
-use crate::group;
-use message::Value;
-use profile::Air;
 
-pub(crate) fn write_ack(air: Air, value: Value, out: &mut [u8], at: usize) -> usize
-    requires { ⌜ spanOf air (value .users) ≤ 64 ⌝ }
-    ensures { λ r. ⌜ Wrote (now (out .entry)) (now (out .exit)) at r (ackC air .bits value) ⌝ }
-{
-    let users = value.users;
-    let p = group::write_group(air, users, out, at);
-    let q = write_masked(
-        message::span_of(air, users),
-        value.masked,
-        value.mask,
-        out,
-        p,
-    );
-    write_result(value.result, value.reason, out, q)
-}
-
-fn write_masked(count: usize, masked: bool, mask: u64, out: &mut [u8], at: usize) -> usize
+pub(crate) fn write_masked(
+    count: usize,
+    masked: bool,
+    mask: u64,
+    out: &mut [u8],
+    at: usize,
+) -> usize
     requires { ⌜ count ≤ 64 ⌝ }
     ensures { λ r. ⌜ Wrote (now (out .entry)) (now (out .exit)) at r (maskedC count .bits (masked, mask)) ⌝ }
 {
@@ -49,12 +34,12 @@ fn first(mask: u64, count: usize) -> u64
 }
 
 // A reason follows unless the result is 1.
-fn write_result(result: u8, reason: u8, out: &mut [u8], at: usize) -> usize
+pub(crate) fn write_result(result: u32, reason: u32, out: &mut [u8], at: usize) -> usize
     ensures { λ r. ⌜ Wrote (now (out .entry)) (now (out .exit)) at r (resultC .bits (result, reason)) ⌝ }
 {
-    let p = element::byte(out, at, 1, result);
+    let p = element::word(out, at, 1, result);
     if result == 1 {
         return p;
     }
-    element::byte(out, p, 7, reason)
+    element::word(out, p, 7, reason)
 }

@@ -1,73 +1,133 @@
-// What each message has after the first 11 bits.
+// What each message has after the first 11 bits: its row's parts, one after the other.
 ghost use mathlib.Core.Path.{_≡_};
-ghost use Prim.Native.Nat.{_≤_};
-ghost use Rattle.message.specs.Groups.{spanOf};
-ghost use Rattle.message.specs.Messages.{activateC, interrogateC, interceptedC, callC, bodyC};
+ghost use Prim.Native.Nat.{min};
+ghost use Rattle.message.specs.Messages.{bodyC};
+ghost use Rattle.message.specs.declared.Part.the-variants.{Number, Users, User, Masked, Result, Dispatchers, Dispatcher};
+ghost use Rattle.writing.specs.Parts.{partBits, rowBits};
 ghost use Rattle.writing.specs.Wrote.{Wrote};
 use crate::ack;
 use crate::address;
 use crate::element;
 use crate::group;
 use crate::option;
+use message::Part;
+use message::Slot;
 use message::Value;
 use profile::Air;
 
-// A mask has at most 64 bits.
 pub(crate) fn write_body(air: Air, value: Value, out: &mut [u8], at: usize) -> usize
-    requires { ⌜ (value .pdu ≡ 3 → spanOf air (value .users) ≤ 64) ⌝ }
     ensures { λ r. ⌜ Wrote (now (out .entry)) (now (out .exit)) at r (bodyC air (value .pdu) .bits value) ⌝ }
 {
-    let pdu = value.pdu;
-    if pdu == 2 {
-        return write_activate(air, value, out, at);
-    }
-    if pdu == 3 {
-        return ack::write_ack(air, value, out, at);
-    }
-    if pdu == 8 {
-        return write_interrogate(value, out, at);
-    }
-    if pdu == 10 {
-        return write_intercepted(10, value, out, at);
-    }
-    if pdu == 12 {
-        return write_call(12, value, out, at);
-    }
-    if pdu == 13 {
-        return at;
-    }
-    if pdu == 15 {
-        return write_call(15, value, out, at);
-    }
-    write_intercepted(16, value, out, at)
+    let row = message::row_of(value.pdu);
+    let parts = row.parts;
+    write_row(
+        air,
+        parts,
+        row.count,
+        message::blank(value.pdu),
+        value,
+        out,
+        at,
+    )
 }
 
-fn write_activate(air: Air, value: Value, out: &mut [u8], at: usize) -> usize
-    ensures { λ r. ⌜ Wrote (now (out .entry)) (now (out .exit)) at r (activateC air .bits value) ⌝ }
+// `made` is what the parts so far make of the blank value.
+fn write_row(
+    air: Air,
+    parts: [Slot; 4],
+    count: u8,
+    blank: Value,
+    value: Value,
+    out: &mut [u8],
+    at: usize,
+) -> usize
+    ensures { λ r. ⌜ Wrote (now (out .entry)) (now (out .exit)) at r (rowBits air blank count parts value) ⌝ }
 {
-    let users = value.users;
-    let dispatchers = value.dispatchers;
-    let p = group::write_group(air, users, out, at);
-    option::write_dispatchers(air, value.option, dispatchers, out, p)
+    let mut made = blank;
+    let mut next = at;
+    let mut i: usize = 0;
+    while i < count as usize {
+        if i >= 4 {
+            return next;
+        }
+        let slot = parts[i];
+        let part = slot.part;
+        next = write_part(air, made, part, value, out, next);
+        made = message::copied(part, value, made);
+        i += 1;
+    }
+    next
 }
 
-fn write_interrogate(value: Value, out: &mut [u8], at: usize) -> usize
-    ensures { λ r. ⌜ Wrote (now (out .entry)) (now (out .exit)) at r (interrogateC .bits value) ⌝ }
+fn write_part(air: Air, made: Value, part: Part, v: Value, out: &mut [u8], at: usize) -> usize
+    ensures { λ r. ⌜ Wrote (now (out .entry)) (now (out .exit)) at r (partBits air made part v) ⌝ }
 {
-    let users = value.users;
+    match part {
+        Part::Nothing => at,
+        Part::Number(element) => number_part(air, made, element, v, out, at),
+        Part::Users => users_part(air, made, v, out, at),
+        Part::User => user_part(air, made, v, out, at),
+        Part::Masked => mask_part(air, made, v, out, at),
+        Part::Result => result_part(air, made, v, out, at),
+        Part::Dispatchers => dispatchers_part(air, made, v, out, at),
+        Part::Dispatcher => dispatcher_part(air, made, v, out, at),
+    }
+}
+
+fn number_part(air: Air, made: Value, element: u8, v: Value, out: &mut [u8], at: usize) -> usize
+    ensures { λ r. ⌜ Wrote (now (out .entry)) (now (out .exit)) at r (partBits air made (Number element) v) ⌝ }
+{
+    let width = message::width_of(element);
+    let n = message::number_of(v, element);
+    element::word(out, at, width, n)
+}
+
+fn users_part(air: Air, made: Value, v: Value, out: &mut [u8], at: usize) -> usize
+    ensures { λ r. ⌜ Wrote (now (out .entry)) (now (out .exit)) at r (partBits air made Users v) ⌝ }
+{
+    let users = v.users;
+    group::write_group(air, users, out, at)
+}
+
+fn user_part(air: Air, made: Value, v: Value, out: &mut [u8], at: usize) -> usize
+    ensures { λ r. ⌜ Wrote (now (out .entry)) (now (out .exit)) at r (partBits air made User v) ⌝ }
+{
+    let users = v.users;
     address::write_address(message::first_of(users), out, at)
 }
 
-fn write_intercepted(pdu: u8, value: Value, out: &mut [u8], at: usize) -> usize
-    ensures { λ r. ⌜ Wrote (now (out .entry)) (now (out .exit)) at r (interceptedC pdu .bits value) ⌝ }
+fn mask_part(air: Air, made: Value, v: Value, out: &mut [u8], at: usize) -> usize
+    ensures { λ r. ⌜ Wrote (now (out .entry)) (now (out .exit)) at r (partBits air made Masked v) ⌝ }
 {
-    let dispatchers = value.dispatchers;
-    let p = element::byte(out, at, 5, value.cause);
-    option::write_dispatcher(value.option, message::first_of(dispatchers), out, p)
+    let users = made.users;
+    ack::write_masked(few(message::span_of(air, users)), v.masked, v.mask, out, at)
 }
 
-fn write_call(pdu: u8, value: Value, out: &mut [u8], at: usize) -> usize
-    ensures { λ r. ⌜ Wrote (now (out .entry)) (now (out .exit)) at r (callC pdu .bits value) ⌝ }
+fn few(count: usize) -> usize
+    ensures { λ r. ⌜ r ≡ min count 64 ⌝ }
 {
-    element::word(out, at, 14, value.identifier)
+    if count < 64 {
+        return count;
+    }
+    64
+}
+
+fn result_part(air: Air, made: Value, v: Value, out: &mut [u8], at: usize) -> usize
+    ensures { λ r. ⌜ Wrote (now (out .entry)) (now (out .exit)) at r (partBits air made Result v) ⌝ }
+{
+    ack::write_result(message::number_of(v, 9), message::number_of(v, 10), out, at)
+}
+
+fn dispatchers_part(air: Air, made: Value, v: Value, out: &mut [u8], at: usize) -> usize
+    ensures { λ r. ⌜ Wrote (now (out .entry)) (now (out .exit)) at r (partBits air made Dispatchers v) ⌝ }
+{
+    let dispatchers = v.dispatchers;
+    option::write_dispatchers(air, v.option, dispatchers, out, at)
+}
+
+fn dispatcher_part(air: Air, made: Value, v: Value, out: &mut [u8], at: usize) -> usize
+    ensures { λ r. ⌜ Wrote (now (out .entry)) (now (out .exit)) at r (partBits air made Dispatcher v) ⌝ }
+{
+    let dispatchers = v.dispatchers;
+    option::write_dispatcher(v.option, message::first_of(dispatchers), out, at)
 }

@@ -1,5 +1,5 @@
 // One optional element: an O-bit; if it is 1, the P-bit 1 and the element.
-ghost use Rattle.message.specs.Messages.{dispatchersC, dispatcherC};
+ghost use Rattle.message.specs.Rows.{dispatchersC, dispatcherC};
 ghost use Rattle.writing.specs.Wrote.{Wrote};
 use crate::address;
 use crate::element;

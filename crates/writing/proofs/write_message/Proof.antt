@@ -2,7 +2,6 @@
 use borrow.Author.Needs.{needs}
 use Rattle.codec.specs.Codec.{number}
 use Rattle.message.specs.Messages.{headerC, messageC}
-use Rattle.writing.proofs.LengthLaws.{valid-span}
 use Rattle.writing.proofs.WroteLaws.{wrote-join}
 use Rattle.writing.specs.Writing.{bitsOf}
 use Rattle.writing.proofs.write_message.Statement.{statement}
@@ -15,9 +14,7 @@ byte-requires-2 : tie.Need-byte-requires-2
 byte-requires-2 c κs = search needs
 
 write-body-requires : tie.Need-write-body-requires
-write-body-requires c κs =
-    let s = c .before .before .before .before .before .before .before .before .before .before in
-    λ e. valid-span (s .args .air) (s .args .value) (s .pre) e
+write-body-requires c κs = search needs
 
 same-length : tie.Need-same-length
 same-length c = search needs

@@ -1,21 +1,20 @@
 -- `validity::body::dispatcher_ok` meets its contract. Assumes nothing.
-use mathlib.Core.Path.{sym, _∙_}
 use borrow.Author.Needs.{needs}
-use Rattle.validity.proofs.ValidLaws.{option-there, option-none}
+use Rattle.validity.specs.Parts.{partOk}
 use Rattle.validity.proofs.body.dispatcher_ok.Statement.{statement}
 use Rattle.validity.proofs.body.dispatcher_ok.Tie as tie
 
-address-ok-requires : tie.Need-address-ok-requires
-address-ok-requires c κs = search needs
+first-of-requires : tie.Need-first-of-requires
+first-of-requires c κs = search needs
+
+address-given-requires : tie.Need-address-given-requires
+address-given-requires c κs = search needs
 
 returns : tie.Need-returns
-returns c = c .address-ok .ensures ∙ sym (option-there _ _ _ _ _ _ _ (c .before .if1 .taken))
-
-is-nobody-requires : tie.Need-is-nobody-requires
-is-nobody-requires c κs = search needs
-
-returns-2 : tie.Need-returns-2
-returns-2 c = c .is-nobody .ensures ∙ sym (option-none _ _ _ _ _ _ _ (c .before .if1 .left))
+unfolding partOk
+returns c =
+    let p1 = c .before in
+    rw (c .address-given .ensures, ← (p1 .first-of .ensures))
 
 pub dispatcher-ok-spec : {M : Type 1} → statement M
-dispatcher-ok-spec = tie.close (tie.spec address-ok-requires returns is-nobody-requires returns-2)
+dispatcher-ok-spec = tie.close (tie.spec first-of-requires address-given-requires returns)

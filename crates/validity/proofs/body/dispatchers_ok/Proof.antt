@@ -1,21 +1,15 @@
 -- `validity::body::dispatchers_ok` meets its contract. Assumes nothing.
-use mathlib.Core.Path.{sym, _∙_}
 use borrow.Author.Needs.{needs}
-use Rattle.validity.proofs.ValidLaws.{option-there, option-none}
+use Rattle.validity.specs.Parts.{partOk}
 use Rattle.validity.proofs.body.dispatchers_ok.Statement.{statement}
 use Rattle.validity.proofs.body.dispatchers_ok.Tie as tie
 
-group-ok-requires : tie.Need-group-ok-requires
-group-ok-requires c κs = search needs
+group-given-requires : tie.Need-group-given-requires
+group-given-requires c κs = search needs
 
 returns : tie.Need-returns
-returns c = c .group-ok .ensures ∙ sym (option-there _ _ _ _ _ _ _ (c .before .if1 .taken))
-
-is-no-group-requires : tie.Need-is-no-group-requires
-is-no-group-requires c κs = search needs
-
-returns-2 : tie.Need-returns-2
-returns-2 c = c .is-no-group .ensures ∙ sym (option-none _ _ _ _ _ _ _ (c .before .if1 .left))
+unfolding partOk
+returns c = rw (c .group-given .ensures)
 
 pub dispatchers-ok-spec : {M : Type 1} → statement M
-dispatchers-ok-spec = tie.close (tie.spec group-ok-requires returns is-no-group-requires returns-2)
+dispatchers-ok-spec = tie.close (tie.spec group-given-requires returns)

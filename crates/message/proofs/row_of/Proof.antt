@@ -1,0 +1,145 @@
+-- `message::row_of` meets its contract. Assumes nothing.
+use borrow.Author.Needs.{needs}
+use borrow.Author.Tests.{eq-eqb, ne-eqb}
+use Rattle.message.specs.Rows.{rowOf}
+use Rattle.message.proofs.row_of.Statement.{statement}
+use Rattle.message.proofs.row_of.Tie as tie
+
+one-and-option-requires : tie.Need-one-and-option-requires
+one-and-option-requires c κs = search needs
+
+returns : tie.Need-returns
+unfolding rowOf
+returns c =
+    let p1 = c .before in
+    rw (eq-eqb _ _ (p1 .if1 .taken)) (c .one-and-option .ensures)
+
+three-requires : tie.Need-three-requires
+three-requires c κs = search needs
+
+returns-2 : tie.Need-returns-2
+unfolding rowOf
+returns-2 c =
+    let p1 = c .before .before in
+    let p2 = c .before in
+    rw (ne-eqb _ _ (p1 .if1 .left), eq-eqb _ _ (p2 .if2 .taken)) (c .three .ensures)
+
+one-requires : tie.Need-one-requires
+one-requires c κs = search needs
+
+returns-3 : tie.Need-returns-3
+unfolding rowOf
+returns-3 c =
+    let p1 = c .before .before .before in
+    let p2 = c .before .before in
+    let p3 = c .before in
+    rw (ne-eqb _ _ (p1 .if1 .left), ne-eqb _ _ (p2 .if2 .left), eq-eqb _ _ (p3 .if3 .taken)) (c .one .ensures)
+
+one-and-option-requires-2 : tie.Need-one-and-option-requires-2
+one-and-option-requires-2 c κs = search needs
+
+returns-4 : tie.Need-returns-4
+unfolding rowOf
+returns-4 c =
+    let p1 = c .before .before .before .before in
+    let p2 = c .before .before .before in
+    let p3 = c .before .before in
+    let p4 = c .before in
+    rw (ne-eqb _ _ (p1 .if1 .left), ne-eqb _ _ (p2 .if2 .left), ne-eqb _ _ (p3 .if3 .left), eq-eqb _ _ (p4 .if4 .taken)) (c .one-and-option2 .ensures)
+
+one-requires-2 : tie.Need-one-requires-2
+one-requires-2 c κs = search needs
+
+returns-5 : tie.Need-returns-5
+unfolding rowOf
+returns-5 c =
+    let p1 = c .before .before .before .before .before in
+    let p2 = c .before .before .before .before in
+    let p3 = c .before .before .before in
+    let p4 = c .before .before in
+    let p5 = c .before in
+    rw (ne-eqb _ _ (p1 .if1 .left), ne-eqb _ _ (p2 .if2 .left), ne-eqb _ _ (p3 .if3 .left), ne-eqb _ _ (p4 .if4 .left), eq-eqb _ _ (p5 .if5 .taken)) (c .one2 .ensures)
+
+none-requires : tie.Need-none-requires
+none-requires c κs = search needs
+
+returns-6 : tie.Need-returns-6
+unfolding rowOf
+returns-6 c =
+    let p1 = c .before .before .before .before .before .before in
+    let p2 = c .before .before .before .before .before in
+    let p3 = c .before .before .before .before in
+    let p4 = c .before .before .before in
+    let p5 = c .before .before in
+    let p6 = c .before in
+    rw (ne-eqb _ _ (p1 .if1 .left), ne-eqb _ _ (p2 .if2 .left), ne-eqb _ _ (p3 .if3 .left), ne-eqb _ _ (p4 .if4 .left), ne-eqb _ _ (p5 .if5 .left), eq-eqb _ _ (p6 .if6 .taken)) (c .none .ensures)
+
+one-requires-3 : tie.Need-one-requires-3
+one-requires-3 c κs = search needs
+
+returns-7 : tie.Need-returns-7
+unfolding rowOf
+returns-7 c =
+    let p1 = c .before .before .before .before .before .before .before in
+    let p2 = c .before .before .before .before .before .before in
+    let p3 = c .before .before .before .before .before in
+    let p4 = c .before .before .before .before in
+    let p5 = c .before .before .before in
+    let p6 = c .before .before in
+    let p7 = c .before in
+    rw (ne-eqb _ _ (p1 .if1 .left), ne-eqb _ _ (p2 .if2 .left), ne-eqb _ _ (p3 .if3 .left), ne-eqb _ _ (p4 .if4 .left), ne-eqb _ _ (p5 .if5 .left), ne-eqb _ _ (p6 .if6 .left), eq-eqb _ _ (p7 .if7 .taken)) (c .one3 .ensures)
+
+one-and-option-requires-3 : tie.Need-one-and-option-requires-3
+one-and-option-requires-3 c κs = search needs
+
+returns-8 : tie.Need-returns-8
+unfolding rowOf
+returns-8 c =
+    let p1 = c .before .before .before .before .before .before .before .before in
+    let p2 = c .before .before .before .before .before .before .before in
+    let p3 = c .before .before .before .before .before .before in
+    let p4 = c .before .before .before .before .before in
+    let p5 = c .before .before .before .before in
+    let p6 = c .before .before .before in
+    let p7 = c .before .before in
+    let p8 = c .before in
+    rw (ne-eqb _ _ (p1 .if1 .left), ne-eqb _ _ (p2 .if2 .left), ne-eqb _ _ (p3 .if3 .left), ne-eqb _ _ (p4 .if4 .left), ne-eqb _ _ (p5 .if5 .left), ne-eqb _ _ (p6 .if6 .left), ne-eqb _ _ (p7 .if7 .left), eq-eqb _ _ (p8 .if8 .taken)) (c .one-and-option3 .ensures)
+
+not-carried-requires : tie.Need-not-carried-requires
+not-carried-requires c κs = search needs
+
+returns-9 : tie.Need-returns-9
+unfolding rowOf
+returns-9 c =
+    let p1 = c .before .before .before .before .before .before .before .before in
+    let p2 = c .before .before .before .before .before .before .before in
+    let p3 = c .before .before .before .before .before .before in
+    let p4 = c .before .before .before .before .before in
+    let p5 = c .before .before .before .before in
+    let p6 = c .before .before .before in
+    let p7 = c .before .before in
+    let p8 = c .before in
+    rw (ne-eqb _ _ (p1 .if1 .left), ne-eqb _ _ (p2 .if2 .left), ne-eqb _ _ (p3 .if3 .left), ne-eqb _ _ (p4 .if4 .left), ne-eqb _ _ (p5 .if5 .left), ne-eqb _ _ (p6 .if6 .left), ne-eqb _ _ (p7 .if7 .left), ne-eqb _ _ (p8 .if8 .left)) (c .not-carried .ensures)
+
+pub row-of-spec : {M : Type 1} → statement M
+row-of-spec =
+    tie.close
+    (tie.spec
+    one-and-option-requires
+    returns
+    three-requires
+    returns-2
+    one-requires
+    returns-3
+    one-and-option-requires-2
+    returns-4
+    one-requires-2
+    returns-5
+    none-requires
+    returns-6
+    one-requires-3
+    returns-7
+    one-and-option-requires-3
+    returns-8
+    not-carried-requires
+    returns-9)

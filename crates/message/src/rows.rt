@@ -1,0 +1,77 @@
+// Rows put together from their parts.
+ghost use mathlib.Core.Path.{_≡_};
+ghost use mathlib.Core.List.{[], _∷_};
+ghost use Rattle.message.specs.Rows.{row, noRow};
+use crate::Part;
+use crate::Row;
+use crate::Slot;
+
+const NOTHING: Slot = Slot {
+    part: Part::Nothing,
+};
+
+pub(crate) fn not_carried() -> Row
+    ensures { λ r. ⌜ r ≡ noRow ⌝ }
+{
+    Row {
+        carried: false,
+        count: 0,
+        parts: [NOTHING; 6],
+        options: 0,
+        optional: [NOTHING; 7],
+    }
+}
+
+pub(crate) fn none() -> Row
+    ensures { λ r. ⌜ r ≡ row [] [] ⌝ }
+{
+    Row {
+        carried: true,
+        count: 0,
+        parts: [NOTHING; 6],
+        options: 0,
+        optional: [NOTHING; 7],
+    }
+}
+
+pub(crate) fn one(p: Part) -> Row
+    ensures { λ r. ⌜ r ≡ row (p ∷ []) [] ⌝ }
+{
+    let a = Slot { part: p };
+    Row {
+        carried: true,
+        count: 1,
+        parts: [a, NOTHING, NOTHING, NOTHING, NOTHING, NOTHING],
+        options: 0,
+        optional: [NOTHING; 7],
+    }
+}
+
+pub(crate) fn three(p: Part, q: Part, s: Part) -> Row
+    ensures { λ r. ⌜ r ≡ row (p ∷ q ∷ s ∷ []) [] ⌝ }
+{
+    let a = Slot { part: p };
+    let b = Slot { part: q };
+    let c = Slot { part: s };
+    Row {
+        carried: true,
+        count: 3,
+        parts: [a, b, c, NOTHING, NOTHING, NOTHING],
+        options: 0,
+        optional: [NOTHING; 7],
+    }
+}
+
+pub(crate) fn one_and_option(p: Part, o: Part) -> Row
+    ensures { λ r. ⌜ r ≡ row (p ∷ []) (o ∷ []) ⌝ }
+{
+    let a = Slot { part: p };
+    let b = Slot { part: o };
+    Row {
+        carried: true,
+        count: 1,
+        parts: [a, NOTHING, NOTHING, NOTHING, NOTHING, NOTHING],
+        options: 1,
+        optional: [b, NOTHING, NOTHING, NOTHING, NOTHING, NOTHING, NOTHING],
+    }
+}

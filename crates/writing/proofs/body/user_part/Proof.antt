@@ -1,0 +1,25 @@
+-- `writing::body::user_part` meets its contract. Assumes nothing.
+use borrow.Author.Needs.{needs}
+use Rattle.message.specs.Addresses.{addressC}
+use Rattle.writing.specs.Parts.{partBits}
+use Rattle.writing.proofs.body.user_part.Statement.{statement}
+use Rattle.writing.proofs.body.user_part.Tie as tie
+
+first-of-requires : tie.Need-first-of-requires
+first-of-requires c κs = search needs
+
+write-address-requires : tie.Need-write-address-requires
+write-address-requires c κs = search needs
+
+same-length : tie.Need-same-length
+same-length c = search needs
+
+returns : tie.Need-returns
+unfolding partBits addressC
+returns c =
+    let p1 = c .before .before .before .before in
+    let p2 = c .before .before in
+    rw (p1 .first-of .ensures) at (p2 .write-address .ensures)
+
+pub user-part-spec : {M : Type 1} → statement M
+user-part-spec = tie.close (tie.spec first-of-requires write-address-requires same-length returns)
