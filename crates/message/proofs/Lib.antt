@@ -7,3 +7,4 @@ pub mod ReadingLaws
 pub mod StopLaws
 pub mod Cases
 pub mod RowLaws
+pub mod SlotLaws

@@ -12,10 +12,12 @@ use Rattle.profile.specs.Sample.{sample, sampleMeanings}
 use Rattle.profile.specs.declared.Kind.the-variants as kind
 use Rattle.profile.specs.declared.Air.{Air}
 use Rattle.message.specs.Addresses.{nobody, isNobody, kindC, extensionC, addressC}
-use Rattle.message.specs.Groups.{addressesIn, allowedIn, nobodies, areNobody, placesC, rangeOk, endsOk, addressesC, rangeC, groupC, noGroup, oneGroup, isNoGroup, spanIn, spanOf}
+use Rattle.message.specs.Groups.{addressesIn, allowedIn, nobodies, areNobody, placesC, rangeOk, endsOk, addressesC, rangeC, groupC, noGroup, oneGroup, spanIn, spanOf}
 use Rattle.message.specs.Acks.{maskC, maskedC, resultC}
-use Rattle.message.specs.Values.{blank, withNumber, withUsers, withMask, withDispatchers, sameNumbers, sameAddress, sameAddresses, sameGroup, sameValue}
-use Rattle.message.specs.Rows.{rowOf, widths, widthOf, rowC, puts, gets, firstParts}
+use Rattle.message.specs.Numbers as place
+use Rattle.message.specs.Numbers.{widths, widthOf}
+use Rattle.message.specs.Values.{blank, withNumber, withUsers, withMask, withDispatchers, withGiven, sameBools, sameNumbers, sameAddress, sameAddresses, sameGroup, sameValue}
+use Rattle.message.specs.Rows.{rowOf, partsC, puts, gets, eachC, optionsC, putOptions, getOptions, firstParts}
 use Rattle.message.specs.Messages.{bodyC, isKnown, isCarried, headerC, messageC}
 use Rattle.message.specs.declared.Address.{Address}
 use Rattle.message.specs.declared.Group.{Group}
@@ -66,13 +68,13 @@ last = record { range = 1; addresses = set (set nobodies 0 (home 1001)) 14 (home
 -- ---- values
 
 abbrev pub activateV : Group → Bool → Group → Value
-activateV u o d = withDispatchers o d (withUsers u (blank 2))
+activateV u o d = withGiven 0 o (withDispatchers d (withUsers u (blank 2)))
 
 abbrev pub ackV : Group → Bool → ℕ → ℕ → ℕ → Value
-ackV u k m r w = withNumber 10 w (withNumber 9 r (withMask k m (withUsers u (blank 3))))
+ackV u k m r w = withNumber place.reason w (withNumber place.result r (withMask k m (withUsers u (blank 3))))
 
 abbrev pub plainV : ℕ → Address → ℕ → ℕ → Bool → Address → Value
-plainV t a c i o d = withDispatchers o (oneGroup d) (withNumber 12 i (withNumber 11 c (withUsers (oneGroup a) (blank t))))
+plainV t a c i o d = withGiven 0 o (withDispatchers (oneGroup d) (withNumber place.identifier i (withNumber place.cause c (withUsers (oneGroup a) (blank t)))))
 
 -- users alone in an ACTIVATE; a user in an INTERROGATE; a dispatcher in an INTERCEPTED; an identifier in an ACCEPT
 abbrev pub activate : Group → Value
@@ -90,7 +92,8 @@ call t i = plainV t nobody 0 i false nobody
 -- a value by all its fields
 abbrev pub value : ℕ → Group → Bool → ℕ → ℕ → ℕ → ℕ → ℕ → Bool → Group → Value
 value t u k m r w c i o d =
-    withDispatchers o d (withNumber 12 i (withNumber 11 c (withNumber 10 w (withNumber 9 r (withMask k m (withUsers u (blank t)))))))
+    withGiven 0 o (withDispatchers d (withNumber place.identifier i (withNumber place.cause c
+    (withNumber place.reason w (withNumber place.result r (withMask k m (withUsers u (blank t))))))))
 
 abbrev pub cases : List Case
 cases =
@@ -103,17 +106,9 @@ cases =
     ∷ good (intercepted 2 true (home 1))
     ∷ good (interrogate (home 1001))
     ∷ good (activate four)
-    -- CANCEL, REJECT; their numbers a bit too wide, and what they don't carry
-    ∷ good (call 14 5)
-    ∷ good (plainV 17 nobody 31 16383 false nobody)
-    ∷ bad (plainV 17 nobody 32 5 false nobody)
-    ∷ bad (plainV 17 nobody 2 16384 false nobody)
-    ∷ bad (plainV 17 nobody 2 5 true nobody)
-    ∷ bad (plainV 17 (home 1) 2 5 false nobody)
-    ∷ bad (plainV 17 nobody 2 5 false (home 1))
-    -- PDU types 0, 6, and 2 with a bit too many
+    -- PDU types 0, 4, and 2 with a bit too many
     ∷ bad (call 0 0)
-    ∷ bad (call 6 0)
+    ∷ bad (call 4 0)
     ∷ bad (value 34 four false 0 0 0 0 0 false noGroup)
     -- kinds 2, 3 and 0; an SSI and an extension of 24 bits, and of more; an extension with kind 1
     ∷ good (interrogate (abroad 0xFF_FFFF 0xFF_FFFF))
@@ -151,6 +146,9 @@ cases =
     ∷ bad (value 2 four false 0 0 1 0 0 false noGroup)
     ∷ bad (value 2 four false 0 0 0 1 0 false noGroup)
     ∷ bad (value 2 four false 0 0 0 0 1 false noGroup)
+    -- nor a second option, and no message carries REQUEST's network
+    ∷ bad (withGiven 1 true (activate four))
+    ∷ bad (withNumber place.mni 1 (activate four))
     -- ACK: accepted, with masks 1100, 1111 and 0000 and with none; not accepted, with mask 0010 and with none
     ∷ good (ackV four true 0xC000_0000_0000_0000 1 0)
     ∷ good (ackV four true 0xF000_0000_0000_0000 1 0)
@@ -201,7 +199,7 @@ cases =
     ∷ []
 
 pub cases-right : list.map gives cases ≡ list.map wants cases
-unfolding both number flag meaningIn sample sampleMeanings isNobody kindC extensionC addressC addressesIn allowedIn nobodies areNobody placesC rangeOk endsOk addressesC rangeC groupC noGroup oneGroup isNoGroup spanIn spanOf maskC maskedC resultC blank sameNumbers sameAddress sameAddresses sameGroup sameValue rowOf widths widthOf rowC puts gets firstParts bodyC isKnown isCarried headerC messageC validOf
+unfolding both number flag meaningIn sample sampleMeanings isNobody kindC extensionC addressC addressesIn allowedIn nobodies areNobody placesC rangeOk endsOk addressesC rangeC groupC noGroup oneGroup spanIn spanOf maskC maskedC resultC blank sameBools sameNumbers sameAddress sameAddresses sameGroup sameValue rowOf widths widthOf partsC puts gets eachC optionsC putOptions getOptions firstParts bodyC isKnown isCarried headerC messageC validOf
 cases-right = refl
 
 -- ---- profiles that break a rule: a list of 200, an SS type of 7 bits
@@ -212,5 +210,5 @@ wide ss =
 
 pub wide-right : validOf (wide 9) (activate (one 0 (home 1001))) ∷ validOf (wide 9) (activate (one 1 (home 1001))) ∷ validOf (wide 64) (activate (one 1 (home 1001))) ∷ []
     ≡ false ∷ true ∷ false ∷ []
-unfolding both number flag meaningIn isNobody kindC extensionC addressC addressesIn allowedIn nobodies areNobody placesC rangeOk endsOk addressesC rangeC groupC noGroup isNoGroup blank sameNumbers sameAddress sameAddresses sameGroup sameValue rowOf widths widthOf rowC puts gets firstParts bodyC isKnown isCarried headerC messageC validOf
+unfolding both number flag meaningIn isNobody kindC extensionC addressC addressesIn allowedIn nobodies areNobody placesC rangeOk endsOk addressesC rangeC groupC noGroup blank sameBools sameNumbers sameAddress sameAddresses sameGroup sameValue rowOf widths widthOf partsC puts gets eachC optionsC putOptions getOptions firstParts bodyC isKnown isCarried headerC messageC validOf
 wide-right = refl

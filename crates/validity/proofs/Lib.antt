@@ -1,3 +1,4 @@
 pub mod ValidLaws
 pub mod RowLaws
+pub mod SameLaws
 pub mod Cases

@@ -1,72 +1,127 @@
--- A row's parts tested one after the other, and the test that two values are one. Assumes nothing.
-use Prim.Native.Nat.{ℕ, zero, suc, _+_, _-_, _*_, _%_, _^_, _≤_, _<_}
+-- A row's parts and options tested one after the other, and that this is the test of the message's codec. Assumes nothing.
+use Prim.Native.Nat.{ℕ, suc, _+_, _-_, _*_, _%_, _^_, _≤_, _<_}
 use mathlib.Core.Path.{_≡_, refl, sym, ap, _∙_}
-use mathlib.Core.Bool.{Bool, true, false}
+use mathlib.Core.Bool.{Bool, true, false, not, cond}
 use mathlib.Core.List.{List, [], _∷_}
-use native.Mathlib.Nat.{sub-zero, one-mul}
+use native.Mathlib.Nat.{one-mul}
 use native.Mathlib.Numerals.{add-one}
 use native.Mathlib.Omega.{arith}
-use lib.Dec.{eqb, ltb}
-use lib.ListN.{length, drop, getD, drop-of-length-le}
+use lib.Dec.{ltb}
+use lib.ListN.{length, drop, getD}
 use lib.Pow.{shl-exact}
-use lib.Seq.{drop-cons}
-use borrow.Author.Tests.{eq-eqb, ne-eqb}
-use Rattle.codec.specs.Codec.{both}
+use Rattle.codec.specs.Codec.{Codec, both, pure, guard, choose}
+use Rattle.codec.specs.Options.{Optional, absent, flag, optional}
 use Rattle.codec.proofs.Good.{both-none}
 use Rattle.profile.specs.declared.Air.{Air}
-use Rattle.message.specs.Addresses.{nobody}
-use Rattle.message.specs.Values.{blank, sameNumbers, sameAddress, sameAddresses, sameValue}
-use Rattle.message.specs.Rows.{slot, rowOf, partC, put, get, copyOf, rowC, puts, gets, firstParts}
+use Rattle.message.specs.Elements as element
+use Rattle.message.specs.Values.{blank, givenAt, sameValue}
+use Rattle.message.specs.Rows.{rowOf, partC, put, get, copyOf, partsC, puts, gets, Options, ifGiven, putOption, getOption, copyOption, putOptions, getOptions, someOf, noneOf, eachC, optionsC, firstParts, partsOf, optionsOf}
 use Rattle.message.specs.Messages.{bodyC}
-use Rattle.message.specs.declared.Address.{Address}
+use Rattle.message.specs.declared.Part.{Part}
 use Rattle.message.specs.declared.Part.the-variants as part
 use Rattle.message.specs.declared.Slot.{Slot}
 use Rattle.message.specs.declared.Value.{Value}
-use Rattle.validity.specs.Parts.{partOk, rowOk}
+use Rattle.message.proofs.RowLaws.{none-only}
+use Rattle.message.proofs.SlotLaws.{slot-more, slot-end, slot-past, slot-start}
+use Rattle.validity.specs.Parts.{partOk, optionOk, optionsOk, partsOk}
+use Rattle.validity.proofs.ValidLaws.{both-yes, both-all, flag-ok}
 
--- ---- the loop over the slots
+-- ---- the loop over the options
 
 module _ (air : Air) (w : Value) (k : ℕ) (l : List Slot) (i : ℕ) (v : Value) where
-  abbrev here : Slot
-  here = getD l i (slot part.Nothing)
+  abbrev here : Part
+  here = getD l i (record { part = part.Nothing }) .part
 
   module _ (h : i < k) (m : i < length l) where
-    more : k - i ≡ suc (k - (i + 1))
-    more = omega arith
+    pub options-turn : (u : Value) → optionOk air i w here v ≡ true → u ≡ copyOption i here v w
+        → optionsOk air i w (firstParts (k - i) (drop i l)) v ≡ optionsOk air (i + 1) u (firstParts (k - (i + 1)) (drop (i + 1) l)) v
+    unfolding optionsOk both
+    options-turn u e d = rw (slot-more k l i h m, e, d, add-one)
 
-    cut : drop i l ≡ here ∷ drop (i + 1) l
-    cut = rw (add-one, drop-cons l i (slot part.Nothing) m)
+    pub options-not : optionOk air i w here v ≡ false → optionsOk air i w (firstParts (k - i) (drop i l)) v ≡ false
+    unfolding optionsOk both
+    options-not e = rw (slot-more k l i h m, e)
 
-    pub row-turn : (u : Value) → partOk air w (here .part) v ≡ true → u ≡ copyOf (here .part) v w
-        → rowOk air w (k - i) (drop i l) v ≡ rowOk air u (k - (i + 1)) (drop (i + 1) l) v
-    unfolding rowOk both
-    row-turn u e d = rw (more, cut, e, d)
+  pub options-end : k ≤ i → optionsOk air i w (firstParts (k - i) (drop i l)) v ≡ sameValue w v
+  unfolding optionsOk
+  options-end h = rw (slot-end k l i h)
 
-    pub row-not : partOk air w (here .part) v ≡ false → rowOk air w (k - i) (drop i l) v ≡ false
-    unfolding rowOk both
-    row-not e = rw (more, cut, e)
+  pub options-past : length l ≤ i → optionsOk air i w (firstParts (k - i) (drop i l)) v ≡ sameValue w v
+  unfolding optionsOk
+  options-past h = rw (slot-past k l i h)
 
-  pub row-end : k ≤ i → rowOk air w (k - i) (drop i l) v ≡ sameValue w v
-  unfolding rowOk
-  row-end h = let z : k - i ≡ 0 = omega arith in rw z
+pub options-start : (air : Air) (w : Value) (k : ℕ) (l : List Slot) (v : Value) → optionsOk air 0 w (firstParts k l) v ≡ optionsOk air 0 w (firstParts (k - 0) (drop 0 l)) v
+options-start air w k l v = rw (slot-start k l)
 
-  row-none : (j : ℕ) → rowOk air w j [] v ≡ sameValue w v
-  unfolding rowOk
-  row-none zero = refl
-  row-none (suc j) = refl
+-- ---- the loop over the parts
 
-  pub row-past : length l ≤ i → rowOk air w (k - i) (drop i l) v ≡ sameValue w v
-  row-past h = rw (drop-of-length-le l h) (row-none (k - i))
+module _ (air : Air) (w : Value) (k : ℕ) (l : List Slot) (i : ℕ) (qs : List Part) (v : Value) where
+  module _ (h : i < k) (m : i < length l) where
+    pub parts-turn : (u : Value) → partOk air w (getD l i (record { part = part.Nothing }) .part) v ≡ true → u ≡ copyOf (getD l i (record { part = part.Nothing }) .part) v w
+        → partsOk air w (firstParts (k - i) (drop i l)) qs v ≡ partsOk air u (firstParts (k - (i + 1)) (drop (i + 1) l)) qs v
+    unfolding partsOk both
+    parts-turn u e d = rw (slot-more k l i h m, e, d)
 
-pub row-start : (air : Air) (w : Value) (k : ℕ) (l : List Slot) (v : Value) → rowOk air w k l v ≡ rowOk air w (k - 0) (drop 0 l) v
-row-start air w k l v = rw sub-zero
+    pub parts-not : partOk air w (getD l i (record { part = part.Nothing }) .part) v ≡ false → partsOk air w (firstParts (k - i) (drop i l)) qs v ≡ false
+    unfolding partsOk both
+    parts-not e = rw (slot-more k l i h m, e)
+
+  pub parts-end : k ≤ i → partsOk air w (firstParts (k - i) (drop i l)) qs v ≡ optionsOk air 0 w qs v
+  unfolding partsOk
+  parts-end h = rw (slot-end k l i h)
+
+  pub parts-past : length l ≤ i → partsOk air w (firstParts (k - i) (drop i l)) qs v ≡ optionsOk air 0 w qs v
+  unfolding partsOk
+  parts-past h = rw (slot-past k l i h)
+
+pub parts-start : (air : Air) (w : Value) (k : ℕ) (l : List Slot) (qs : List Part) (v : Value) → partsOk air w (firstParts k l) qs v ≡ partsOk air w (firstParts (k - 0) (drop 0 l)) qs v
+parts-start air w k l qs v = rw (slot-start k l)
+
+-- ---- one part, one option
+
+pub nothing-ok : (air : Air) (w v : Value) → true ≡ partOk air w part.Nothing v
+unfolding partOk
+nothing-ok air w v = refl
+
+pub option-given : (air : Air) (i : ℕ) (w : Value) (q : Part) (v : Value) → givenAt i v ≡ true → optionOk air i w q v ≡ partOk air w q v
+unfolding optionOk
+option-given air i w q v e = rw e
+
+pub option-not : (air : Air) (i : ℕ) (w : Value) (q : Part) (v : Value) → givenAt i v ≡ false → optionOk air i w q v ≡ true
+unfolding optionOk
+option-not air i w q v e = rw e
+
+pub fits-by : (n w : ℕ) → w ≤ 32 → ltb n ((1 * 2 ^ w) % 2 ^ 64) ≡ ltb n (2 ^ w)
+fits-by n w h = rw (shl-exact {a = 1} 1 w 64 (omega arith) (omega arith), one-mul)
+
+-- ---- options under their O-bit: it says no more than their P-bits do
+
+absent-ok : {A : Type 0} (p : ℕ) (C : Codec A) → optional p C .ok absent ≡ true
+absent-ok p C = both-yes _ _ refl ∙ both-yes _ _ (flag-ok p false)
+
+optional-ok : {A : Type 0} (p : ℕ) (C : Codec A) (b : Bool) (a : A) → optional p C .ok (ifGiven b a) ≡ cond b (C .ok a) true
+optional-ok p C true a = both-yes _ _ refl ∙ both-yes _ _ (flag-ok p true)
+optional-ok p C false a = absent-ok p C
+
+none-ok : (air : Air) (i : ℕ) (w : Value) (qs : List Part) → eachC air i w qs .ok (noneOf qs) ≡ true
+unfolding eachC
+none-ok air i w [] = refl
+none-ok air i w (q ∷ qs) = both-yes _ _ (absent-ok element.pBit (partC air w q)) ∙ none-ok air (suc i) (putOption i q absent w) qs
+
+options-each : (air : Air) (w : Value) (qs : List Part) (x : Options qs) → optionsC air w qs .ok x ≡ eachC air 0 w qs .ok x
+unfolding optionsC eachC
+options-each air w [] x = refl
+options-each air w (q ∷ qs) x = go (someOf (q ∷ qs) x) refl
+  where
+    go : (b : Bool) → someOf (q ∷ qs) x ≡ b
+        → both true (both (flag element.oBit .ok b) (choose b (guard 12 (someOf (q ∷ qs)) (eachC air 0 w (q ∷ qs))) (pure (noneOf (q ∷ qs)) (λ y. not (someOf (q ∷ qs) y))) .ok x))
+        ≡ eachC air 0 w (q ∷ qs) .ok x
+    go true e = both-yes _ _ refl ∙ both-yes _ _ (flag-ok element.oBit true) ∙ ap (both (eachC air 0 w (q ∷ qs) .ok x)) e ∙ both-all _
+    go false e =
+        both-yes _ _ refl ∙ both-yes _ _ (flag-ok element.oBit false) ∙ ap not e
+        ∙ sym (ap (λ (y : Options (q ∷ qs)). eachC air 0 w (q ∷ qs) .ok y) (none-only (q ∷ qs) x (ap not e)) ∙ none-ok air 0 w (q ∷ qs))
 
 -- ---- the row of a type is its codec
-
-both-all : (a : Bool) → both a true ≡ a
-unfolding both
-both-all true = refl
-both-all false = refl
 
 -- a test in the midst goes to the front
 both-front : (s a b c : Bool) → both s b ≡ c → both s (both a b) ≡ both a c
@@ -74,62 +129,26 @@ unfolding both
 both-front s true b c e = e
 both-front s false b c e = both-none s
 
-row-codec : (air : Air) (w : Value) (k : ℕ) (l : List Slot) (v : Value)
-    → both (sameValue (puts (firstParts k l) (gets (firstParts k l) v) w) v) (rowC air w (firstParts k l) .ok (gets (firstParts k l) v)) ≡ rowOk air w k l v
-unfolding rowC firstParts puts gets rowOk partOk copyOf
-row-codec air w zero l v = both-all _
-row-codec air w (suc k) [] v = both-all _
-row-codec air w (suc k) (s ∷ l) v = both-front _ _ _ _ (row-codec air (put (s .part) (get (s .part) v) w) k l v)
+both-midst : (s a b d c : Bool) → both s (both b d) ≡ c → both s (both (both a b) d) ≡ both a c
+unfolding both
+both-midst s true b d c e = e
+both-midst s false b d c e = both-none s
 
-pub body-row : (air : Air) (t : ℕ) (v : Value) → bodyC air t .ok v ≡ rowOk air (blank t) (rowOf t .count) (rowOf t .parts) v
+each-codec : (air : Air) (i : ℕ) (w : Value) (qs : List Part) (v : Value)
+    → both (sameValue (putOptions i qs (getOptions i qs v) w) v) (eachC air i w qs .ok (getOptions i qs v)) ≡ optionsOk air i w qs v
+unfolding eachC putOptions getOptions optionsOk optionOk partOk copyOption
+each-codec air i w [] v = both-all _
+each-codec air i w (q ∷ qs) v =
+    rw (optional-ok element.pBit (partC air w q) (givenAt i v) (get q v))
+    (both-front _ _ _ _ (each-codec air (suc i) (putOption i q (getOption i q v) w) qs v))
+
+parts-codec : (air : Air) (w : Value) (ps qs : List Part) (v : Value)
+    → both (sameValue (putOptions 0 qs (getOptions 0 qs v) (puts ps (gets ps v) w)) v)
+    (both (partsC air w ps .ok (gets ps v)) (optionsC air (puts ps (gets ps v) w) qs .ok (getOptions 0 qs v))) ≡ partsOk air w ps qs v
+unfolding partsC puts gets partsOk partOk copyOf
+parts-codec air w [] qs v = rw (both-yes true (optionsC air w qs .ok (getOptions 0 qs v)) refl, options-each air w qs (getOptions 0 qs v)) (each-codec air 0 w qs v)
+parts-codec air w (p ∷ ps) qs v = both-midst _ _ _ _ _ (parts-codec air (put p (get p v) w) ps qs v)
+
+pub body-row : (air : Air) (t : ℕ) (v : Value) → bodyC air t .ok v ≡ partsOk air (blank t) (partsOf (rowOf t)) (optionsOf (rowOf t)) v
 unfolding bodyC
-body-row air t v = row-codec air (blank t) (rowOf t .count) (rowOf t .parts) v
-
-pub nothing-ok : (air : Air) (w v : Value) → true ≡ partOk air w part.Nothing v
-unfolding partOk
-nothing-ok air w v = refl
-
--- ---- the loops over two lists
-
-module _ {A : Type 0} (d : A) (n : ℕ) (x y : List A) (lx : length x ≡ n) (ly : length y ≡ n) (i : ℕ) where
-  pub front : i < n → (x' : List A) → length x' ≡ n → drop i x' ≡ getD x' i d ∷ drop (i + 1) x'
-  front h x' e = let k : i < length x' = omega arith in rw (add-one, drop-cons x' i d k)
-
-  pub gone : n ≤ i → (x' : List A) → length x' ≡ n → drop i x' ≡ []
-  gone h x' e = let k : length x' ≤ i = omega arith in drop-of-length-le x' k
-
-module _ (x y : List ℕ) (lx : length x ≡ 16) (ly : length y ≡ 16) (i : ℕ) where
-  pub numbers-more : i < 16 → getD x i 0 ≡ getD y i 0 → sameNumbers (drop i x) (drop i y) ≡ sameNumbers (drop (i + 1) x) (drop (i + 1) y)
-  unfolding sameNumbers both
-  numbers-more h e = rw (front 0 16 x y lx ly i h x lx, front 0 16 x y lx ly i h y ly, eq-eqb _ _ e)
-
-  pub numbers-not : i < 16 → (getD x i 0 ≡ getD y i 0 → ⊥) → sameNumbers (drop i x) (drop i y) ≡ false
-  unfolding sameNumbers both
-  numbers-not h e = rw (front 0 16 x y lx ly i h x lx, front 0 16 x y lx ly i h y ly, ne-eqb _ _ e)
-
-  pub numbers-end : 16 ≤ i → sameNumbers (drop i x) (drop i y) ≡ true
-  unfolding sameNumbers
-  numbers-end h = rw (gone 0 16 x y lx ly i h x lx, gone 0 16 x y lx ly i h y ly)
-
-module _ (x y : List Address) (lx : length x ≡ 15) (ly : length y ≡ 15) (i : ℕ) where
-  pub addresses-by : (b : Bool) → i < 15 → sameAddress (getD x i nobody) (getD y i nobody) ≡ b
-      → sameAddresses (drop i x) (drop i y) ≡ both b (sameAddresses (drop (i + 1) x) (drop (i + 1) y))
-  unfolding sameAddresses
-  addresses-by b h e = rw (front nobody 15 x y lx ly i h x lx, front nobody 15 x y lx ly i h y ly, e)
-
-  pub addresses-more : i < 15 → sameAddress (getD x i nobody) (getD y i nobody) ≡ true → sameAddresses (drop i x) (drop i y) ≡ sameAddresses (drop (i + 1) x) (drop (i + 1) y)
-  unfolding both
-  addresses-more h e = addresses-by true h e
-
-  pub addresses-not : i < 15 → sameAddress (getD x i nobody) (getD y i nobody) ≡ false → sameAddresses (drop i x) (drop i y) ≡ false
-  unfolding both
-  addresses-not h e = addresses-by false h e
-
-  pub addresses-end : 15 ≤ i → sameAddresses (drop i x) (drop i y) ≡ true
-  unfolding sameAddresses
-  addresses-end h = rw (gone nobody 15 x y lx ly i h x lx, gone nobody 15 x y lx ly i h y ly)
-
--- ---- a number of so many bits
-
-pub fits-by : (n w : ℕ) → w ≤ 32 → ltb n ((1 * 2 ^ w) % 2 ^ 64) ≡ ltb n (2 ^ w)
-fits-by n w h = rw (shl-exact {a = 1} 1 w 64 (omega arith) (omega arith), one-mul)
+body-row air t v = parts-codec air (blank t) (partsOf (rowOf t)) (optionsOf (rowOf t)) v

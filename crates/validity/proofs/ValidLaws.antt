@@ -10,8 +10,8 @@ use lib.ListN.{length, length-take, take, drop, getD, drop-of-length-le}
 use lib.Pow.{shr-lt, shl-exact}
 use lib.Seq.{drop-cons, getD-take}
 use borrow.Author.Tests.{eqb-true, eqb-false, eq-eqb, ne-eqb, lt-ltb, le-ltb, le-leb}
-use Rattle.codec.specs.Codec.{Codec, both, number, vecOk}
-use Rattle.codec.specs.Options.{flag, option}
+use Rattle.codec.specs.Codec.{both, number, vecOk}
+use Rattle.codec.specs.Options.{flag}
 use Rattle.codec.proofs.Good.{both-true, both-none, not-both}
 use Rattle.message.specs.Addresses.{nobody, isZero, isNobody, kindC, addressC}
 use Rattle.message.specs.Groups.{areNobody}
@@ -23,7 +23,7 @@ use Rattle.message.specs.declared.Address.{Address}
 
 -- ---- both
 
-both-yes : (a b : Bool) → a ≡ true → both a b ≡ b
+pub both-yes : (a b : Bool) → a ≡ true → both a b ≡ b
 unfolding both
 both-yes a b e = rw e
 
@@ -31,7 +31,7 @@ both-no : (a b : Bool) → a ≡ false → both a b ≡ false
 unfolding both
 both-no a b e = rw e
 
-both-all : (a : Bool) → both a true ≡ a
+pub both-all : (a : Bool) → both a true ≡ a
 unfolding both
 both-all true = refl
 both-all false = refl
@@ -121,7 +121,7 @@ mask-none n m e f = rw e (of-none (mask-lt 0 m (omega arith) f))
 
 -- ---- what is there or not
 
-flag-ok : (e : ℕ) (b : Bool) → flag e .ok b ≡ true
+pub flag-ok : (e : ℕ) (b : Bool) → flag e .ok b ≡ true
 unfolding flag number both
 flag-ok e true = refl
 flag-ok e false = refl
@@ -133,13 +133,6 @@ masked-there n m b e = rw e (both-yes _ _ (flag-ok _ true))
 pub masked-none : (n m : ℕ) (b : Bool) → b ≡ false → maskedC n .ok (b, m) ≡ isZero m
 unfolding maskedC
 masked-none n m b e = rw e (both-yes _ _ (flag-ok _ false))
-
-module _ {A : Type 0} (o p : ℕ) (none : A) (isNone : A → Bool) (C : Codec A) (x : A) where
-  pub option-there : (b : Bool) → b ≡ true → option o p none isNone C .ok (b, x) ≡ C .ok x
-  option-there b e = rw e (both-yes _ _ refl ∙ both-yes _ _ (flag-ok o true) ∙ both-all _ ∙ both-yes _ _ (flag-ok p true))
-
-  pub option-none : (b : Bool) → b ≡ false → option o p none isNone C .ok (b, x) ≡ isNone x
-  option-none b e = rw e (both-yes _ _ refl ∙ both-yes _ _ (flag-ok o false) ∙ both-yes _ _ refl)
 
 -- ---- the header
 
@@ -155,19 +148,13 @@ unfolding isCarried rowOf
 carried-small t =
     carried-arm t 2 _ _ (omega arith) (omega arith)
     (carried-arm t 3 _ _ (omega arith) (omega arith)
-    (carried-arm t 4 _ _ (omega arith) (omega arith)
-    (carried-arm t 5 _ _ (omega arith) (omega arith)
     (carried-arm t 8 _ _ (omega arith) (omega arith)
     (carried-arm t 10 _ _ (omega arith) (omega arith)
-    (carried-arm t 11 _ _ (omega arith) (omega arith)
     (carried-arm t 12 _ _ (omega arith) (omega arith)
     (carried-arm t 13 _ _ (omega arith) (omega arith)
-    (carried-arm t 14 _ _ (omega arith) (omega arith)
     (carried-arm t 15 _ _ (omega arith) (omega arith)
     (carried-arm t 16 _ _ (omega arith) (omega arith)
-    (carried-arm t 17 _ _ (omega arith) (omega arith)
-    (carried-arm t 18 _ _ (omega arith) (omega arith)
-    (λ e. not-both e))))))))))))))
+    (λ e. not-both e))))))))
 
 -- so the header of a carried type is a good one
 pub carried-ok : (ss t : ℕ) → ss < 64 → isCarried t ≡ true → headerC ss .ok (ss, t) ≡ true

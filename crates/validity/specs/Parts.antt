@@ -1,20 +1,27 @@
--- A part of a value is good, and a row's parts are and make the value. `w` is what the parts so far make of a blank value.
-use Prim.Native.Nat.{ℕ, zero, suc}
-use mathlib.Core.Bool.{Bool}
+-- A part of a value is good, and a row's parts and options are and make the value. `w` is what those so far make of a blank value.
+use Prim.Native.Nat.{ℕ, suc}
+use mathlib.Core.Bool.{Bool, true, cond}
 use mathlib.Core.List.{List, [], _∷_}
 use Rattle.codec.specs.Codec.{both}
 use Rattle.profile.specs.declared.Air.{Air}
-use Rattle.message.specs.Values.{sameValue}
-use Rattle.message.specs.Rows.{partC, get, copyOf}
+use Rattle.message.specs.Values.{givenAt, sameValue}
+use Rattle.message.specs.Rows.{partC, get, copyOf, copyOption}
 use Rattle.message.specs.declared.Value.{Value}
 use Rattle.message.specs.declared.Part.{Part}
-use Rattle.message.specs.declared.Slot.{Slot}
 
 unfoldable pub partOk : Air → Value → Part → Value → Bool
 partOk air w p v = partC air w p .ok (get p v)
 
--- the first k of these slots
-unfoldable pub rowOk : Air → Value → ℕ → List Slot → Value → Bool
-rowOk air w zero l v = sameValue w v
-rowOk air w (suc k) [] v = sameValue w v
-rowOk air w (suc k) (s ∷ l) v = both (partOk air w (s .part) v) (rowOk air (copyOf (s .part) v w) k l v)
+-- the i-th option of a row: good where it is given
+unfoldable pub optionOk : Air → ℕ → Value → Part → Value → Bool
+optionOk air i w q v = cond (givenAt i v) (partOk air w q v) true
+
+-- the options from the i-th on are good, and with them the value is made
+unfoldable pub optionsOk : Air → ℕ → Value → List Part → Value → Bool
+optionsOk air i w [] v = sameValue w v
+optionsOk air i w (q ∷ qs) v = both (optionOk air i w q v) (optionsOk air (suc i) (copyOption i q v w) qs v)
+
+-- the parts ps are good, and the options qs after them
+unfoldable pub partsOk : Air → Value → List Part → List Part → Value → Bool
+partsOk air w [] qs v = optionsOk air 0 w qs v
+partsOk air w (p ∷ ps) qs v = both (partOk air w p v) (partsOk air (copyOf p v w) ps qs v)

@@ -4,7 +4,7 @@ ghost use Prim.Native.Nat.{_-_, _≤_};
 ghost use lib.ListN.{take, drop};
 ghost use Rattle.codec.specs.Codec.{vecOk};
 ghost use Rattle.message.specs.Addresses.{addressC};
-ghost use Rattle.message.specs.Groups.{addressesIn, areNobody, placesC, addressesC, rangeC, groupC, isNoGroup};
+ghost use Rattle.message.specs.Groups.{addressesIn, areNobody, placesC, addressesC, rangeC, groupC};
 use crate::address;
 use message::Address;
 use message::Group;
@@ -86,15 +86,4 @@ fn rest_zero(list: [Address; 15], count: usize) -> bool
         }
     }
     true
-}
-
-// The group is zero throughout.
-pub(crate) fn is_no_group(group: Group) -> bool
-    ensures { λ r. ⌜ r ≡ isNoGroup group ⌝ }
-{
-    if group.range != 0 {
-        return false;
-    }
-    let list = group.addresses;
-    rest_zero(list, 0)
 }

@@ -2,7 +2,7 @@
 // and all that the message doesn't carry is zero. The definition is the `ok` of `message`'s codec, which its round trips are about.
 //
 // `valid` equals `validOf` for every profile and value, also for a profile that breaks a rule: refusing that is the caller's. The files
-// go from small to large: address, group, ack, body. Each function is the test of one codec, or of what a message doesn't carry.
+// go from small to large: address, group and ack, part, body; same is the test that two values are one.
 ghost use mathlib.Core.Path.{_≡_};
 ghost use Rattle.message.specs.Messages.{headerC};
 ghost use Rattle.validity.specs.Validity.{validOf};
@@ -13,6 +13,7 @@ mod ack;
 mod address;
 mod body;
 mod group;
+mod part;
 mod same;
 
 // True exactly if the value is a valid one under the profile's ranges (document 01, "Bits on the air").

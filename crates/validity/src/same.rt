@@ -2,7 +2,7 @@
 ghost use mathlib.Core.Path.{_≡_};
 ghost use lib.Dec.{eqb};
 ghost use Rattle.codec.specs.Codec.{both};
-ghost use Rattle.message.specs.Values.{sameBool, sameNumbers, sameAddress, sameAddresses, sameGroup, sameValue};
+ghost use Rattle.message.specs.Values.{sameBool, sameBools, sameNumbers, sameAddress, sameAddresses, sameGroup, sameValue};
 use message::Address;
 use message::Group;
 use message::Value;
@@ -26,27 +26,20 @@ pub(crate) fn same_value(a: Value, b: Value) -> bool
     false
 }
 
+// What comes after the users.
 fn same_rest(a: Value, b: Value) -> bool
-    ensures { λ r. ⌜ r ≡ both (sameBool (a .masked) (b .masked)) (both (eqb (a .mask) (b .mask)) (both (sameBool (a .option) (b .option)) (both (sameGroup (a .dispatchers) (b .dispatchers)) (both (sameGroup (a .sources) (b .sources)) (sameGroup (a .destinations) (b .destinations)))))) ⌝ }
+    ensures { λ r. ⌜ r ≡ both (sameBool (a .masked) (b .masked)) (both (eqb (a .mask) (b .mask)) (both (sameBools (a .given) (b .given)) (sameGroup (a .dispatchers) (b .dispatchers)))) ⌝ }
 {
     if same_bool(a.masked, b.masked) {
         if a.mask != b.mask {
             return false;
         }
-        if same_bool(a.option, b.option) {
+        let x = a.given;
+        let y = b.given;
+        if same_bools(x, y) {
             let s = a.dispatchers;
             let t = b.dispatchers;
-            if same_group(s, t) {
-                let u = a.sources;
-                let v = b.sources;
-                if same_group(u, v) {
-                    let x = a.destinations;
-                    let y = b.destinations;
-                    return same_group(x, y);
-                }
-                return false;
-            }
-            return false;
+            return same_group(s, t);
         }
         return false;
     }
@@ -85,15 +78,30 @@ fn same_address(a: Address, b: Address) -> bool
     a.extension == b.extension
 }
 
-fn same_numbers(x: [u32; 16], y: [u32; 16]) -> bool
+fn same_numbers(x: [u32; 12], y: [u32; 12]) -> bool
     ensures { λ r. ⌜ r ≡ sameNumbers x y ⌝ }
 {
     let mut i: usize = 0;
-    while i < 16 {
+    while i < 12 {
         let a = x[i];
         let b = y[i];
         i += 1;
         if a != b {
+            return false;
+        }
+    }
+    true
+}
+
+fn same_bools(x: [bool; 7], y: [bool; 7]) -> bool
+    ensures { λ r. ⌜ r ≡ sameBools x y ⌝ }
+{
+    let mut i: usize = 0;
+    while i < 7 {
+        let a = x[i];
+        let b = y[i];
+        i += 1;
+        if same_bool(a, b) {} else {
             return false;
         }
     }

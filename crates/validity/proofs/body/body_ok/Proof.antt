@@ -10,13 +10,13 @@ row-of-requires c κs = search needs
 blank-requires : tie.Need-blank-requires
 blank-requires c κs = search needs
 
-row-ok-requires : tie.Need-row-ok-requires
-row-ok-requires c κs = search needs
+parts-ok-requires : tie.Need-parts-ok-requires
+parts-ok-requires c κs = search needs
 
 returns : tie.Need-returns
 returns c =
     let r = c .before .before .before in
-    rw (body-row _ _ _, ← (r .row-of .ensures), ← (c .before .blank .ensures)) (c .row-ok .ensures)
+    rw (body-row _ _ _, ← (r .row-of .ensures), ← (c .before .blank .ensures)) (c .parts-ok .ensures)
 
 pub body-ok-spec : {M : Type 1} → statement M
-body-ok-spec = tie.close (tie.spec row-of-requires blank-requires row-ok-requires returns)
+body-ok-spec = tie.close (tie.spec row-of-requires blank-requires parts-ok-requires returns)

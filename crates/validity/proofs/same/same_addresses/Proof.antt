@@ -4,7 +4,7 @@ use mathlib.Core.Path.{_≡_, refl, sym, _∙_}
 use lib.ListN.{length, drop}
 use borrow.Author.Needs.{needs}
 use Rattle.message.specs.Values.{sameAddresses}
-use Rattle.validity.proofs.RowLaws.{addresses-more, addresses-not, addresses-end}
+use Rattle.validity.proofs.SameLaws.{addresses-more, addresses-not, addresses-end}
 use Rattle.validity.proofs.same.same_addresses.Statement.{statement}
 use Rattle.validity.proofs.same.same_addresses.Tie as tie
 

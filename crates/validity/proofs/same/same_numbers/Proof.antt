@@ -4,15 +4,15 @@ use mathlib.Core.Path.{_≡_, refl, sym, _∙_}
 use lib.ListN.{length, drop}
 use borrow.Author.Needs.{needs}
 use Rattle.message.specs.Values.{sameNumbers}
-use Rattle.validity.proofs.RowLaws.{numbers-more, numbers-not, numbers-end}
+use Rattle.validity.proofs.SameLaws.{numbers-more, numbers-not, numbers-end}
 use Rattle.validity.proofs.same.same_numbers.Statement.{statement}
 use Rattle.validity.proofs.same.same_numbers.Tie as tie
 
 abbrev Inv-loop : tie.InvT-loop
-Inv-loop x y i₀ i = (i ≤ 16) × ((length x ≡ 16) × ((length y ≡ 16) × (sameNumbers x y ≡ sameNumbers (drop i x) (drop i y))))
+Inv-loop x y i₀ i = (i ≤ 12) × ((length x ≡ 12) × ((length y ≡ 12) × (sameNumbers x y ≡ sameNumbers (drop i x) (drop i y))))
 
 abbrev μ-loop : tie.MeasureT-loop
-μ-loop x y i₀ i = 16 - i
+μ-loop x y i₀ i = 12 - i
 
 loop-holds : tie.Need-loop-holds Inv-loop μ-loop
 loop-holds c = (search needs, (search needs, (search needs, refl)))

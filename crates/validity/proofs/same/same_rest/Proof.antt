@@ -16,68 +16,34 @@ returns c =
     let p2 = c .before .before .before in
     rw (sym (p1 .same-bool .ensures) ∙ p2 .if1 .taken, ne-eqb _ _ (c .if2 .taken))
 
-same-bool-requires-2 : tie.Need-same-bool-requires-2
-same-bool-requires-2 c κs = search needs
+same-bools-requires : tie.Need-same-bools-requires
+same-bools-requires c κs = search needs
 
 same-group-requires : tie.Need-same-group-requires
 same-group-requires c κs = search needs
 
-same-group-requires-2 : tie.Need-same-group-requires-2
-same-group-requires-2 c κs = search needs
-
-same-group-requires-3 : tie.Need-same-group-requires-3
-same-group-requires-3 c κs = search needs
-
 returns-2 : tie.Need-returns-2
 unfolding both
 returns-2 c =
-    let p1 = c .before .before .before .before .before .before .before .before .before .before .before .before .before .before .before .before .before in
-    let p2 = c .before .before .before .before .before .before .before .before .before .before .before .before .before .before .before .before in
-    let p3 = c .before .before .before .before .before .before .before .before .before .before .before .before .before in
-    let p4 = c .before .before .before .before .before .before .before .before .before .before .before .before in
-    let p5 = c .before .before .before .before .before .before .before .before .before .before .before in
-    let p6 = c .before .before .before .before .before .before .before .before in
-    let p7 = c .before .before .before .before .before .before .before in
-    let p8 = c .before .before .before .before in
-    let p9 = c .before .before .before in
-    rw (sym (p1 .same-bool .ensures) ∙ p2 .if1 .taken, eq-eqb _ _ (p3 .if2 .left), sym (p4 .same-bool2 .ensures) ∙ p5 .if3 .taken, sym (p6 .same-group .ensures) ∙ p7 .if4 .taken, sym (p8 .same-group2 .ensures) ∙ p9 .if5 .taken) (c .same-group3 .ensures)
+    let p1 = c .before .before .before .before .before .before .before .before .before .before .before in
+    let p2 = c .before .before .before .before .before .before .before .before .before .before in
+    let p3 = c .before .before .before .before .before .before .before in
+    let p4 = c .before .before .before .before in
+    let p5 = c .before .before .before in
+    rw (sym (p1 .same-bool .ensures) ∙ p2 .if1 .taken, eq-eqb _ _ (p3 .if2 .left), sym (p4 .same-bools .ensures) ∙ p5 .if3 .taken) (c .same-group .ensures)
 
 returns-3 : tie.Need-returns-3
 unfolding both
 returns-3 c =
-    let p1 = c .before .before .before .before .before .before .before .before .before .before .before .before .before .before in
-    let p2 = c .before .before .before .before .before .before .before .before .before .before .before .before .before in
-    let p3 = c .before .before .before .before .before .before .before .before .before .before in
-    let p4 = c .before .before .before .before .before .before .before .before .before in
-    let p5 = c .before .before .before .before .before .before .before .before in
-    let p6 = c .before .before .before .before .before in
-    let p7 = c .before .before .before .before in
-    let p8 = c .before in
-    rw (sym (p1 .same-bool .ensures) ∙ p2 .if1 .taken, eq-eqb _ _ (p3 .if2 .left), sym (p4 .same-bool2 .ensures) ∙ p5 .if3 .taken, sym (p6 .same-group .ensures) ∙ p7 .if4 .taken, sym (p8 .same-group2 .ensures) ∙ c .if5 .left)
+    let p1 = c .before .before .before .before .before .before .before .before in
+    let p2 = c .before .before .before .before .before .before .before in
+    let p3 = c .before .before .before .before in
+    let p4 = c .before in
+    rw (sym (p1 .same-bool .ensures) ∙ p2 .if1 .taken, eq-eqb _ _ (p3 .if2 .left), sym (p4 .same-bools .ensures) ∙ c .if3 .left)
 
 returns-4 : tie.Need-returns-4
 unfolding both
 returns-4 c =
-    let p1 = c .before .before .before .before .before .before .before .before .before .before in
-    let p2 = c .before .before .before .before .before .before .before .before .before in
-    let p3 = c .before .before .before .before .before .before in
-    let p4 = c .before .before .before .before .before in
-    let p5 = c .before .before .before .before in
-    let p6 = c .before in
-    rw (sym (p1 .same-bool .ensures) ∙ p2 .if1 .taken, eq-eqb _ _ (p3 .if2 .left), sym (p4 .same-bool2 .ensures) ∙ p5 .if3 .taken, sym (p6 .same-group .ensures) ∙ c .if4 .left)
-
-returns-5 : tie.Need-returns-5
-unfolding both
-returns-5 c =
-    let p1 = c .before .before .before .before .before .before in
-    let p2 = c .before .before .before .before .before in
-    let p3 = c .before .before in
-    let p4 = c .before in
-    rw (sym (p1 .same-bool .ensures) ∙ p2 .if1 .taken, eq-eqb _ _ (p3 .if2 .left), sym (p4 .same-bool2 .ensures) ∙ c .if3 .left)
-
-returns-6 : tie.Need-returns-6
-unfolding both
-returns-6 c =
     let p1 = c .before in
     rw (sym (p1 .same-bool .ensures) ∙ c .if1 .left)
 
@@ -87,12 +53,8 @@ same-rest-spec =
     (tie.spec
     same-bool-requires
     returns
-    same-bool-requires-2
+    same-bools-requires
     same-group-requires
-    same-group-requires-2
-    same-group-requires-3
     returns-2
     returns-3
-    returns-4
-    returns-5
-    returns-6)
+    returns-4)

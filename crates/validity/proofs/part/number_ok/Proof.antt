@@ -1,13 +1,13 @@
--- `validity::body::number_ok` meets its contract. Assumes nothing.
+-- `validity::part::number_ok` meets its contract. Assumes nothing.
 use borrow.Author.Needs.{needs}
 use Rattle.codec.specs.Codec.{number}
 use Rattle.message.proofs.RowLaws.{width-few}
 use Rattle.validity.specs.Parts.{partOk}
-use Rattle.validity.proofs.body.number_ok.Statement.{statement}
-use Rattle.validity.proofs.body.number_ok.Tie as tie
+use Rattle.validity.proofs.part.number_ok.Statement.{statement}
+use Rattle.validity.proofs.part.number_ok.Tie as tie
 
-number-of-requires : tie.Need-number-of-requires
-number-of-requires c κs = search needs
+number-at-requires : tie.Need-number-at-requires
+number-at-requires c κs = search needs
 
 width-of-requires : tie.Need-width-of-requires
 width-of-requires c κs = search needs
@@ -20,7 +20,7 @@ unfolding partOk number
 returns c =
     let p1 = c .before .before in
     let p2 = c .before in
-    rw (← (p1 .number-of .ensures), ← (p2 .width-of .ensures)) (c .fits2 .ensures)
+    rw (← (p1 .number-at .ensures), ← (p2 .width-of .ensures)) (c .fits2 .ensures)
 
 pub number-ok-spec : {M : Type 1} → statement M
-number-ok-spec = tie.close (tie.spec number-of-requires width-of-requires fits-requires returns)
+number-ok-spec = tie.close (tie.spec number-at-requires width-of-requires fits-requires returns)

@@ -1,9 +1,9 @@
--- `validity::body::mask_ok` meets its contract. Assumes nothing.
+-- `validity::part::mask_ok` meets its contract. Assumes nothing.
 use borrow.Author.Needs.{needs}
 use Rattle.message.specs.Acks.{maskedC}
 use Rattle.validity.specs.Parts.{partOk}
-use Rattle.validity.proofs.body.mask_ok.Statement.{statement}
-use Rattle.validity.proofs.body.mask_ok.Tie as tie
+use Rattle.validity.proofs.part.mask_ok.Statement.{statement}
+use Rattle.validity.proofs.part.mask_ok.Tie as tie
 
 span-of-requires : tie.Need-span-of-requires
 span-of-requires c κs = search needs

@@ -1,8 +1,8 @@
--- `validity::body::fits` meets its contract. Assumes nothing.
+-- `validity::part::fits` meets its contract. Assumes nothing.
 use borrow.Author.Needs.{needs}
 use Rattle.validity.proofs.RowLaws.{fits-by}
-use Rattle.validity.proofs.body.fits.Statement.{statement}
-use Rattle.validity.proofs.body.fits.Tie as tie
+use Rattle.validity.proofs.part.fits.Statement.{statement}
+use Rattle.validity.proofs.part.fits.Tie as tie
 
 shl-result : tie.Need-shl-result
 shl-result c = search needs

@@ -1,8 +1,8 @@
--- `validity::body::part_ok` meets its contract. Assumes nothing.
+-- `validity::part::part_ok` meets its contract. Assumes nothing.
 use borrow.Author.Needs.{needs}
 use Rattle.validity.proofs.RowLaws.{nothing-ok}
-use Rattle.validity.proofs.body.part_ok.Statement.{statement}
-use Rattle.validity.proofs.body.part_ok.Tie as tie
+use Rattle.validity.proofs.part.part_ok.Statement.{statement}
+use Rattle.validity.proofs.part.part_ok.Tie as tie
 
 enum-told : tie.Need-enum-told
 enum-told c = search needs
@@ -19,32 +19,32 @@ enum-told-2 c = search needs
 users-ok-requires : tie.Need-users-ok-requires
 users-ok-requires c κs = search needs
 
-enum-told-3 : tie.Need-enum-told-3
-enum-told-3 c = search needs
+enum-known-part-2 : tie.Need-enum-known-part-2
+enum-known-part-2 c = search needs
 
 user-ok-requires : tie.Need-user-ok-requires
 user-ok-requires c κs = search needs
 
-enum-told-4 : tie.Need-enum-told-4
-enum-told-4 c = search needs
+enum-told-3 : tie.Need-enum-told-3
+enum-told-3 c = search needs
 
 mask-ok-requires : tie.Need-mask-ok-requires
 mask-ok-requires c κs = search needs
 
-enum-told-5 : tie.Need-enum-told-5
-enum-told-5 c = search needs
+enum-told-4 : tie.Need-enum-told-4
+enum-told-4 c = search needs
 
 result-ok-requires : tie.Need-result-ok-requires
 result-ok-requires c κs = search needs
 
-enum-told-6 : tie.Need-enum-told-6
-enum-told-6 c = search needs
+enum-told-5 : tie.Need-enum-told-5
+enum-told-5 c = search needs
 
 dispatchers-ok-requires : tie.Need-dispatchers-ok-requires
 dispatchers-ok-requires c κs = search needs
 
-enum-told-7 : tie.Need-enum-told-7
-enum-told-7 c = search needs
+enum-told-6 : tie.Need-enum-told-6
+enum-told-6 c = search needs
 
 dispatcher-ok-requires : tie.Need-dispatcher-ok-requires
 dispatcher-ok-requires c κs = search needs
@@ -61,29 +61,27 @@ returns-3 c =
     rw (p1 .enum-told2 .given .1) (c .users-ok .ensures)
 
 returns-4 : tie.Need-returns-4
-returns-4 c =
-    let p1 = c .before in
-    rw (p1 .enum-told3 .given .1) (c .user-ok .ensures)
+returns-4 c = rw (c .before .before .part2 .given .1) (c .user-ok .ensures)
 
 returns-5 : tie.Need-returns-5
 returns-5 c =
     let p1 = c .before in
-    rw (p1 .enum-told4 .given .1) (c .mask-ok .ensures)
+    rw (p1 .enum-told3 .given .1) (c .mask-ok .ensures)
 
 returns-6 : tie.Need-returns-6
 returns-6 c =
     let p1 = c .before in
-    rw (p1 .enum-told5 .given .1) (c .result-ok .ensures)
+    rw (p1 .enum-told4 .given .1) (c .result-ok .ensures)
 
 returns-7 : tie.Need-returns-7
 returns-7 c =
     let p1 = c .before in
-    rw (p1 .enum-told6 .given .1) (c .dispatchers-ok .ensures)
+    rw (p1 .enum-told5 .given .1) (c .dispatchers-ok .ensures)
 
 returns-8 : tie.Need-returns-8
 returns-8 c =
     let p1 = c .before in
-    rw (p1 .enum-told7 .given .1) (c .dispatcher-ok .ensures)
+    rw (p1 .enum-told6 .given .1) (c .dispatcher-ok .ensures)
 
 pub part-ok-spec : {M : Type 1} → statement M
 part-ok-spec =
@@ -94,15 +92,15 @@ part-ok-spec =
     number-ok-requires
     enum-told-2
     users-ok-requires
-    enum-told-3
+    enum-known-part-2
     user-ok-requires
-    enum-told-4
+    enum-told-3
     mask-ok-requires
-    enum-told-5
+    enum-told-4
     result-ok-requires
-    enum-told-6
+    enum-told-5
     dispatchers-ok-requires
-    enum-told-7
+    enum-told-6
     dispatcher-ok-requires
     returns
     returns-2

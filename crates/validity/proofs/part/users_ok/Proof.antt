@@ -1,8 +1,8 @@
--- `validity::body::users_ok` meets its contract. Assumes nothing.
+-- `validity::part::users_ok` meets its contract. Assumes nothing.
 use borrow.Author.Needs.{needs}
 use Rattle.validity.specs.Parts.{partOk}
-use Rattle.validity.proofs.body.users_ok.Statement.{statement}
-use Rattle.validity.proofs.body.users_ok.Tie as tie
+use Rattle.validity.proofs.part.users_ok.Statement.{statement}
+use Rattle.validity.proofs.part.users_ok.Tie as tie
 
 group-ok-requires : tie.Need-group-ok-requires
 group-ok-requires c κs = search needs
