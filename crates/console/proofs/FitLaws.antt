@@ -1,31 +1,39 @@
 -- A valid value's numbers fit the bytes of the layout, and each of its groups has fifteen places. Assumes nothing.
-use Prim.Native.Nat.{ℕ, zero, suc, _+_, _-_, _*_, _/_, _^_, _≤_, _<_}
+use Prim.Native.Nat.{ℕ, zero, suc, _+_, _-_, _*_, _/_, _^_, _≤_, _<_, min}
 use mathlib.Core.Path.{_≡_, refl, sym, ap, _∙_, subst}
 use mathlib.Core.Bool.{Bool, true, false}
 use mathlib.Core.List.{List, [], _∷_, _++_}
 use native.Mathlib.Omega.{arith}
 use lib.Dec.{eqb, ltb}
-use lib.ListN.{length, take, drop, length-append, take-append-drop}
+use lib.ListN.{length, take, drop, set, length-append, length-set, take-append-drop}
 use lib.Pow.{shl-lt}
 use borrow.Author.Tests.{eqb-true, ltb-true}
-use Rattle.codec.specs.Codec.{Codec, number, pure, choose, vecOk}
+use Rattle.codec.specs.Codec.{both, number, pure, choose, vecOk}
+use Rattle.codec.specs.Options.{Optional, absent, there, flag, optional}
 use Rattle.codec.proofs.Good.{both-left, both-right, not-both}
 use Rattle.profile.specs.Rules.{meaningIn}
 use Rattle.profile.specs.declared.Air.{Air}
 use Rattle.message.specs.Elements as element
+use Rattle.message.specs.Numbers as place
+use Rattle.message.specs.Numbers.{widths, widthOf}
 use Rattle.message.specs.Addresses.{nobody, isZero, isNobody, kindC, extensionC, addressC}
-use Rattle.message.specs.Groups.{addressesIn, nobodies, areNobody, placesC, addressesC, rangeC, groupC, noGroup, oneGroup, isNoGroup, spanOf, firstOf}
-use Rattle.message.specs.Acks.{maskC, maskedC}
-use Rattle.message.specs.Values.{activateV, ackV, plainV}
-use Rattle.message.specs.Messages.{dispatchersC, dispatcherC, activateC, ackC, interrogateC, interceptedC, callC, acceptedC, bodyC}
+use Rattle.message.specs.Groups.{addressesIn, nobodies, areNobody, placesC, addressesC, rangeC, groupC, noGroup, withAddress, spanOf}
+use Rattle.message.specs.Acks.{maskC, maskedC, resultC}
+use Rattle.message.specs.Values.{blank, withNumbers, withNumber, withGiven}
+use Rattle.message.specs.Rows.{table, rowOf, Holds, partC, put, Tuple, partsC, puts, gets, Options, putOption, putOptions, getOptions, eachC, optionsC, firstParts, partsOf, optionsOf}
+use Rattle.message.specs.Messages.{fill, taken, bodyC}
 use Rattle.message.proofs.AddressLaws.{zero-is, is-nobody}
-use Rattle.message.proofs.GroupLaws.{few-addresses, few-identities, range-allowed, no-group-is}
-use Rattle.message.proofs.ValueLaws.{activate-there, ack-there, interrogate-there, intercepted-there, call-there, accepted-is}
+use Rattle.message.proofs.GroupLaws.{few-addresses, range-allowed}
+use Rattle.message.proofs.ValueLaws.{value-one}
+use Rattle.message.proofs.RowLaws.{every-row, option-absent}
 use Rattle.message.specs.declared.Address.{Address}
 use Rattle.message.specs.declared.Group.{Group}
+use Rattle.message.specs.declared.Part.{Part}
+use Rattle.message.specs.declared.Part.the-variants as part
+use Rattle.message.specs.declared.Row.{Row}
 use Rattle.message.specs.declared.Value.{Value}
 use Rattle.validity.specs.Validity.{validOf}
-use Rattle.validity.proofs.ValidLaws.{masked-there, masked-none, option-there, option-none}
+use Rattle.validity.proofs.ValidLaws.{masked-there, masked-none}
 use Rattle.writing.proofs.LengthLaws.{valid-body}
 use Rattle.console.proofs.RowLaws.{All, none, more}
 
@@ -37,10 +45,28 @@ pub record Group-fits (g : Group) : Type 0 where
   pub places : length (g .addresses) ≡ 15
   pub each : All Address-fits (g .addresses)
 
+-- the numbers that have bytes fit them, and there are no others
+pub record Numbers-fit (l : List ℕ) : Type 0 where
+  pub identifier : ℕ
+  pub cause : ℕ
+  pub result : ℕ
+  pub reason : ℕ
+  pub is : l ≡ identifier ∷ cause ∷ result ∷ reason ∷ 0 ∷ 0 ∷ 0 ∷ 0 ∷ 0 ∷ 0 ∷ 0 ∷ 0 ∷ []
+  pub identifier-small : identifier < 2 ^ 16
+  pub cause-small : cause < 256
+  pub result-small : result < 256
+  pub reason-small : reason < 256
+
+-- at most the first option is there
+pub record Given-fits (l : List Bool) : Type 0 where
+  pub first : Bool
+  pub is : l ≡ first ∷ false ∷ false ∷ false ∷ false ∷ false ∷ false ∷ []
+
 pub record Value-fits (v : Value) : Type 0 where
+  pub numbers : Numbers-fit (v .numbers)
   pub users : Group-fits (v .users)
   pub mask : v .mask < 2 ^ 64
-  pub identifier : v .identifier < 2 ^ 16
+  pub given : Given-fits (v .given)
   pub dispatchers : Group-fits (v .dispatchers)
 
 -- ---- addresses
@@ -115,28 +141,24 @@ group-fits air may g e =
     let few = few-addresses may m (range-allowed air may (g .range) (both-left _ _ w)) in
     group-of g (places-fit (addressesIn m) (g .addresses) few (both-left _ _ (both-right (rangeC air may .ok (g .range)) _ w)))
 
-no-group-fits : (g : Group) → isNoGroup g ≡ true → Group-fits g
-unfolding isNoGroup
-no-group-fits g e = group-of g (zero-run 15 (g .addresses) (both-right (isZero (g .range)) _ e))
-
-one-group-fits : (a : Address) → Address-fits a → Group-fits (oneGroup a)
-unfolding oneGroup nobodies
-one-group-fits a p =
+no-group-fits : Group-fits noGroup
+unfolding noGroup nobodies
+no-group-fits =
     let n = nobody-fits in
     record {
       places = refl;
-      each = more p (more n (more n (more n (more n (more n (more n (more n (more n (more n (more n (more n (more n (more n (more n none))))))))))))));
+      each = more n (more n (more n (more n (more n (more n (more n (more n (more n (more n (more n (more n (more n (more n (more n none))))))))))))));
     }
 
--- ---- what is there or not
+all-set : (l : List Address) (i : ℕ) (a : Address) → All Address-fits l → Address-fits a → All Address-fits (set l i a)
+all-set [] i a none p = none
+all-set (x ∷ l) zero a (more q qs) p = more p qs
+all-set (x ∷ l) (suc i) a (more q qs) p = more q (all-set l i a qs p)
 
-dispatchers-fit : (air : Air) (b : Bool) (g : Group) → dispatchersC air .ok (b, g) ≡ true → Group-fits g
-dispatchers-fit air true g e = group-fits air true g (sym (option-there element.oBit element.pBit noGroup isNoGroup (groupC air true) g true refl) ∙ e)
-dispatchers-fit air false g e = no-group-fits g (sym (option-none element.oBit element.pBit noGroup isNoGroup (groupC air true) g false refl) ∙ e)
+one-fits : (g : Group) (i : ℕ) (a : Address) → Group-fits g → Address-fits a → Group-fits (withAddress i a g)
+one-fits g i a p q = record { places = length-set (g .addresses) i a ∙ p .places; each = all-set (g .addresses) i a (p .each) q }
 
-dispatcher-fits : (b : Bool) (a : Address) → dispatcherC .ok (b, a) ≡ true → Address-fits a
-dispatcher-fits true a e = address-fits a (sym (option-there element.oBit element.pBit nobody isNobody addressC a true refl) ∙ e)
-dispatcher-fits false a e = zero-fits a (sym (option-none element.oBit element.pBit nobody isNobody addressC a false refl) ∙ e)
+-- ---- masks
 
 mask-fits : (n m : ℕ) → n ≤ 64 → maskC n .ok m ≡ true → m < 2 ^ 64
 unfolding maskC number
@@ -150,80 +172,177 @@ masked-fits : (n : ℕ) (b : Bool) (m : ℕ) → n ≤ 64 → maskedC n .ok (b, 
 masked-fits n true m h e = mask-fits n m h (sym (masked-there n m true refl) ∙ e)
 masked-fits n false m h e = let z = zero-is m (sym (masked-none n m false refl) ∙ e) in omega arith
 
--- ---- messages
+-- ---- parts
 
-activate-fits : (air : Air) (v : Value) → activateC air .ok v ≡ true → Value-fits v
-unfolding activateC activateV
-activate-fits air v e =
-    let there = activate-there v (both-left _ _ e) in
-    let ok = both-right _ _ e in
-    let m : 0 ≡ v .mask = ap (λ (x : Value). x .mask) there in
-    let i : 0 ≡ v .identifier = ap (λ (x : Value). x .identifier) there in
+-- a part that the layout has bytes for
+abbrev hasBytes : Part → Bool
+hasBytes part.Nothing = true
+hasBytes (part.Number k) = ltb k 4
+hasBytes part.Users = true
+hasBytes (part.User i) = true
+hasBytes part.Masked = true
+hasBytes part.Result = true
+hasBytes part.Dispatchers = true
+hasBytes part.Dispatcher = true
+
+module _ {l : List ℕ} (n : Numbers-fit l) (x : ℕ) where
+  set-identifier : x < 2 ^ 16 → Numbers-fit (set l place.identifier x)
+  set-identifier h =
+      record {
+        identifier = x;
+        cause = n .cause;
+        result = n .result;
+        reason = n .reason;
+        is = ap (λ (y : List ℕ). set y 0 x) (n .is);
+        identifier-small = h;
+        cause-small = n .cause-small;
+        result-small = n .result-small;
+        reason-small = n .reason-small;
+      }
+
+  set-cause : x < 256 → Numbers-fit (set l place.cause x)
+  set-cause h =
+      record {
+        identifier = n .identifier;
+        cause = x;
+        result = n .result;
+        reason = n .reason;
+        is = ap (λ (y : List ℕ). set y 1 x) (n .is);
+        identifier-small = n .identifier-small;
+        cause-small = h;
+        result-small = n .result-small;
+        reason-small = n .reason-small;
+      }
+
+  set-result : x < 256 → Numbers-fit (set l place.result x)
+  set-result h =
+      record {
+        identifier = n .identifier;
+        cause = n .cause;
+        result = x;
+        reason = n .reason;
+        is = ap (λ (y : List ℕ). set y 2 x) (n .is);
+        identifier-small = n .identifier-small;
+        cause-small = n .cause-small;
+        result-small = h;
+        reason-small = n .reason-small;
+      }
+
+  set-reason : x < 256 → Numbers-fit (set l place.reason x)
+  set-reason h =
+      record {
+        identifier = n .identifier;
+        cause = n .cause;
+        result = n .result;
+        reason = x;
+        is = ap (λ (y : List ℕ). set y 3 x) (n .is);
+        identifier-small = n .identifier-small;
+        cause-small = n .cause-small;
+        result-small = n .result-small;
+        reason-small = h;
+      }
+
+with-numbers : (v : Value) (l : List ℕ) → Value-fits v → Numbers-fit l → Value-fits (withNumbers l v)
+with-numbers v l p n = record { numbers = n; users = p .users; mask = p .mask; given = p .given; dispatchers = p .dispatchers }
+
+number-fits : (k x : ℕ) (v : Value) → Value-fits v → ltb k 4 ≡ true → x < 2 ^ widthOf k → Value-fits (withNumber k x v)
+unfolding widthOf widths
+number-fits zero x v p e h = with-numbers v _ p (set-identifier (p .numbers) x (omega arith))
+number-fits (suc zero) x v p e h = with-numbers v _ p (set-cause (p .numbers) x (omega arith))
+number-fits (suc (suc zero)) x v p e h = with-numbers v _ p (set-result (p .numbers) x (omega arith))
+number-fits (suc (suc (suc zero))) x v p e h = with-numbers v _ p (set-reason (p .numbers) x (omega arith))
+number-fits (suc (suc (suc (suc k)))) x v p e h = not-both e
+
+reason-most : (r w : ℕ) → resultC .ok (r, w) ≡ true → w < 256
+unfolding resultC number
+reason-most r w e = go (eqb r 1) (both-right (ltb r (2 ^ 1)) _ e)
+  where
+    go : (b : Bool) → choose b (pure 0 isZero) (number element.reason 7) .ok w ≡ true → w < 256
+    go true h = let z = zero-is w h in omega arith
+    go false h = let z = ltb-true _ _ h in omega arith
+
+result-most : (r w : ℕ) → resultC .ok (r, w) ≡ true → r < 256
+unfolding resultC number
+result-most r w e = let h = ltb-true _ _ (both-left _ _ e) in omega arith
+
+part-fits : (air : Air) (u : Value) (p : Part) (x : Holds p) (v : Value) → Value-fits v → hasBytes p ≡ true → partC air u p .ok x ≡ true → Value-fits (put p x v)
+unfolding number
+part-fits air u part.Nothing x v f b e = f
+part-fits air u (part.Number k) x v f b e = number-fits k x v f b (ltb-true _ _ e)
+part-fits air u part.Users x v f b e =
+    record { numbers = f .numbers; users = group-fits air false x e; mask = f .mask; given = f .given; dispatchers = f .dispatchers }
+part-fits air u (part.User i) x v f b e =
+    record { numbers = f .numbers; users = one-fits (v .users) i x (f .users) (address-fits x e); mask = f .mask; given = f .given; dispatchers = f .dispatchers }
+part-fits air u part.Masked x v f b e =
+    record { numbers = f .numbers; users = f .users; mask = masked-fits (min (spanOf air (u .users)) 64) (x .0) (x .1) (omega arith) e; given = f .given; dispatchers = f .dispatchers }
+part-fits air u part.Result x v f b e =
+    with-numbers _ _ (with-numbers v _ f (set-result (f .numbers) (x .0) (result-most (x .0) (x .1) e))) (set-reason (set-result (f .numbers) (x .0) (result-most (x .0) (x .1) e)) (x .1) (reason-most (x .0) (x .1) e))
+part-fits air u part.Dispatchers x v f b e =
+    record { numbers = f .numbers; users = f .users; mask = f .mask; given = f .given; dispatchers = group-fits air true x e }
+part-fits air u part.Dispatcher x v f b e =
+    record { numbers = f .numbers; users = f .users; mask = f .mask; given = f .given; dispatchers = one-fits (v .dispatchers) 0 x (f .dispatchers) (address-fits x e) }
+
+-- ---- rows
+
+abbrev allHaveBytes : List Part → Bool
+allHaveBytes [] = true
+allHaveBytes (p ∷ ps) = both (hasBytes p) (allHaveBytes ps)
+
+parts-fit : (air : Air) (ps : List Part) (x : Tuple ps) (v : Value) → Value-fits v → allHaveBytes ps ≡ true → partsC air v ps .ok x ≡ true → Value-fits (puts ps x v)
+unfolding partsC puts
+parts-fit air [] x v f b e = f
+parts-fit air (p ∷ ps) x v f b e =
+    parts-fit air ps (x .1) (put p (x .0) v) (part-fits air v p (x .0) v f (both-left _ _ b) (both-left _ _ e)) (both-right (hasBytes p) _ b) (both-right (partC air v p .ok (x .0)) _ e)
+
+blank-fits : (t : ℕ) → Value-fits (blank t)
+unfolding blank
+blank-fits t =
     record {
-      users = group-fits air false (v .users) (both-left _ _ ok);
+      numbers = record { identifier = 0; cause = 0; result = 0; reason = 0; is = refl; identifier-small = omega arith; cause-small = omega arith; result-small = omega arith; reason-small = omega arith };
+      users = no-group-fits;
       mask = omega arith;
-      identifier = omega arith;
-      dispatchers = dispatchers-fit air (v .option) (v .dispatchers) (both-right (groupC air false .ok (v .users)) _ ok);
+      given = record { first = false; is = refl };
+      dispatchers = no-group-fits;
     }
 
-ack-fits : (air : Air) (v : Value) → ackC air .ok v ≡ true → Value-fits v
-unfolding ackC ackV
-ack-fits air v e =
-    let there = ack-there v (both-left _ _ e) in
-    let ok = both-right _ _ e in
-    let users = both-left _ _ ok in
-    let i : 0 ≡ v .identifier = ap (λ (x : Value). x .identifier) there in
-    record {
-      users = group-fits air false (v .users) users;
-      mask = masked-fits (spanOf air (v .users)) (v .masked) (v .mask) (few-identities air false (v .users) users) (both-left _ _ (both-right (groupC air false .ok (v .users)) _ ok));
-      identifier = omega arith;
-      dispatchers = subst (λ (x : Group). Group-fits x) (ap (λ (x : Value). x .dispatchers) there) (no-group-fits noGroup no-group-is);
-    }
+-- no option, or one
+abbrev atMostOne : List Part → Bool
+atMostOne [] = true
+atMostOne (q ∷ []) = hasBytes q
+atMostOne (q ∷ (r ∷ qs)) = false
 
-plain-fits : (t : ℕ) (a : Address) (cause i : ℕ) (o : Bool) (d : Address) → Address-fits a → i < 2 ^ 14 → Address-fits d → Value-fits (plainV t a cause i o d)
-unfolding plainV
-plain-fits t a cause i o d p h q = record { users = one-group-fits a p; mask = omega arith; identifier = omega arith; dispatchers = one-group-fits d q }
+with-given : (v : Value) (b : Bool) → Value-fits v → Value-fits (withGiven 0 b v)
+with-given v b f =
+    record { numbers = f .numbers; users = f .users; mask = f .mask; given = record { first = b; is = ap (λ (y : List Bool). set y 0 b) (f .given .is) }; dispatchers = f .dispatchers }
 
-interrogate-fits : (v : Value) → interrogateC .ok v ≡ true → Value-fits v
-unfolding interrogateC
-interrogate-fits v e =
-    subst (λ (x : Value). Value-fits x) (interrogate-there v (both-left _ _ e))
-    (plain-fits 8 (firstOf (v .users)) 0 0 false nobody (address-fits (firstOf (v .users)) (both-right _ _ e)) (omega arith) nobody-fits)
+option-fits : (air : Air) (u : Value) (q : Part) (x : Optional (Holds q)) (v : Value) → Value-fits v → hasBytes q ≡ true → optional element.pBit (partC air u q) .ok x ≡ true → Value-fits (putOption 0 q x v)
+option-fits air u q absent v f b e = subst (λ (w : Value). Value-fits w) (sym (option-absent 0 q v)) f
+option-fits air u q (there a) v f b e = with-given (put q a v) true (part-fits air u q a v f b (both-right (flag element.pBit .ok true) _ e))
 
-intercepted-fits : (t : ℕ) (v : Value) → interceptedC t .ok v ≡ true → Value-fits v
-unfolding interceptedC
-intercepted-fits t v e =
-    let d = dispatcher-fits (v .option) (firstOf (v .dispatchers)) (both-right (number element.cause 5 .ok (v .cause)) _ (both-right _ _ e)) in
-    subst (λ (x : Value). Value-fits x) (intercepted-there t v (both-left _ _ e))
-    (plain-fits t nobody (v .cause) 0 (v .option) (firstOf (v .dispatchers)) nobody-fits (omega arith) d)
+options-fit : (air : Air) (qs : List Part) (x : Options qs) (v : Value) → Value-fits v → atMostOne qs ≡ true → optionsC air v qs .ok x ≡ true → Value-fits (putOptions 0 qs x v)
+unfolding optionsC putOptions eachC
+options-fit air [] x v f b e = f
+options-fit air (q ∷ []) (absent, y) v f b e = subst (λ (w : Value). Value-fits w) (sym (option-absent 0 q v)) f
+options-fit air (q ∷ []) (there a, y) v f b e =
+    option-fits air v q (there a) v f b (both-left _ _ (both-left _ _ (both-right (flag element.oBit .ok true) _ e)))
+options-fit air (q ∷ (r ∷ qs)) x v f b e = not-both b
 
-call-fits : (t : ℕ) (v : Value) → callC t .ok v ≡ true → Value-fits v
-unfolding callC number
-call-fits t v e =
-    subst (λ (x : Value). Value-fits x) (call-there t v (both-left _ _ e))
-    (plain-fits t nobody 0 (v .identifier) false nobody nobody-fits (ltb-true _ _ (both-right _ _ e)) nobody-fits)
-
-accepted-fits : (v : Value) → acceptedC .ok v ≡ true → Value-fits v
-unfolding acceptedC
-accepted-fits v e =
-    subst (λ (x : Value). Value-fits x) (sym (accepted-is v e)) (plain-fits 13 nobody 0 0 false nobody nobody-fits (omega arith) nobody-fits)
-
--- one arm of the choice
-arm : (b : Bool) (C D : Codec Value) (v : Value) → (C .ok v ≡ true → Value-fits v) → (D .ok v ≡ true → Value-fits v) → choose b C D .ok v ≡ true → Value-fits v
-arm true C D v h k e = h e
-arm false C D v h k e = k e
+abbrev rowHasBytes : Row → Bool
+rowHasBytes r = both (allHaveBytes (partsOf r)) (atMostOne (optionsOf r))
 
 body-fits : (air : Air) (t : ℕ) (v : Value) → bodyC air t .ok v ≡ true → Value-fits v
 unfolding bodyC
-body-fits air t v =
-    arm (eqb t 2) _ _ v (λ e. activate-fits air v e)
-    (arm (eqb t 3) _ _ v (λ e. ack-fits air v e)
-    (arm (eqb t 8) _ _ v (λ e. interrogate-fits v e)
-    (arm (eqb t 10) _ _ v (λ e. intercepted-fits 10 v e)
-    (arm (eqb t 12) _ _ v (λ e. call-fits 12 v e)
-    (arm (eqb t 13) _ _ v (λ e. accepted-fits v e)
-    (arm (eqb t 15) _ _ v (λ e. call-fits 15 v e)
-    (λ e. intercepted-fits 16 v e)))))))
+body-fits air t v e =
+    let ps = partsOf (rowOf t) in
+    let qs = optionsOf (rowOf t) in
+    let b = row-bytes t in
+    let ok = both-right _ _ e in
+    subst (λ (w : Value). Value-fits w) (value-one (fill t ps qs (taken t ps qs v)) v (both-left _ _ e))
+    (options-fit air qs (getOptions 0 qs v) (puts ps (gets ps v) (blank t)) (parts-fit air ps (gets ps v) (blank t) (blank-fits t) (both-left _ _ b) (both-left _ _ ok)) (both-right (allHaveBytes ps) _ b) (both-right _ _ ok))
+  where
+    row-bytes : (u : ℕ) → rowHasBytes (rowOf u) ≡ true
+    unfolding table firstParts both
+    row-bytes u = every-row rowHasBytes refl refl u
 
 pub valid-fits : (air : Air) (v : Value) → validOf air v ≡ true → Value-fits v
 valid-fits air v e = body-fits air (v .pdu) v (valid-body air v e)

@@ -5,7 +5,7 @@
 -- So bytes that are taken are the bytes of exactly one profile or value. And no valid value is left out, nor profile that keeps the rules:
 --     profile-taken, value-taken      its bytes are taken
 -- Assumes nothing.
-use Prim.Native.Nat.{ℕ, zero, suc, _+_, _*_, _≤_, _<_}
+use Prim.Native.Nat.{ℕ, zero, suc, _+_, _*_, _%_, _≤_, _<_}
 use mathlib.Core.Path.{_≡_, refl, sym, ap, _∙_}
 use mathlib.Core.Bool.{Bool, true, false, cond}
 use mathlib.Core.Logic.{⊎-elim}
@@ -26,6 +26,8 @@ use Rattle.profile.specs.declared.Meaning.{Meaning}
 use Rattle.profile.specs.declared.Air.{Air}
 use Rattle.profile.specs.declared.Share.{Share}
 use Rattle.profile.specs.declared.Profile.{Profile}
+use Rattle.message.specs.Numbers as place
+use Rattle.message.specs.Values.{numberAt, givenAt, withNumbers, withGivens}
 use Rattle.message.specs.Addresses.{isZero}
 use Rattle.message.proofs.AddressLaws.{zero-is}
 use Rattle.message.specs.declared.Address.{Address}
@@ -38,7 +40,7 @@ use Rattle.console.specs.Values.{addressBytes, addressFrom, groupBytes, 
 use Rattle.console.proofs.ByteLaws.{byte-here, length-number}
 use Rattle.console.proofs.PutLaws.{length-address, length-group}
 use Rattle.console.proofs.RowLaws.{AreBytes, bytes-drop, number-there, number-back, rows-there, rows-back, byte-front, run-front, past-byte, past-run, all-of, rows-length}
-use Rattle.console.proofs.FitLaws.{Address-fits, Group-fits, Value-fits, valid-fits}
+use Rattle.console.proofs.FitLaws.{Address-fits, Group-fits, Numbers-fit, Given-fits, Value-fits, valid-fits}
 
 -- ---- addresses and groups
 
@@ -86,7 +88,8 @@ flag-back false = refl
 
 -- the bytes after the users, and after the mask
 abbrev afterMask : Value → List ℕ
-afterMask v = v .result ∷ (v .reason ∷ (v .cause ∷ (numberBytes 2 (v .identifier) ++ (one (v .option) ∷ groupBytes (v .dispatchers)))))
+afterMask v =
+    numberAt place.result v % 256 ∷ (numberAt place.reason v % 256 ∷ (numberAt place.cause v % 256 ∷ (numberBytes 2 (numberAt place.identifier v) ++ (one (givenAt 0 v) ∷ groupBytes (v .dispatchers)))))
 
 abbrev afterUsers : Value → List ℕ
 afterUsers v = one (v .masked) ∷ (numberBytes 8 (v .mask) ++ afterMask v)
@@ -109,36 +112,62 @@ value-there l h e =
     let d122 : groupBytes (groupFrom (drop 122 l)) ≡ drop 122 l =
     group-there (drop 122 l) (bytes-drop 122 l h) (omega (arith, length-drop 122 l)) ∙ take-all 106 (drop 122 l) (omega (arith, length-drop 122 l)) in
     let d119 = run-front l 119 2 _ _ identifier (byte-front l 121 _ _ (omega arith) option d122) in
-    let d116 = byte-front l 116 _ _ (omega arith) refl (byte-front l 117 _ _ (omega arith) refl (byte-front l 118 _ _ (omega arith) refl d119)) in
+    let d116 = byte-front l 116 _ _ (omega arith) (low 116) (byte-front l 117 _ _ (omega arith) (low 117) (byte-front l 118 _ _ (omega arith) (low 118) d119)) in
     let d107 = byte-front l 107 _ _ (omega arith) masked (run-front l 108 8 _ _ mask d116) in
     value-is (valueFrom l) ∙ byte-front l 0 _ _ (omega arith) refl (run-front l 1 106 _ _ users d107)
+  where
+    low : (i : ℕ) → getD l i 0 % 256 ≡ getD l i 0
+    unfolding AreBytes
+    low i = let k = h i in omega arith
+
+-- a value whose numbers and options are those that have bytes
+value-of : (v : Value) (n : Numbers-fit (v .numbers)) (g : Given-fits (v .given))
+    → _≡_ {A = Value}
+    (record {
+      pdu = v .pdu;
+      numbers = n .identifier ∷ n .cause ∷ n .result ∷ n .reason ∷ 0 ∷ 0 ∷ 0 ∷ 0 ∷ 0 ∷ 0 ∷ 0 ∷ 0 ∷ [];
+      users = v .users;
+      masked = v .masked;
+      mask = v .mask;
+      given = g .first ∷ false ∷ false ∷ false ∷ false ∷ false ∷ false ∷ [];
+      dispatchers = v .dispatchers;
+    })
+    v
+value-of v n g =
+    ap (λ (x : List ℕ). withNumbers x (withGivens (g .first ∷ false ∷ false ∷ false ∷ false ∷ false ∷ false ∷ []) v)) (sym (n .is)) ∙ ap (λ (x : List Bool). withGivens x v) (sym (g .is))
 
 fits-back : (v : Value) → Value-fits v → valueFrom (valueBytes v) ≡ v
 unfolding valueFrom
 fits-back v p =
+    let n = p .numbers in
+    let g = p .given in
     let u = groupBytes (v .users) in
     let y = afterUsers v in
     let m = numberBytes 8 (v .mask) in
     let z = afterMask v in
-    let i = numberBytes 2 (v .identifier) in
+    let i = numberBytes 2 (numberAt place.identifier v) in
     let d = groupBytes (v .dispatchers) in
-    let w = one (v .option) ∷ d in
+    let w = one (givenAt 0 v) ∷ d in
     let nu = length-group (v .users) (p .users .places) in
     let nm = length-number 8 (v .mask) in
-    let ni = length-number 2 (v .identifier) in
+    let ni = length-number 2 (numberAt place.identifier v) in
+    let at : (k : ℕ) → numberAt k v ≡ getD (n .identifier ∷ n .cause ∷ n .result ∷ n .reason ∷ 0 ∷ 0 ∷ 0 ∷ 0 ∷ 0 ∷ 0 ∷ 0 ∷ 0 ∷ []) k 0 = λ k. ap (λ (x : List ℕ). getD x k 0) (n .is) in
+    let first : givenAt 0 v ≡ g .first = ap (λ (x : List Bool). getD x 0 false) (g .is) in
     let eu : groupFrom (u ++ y) ≡ v .users = group-back (v .users) y (p .users) in
     let em : getD (u ++ y) 106 0 ≡ one (v .masked) = past-byte 106 u y nu 0 in
     let ek : numberFrom 8 (drop 107 (u ++ y)) ≡ v .mask = ap (λ (x : List ℕ). numberFrom 8 x) (past-run 106 u y nu 1) ∙ number-back 8 (v .mask) z (p .mask) in
-    let er : getD (u ++ y) 115 0 ≡ v .result = past-byte 106 u y nu 9 ∙ past-byte 8 m z nm 0 in
-    let es : getD (u ++ y) 116 0 ≡ v .reason = past-byte 106 u y nu 10 ∙ past-byte 8 m z nm 1 in
-    let ec : getD (u ++ y) 117 0 ≡ v .cause = past-byte 106 u y nu 11 ∙ past-byte 8 m z nm 2 in
-    let ei : numberFrom 2 (drop 118 (u ++ y)) ≡ v .identifier =
-    ap (λ (x : List ℕ). numberFrom 2 x) (past-run 106 u y nu 12 ∙ past-run 8 m z nm 3) ∙ number-back 2 (v .identifier) w (p .identifier) in
-    let eo : getD (u ++ y) 120 0 ≡ one (v .option) = past-byte 106 u y nu 14 ∙ past-byte 8 m z nm 5 ∙ past-byte 2 i w ni 0 in
+    let er : getD (u ++ y) 115 0 ≡ n .result = past-byte 106 u y nu 9 ∙ past-byte 8 m z nm 0 ∙ omega (arith, at place.result, n .result-small) in
+    let es : getD (u ++ y) 116 0 ≡ n .reason = past-byte 106 u y nu 10 ∙ past-byte 8 m z nm 1 ∙ omega (arith, at place.reason, n .reason-small) in
+    let ec : getD (u ++ y) 117 0 ≡ n .cause = past-byte 106 u y nu 11 ∙ past-byte 8 m z nm 2 ∙ omega (arith, at place.cause, n .cause-small) in
+    let ei : numberFrom 2 (drop 118 (u ++ y)) ≡ n .identifier =
+    ap (λ (x : List ℕ). numberFrom 2 x) (past-run 106 u y nu 12 ∙ past-run 8 m z nm 3)
+    ∙ number-back 2 (numberAt place.identifier v) w (omega (arith, at place.identifier, n .identifier-small)) ∙ at place.identifier in
+    let eo : getD (u ++ y) 120 0 ≡ one (givenAt 0 v) = past-byte 106 u y nu 14 ∙ past-byte 8 m z nm 5 ∙ past-byte 2 i w ni 0 in
+    let eb : eqb (getD (u ++ y) 120 0) 1 ≡ g .first = ap (λ (k : ℕ). eqb k 1) eo ∙ flag-back (givenAt 0 v) ∙ first in
     let ed : groupFrom (drop 121 (u ++ y)) ≡ v .dispatchers =
     ap (λ (x : List ℕ). groupFrom x) (past-run 106 u y nu 15 ∙ past-run 8 m z nm 6 ∙ past-run 2 i w ni 1 ∙ sym (append-nil d))
     ∙ group-back (v .dispatchers) [] (p .dispatchers) in
-    ap (λ (x : List ℕ). valueFrom x) (value-is v) ∙ rw (eu, em, ek, er, es, ec, ei, eo, ed, flag-back (v .masked), flag-back (v .option))
+    ap (λ (x : List ℕ). valueFrom x) (value-is v) ∙ rw (eu, em, ek, er, es, ec, ei, eb, ed, flag-back (v .masked)) (value-of v n g)
 
 -- a valid value is taken from its bytes as it was
 pub value-back : (air : Air) (v : Value) → validOf air v ≡ true → valueFrom (valueBytes v) ≡ v
@@ -148,16 +177,16 @@ value-length : (v : Value) → Value-fits v → length (valueBytes v) ≡ 228
 value-length v p =
     let u = groupBytes (v .users) in
     let m = numberBytes 8 (v .mask) in
-    let i = numberBytes 2 (v .identifier) in
+    let i = numberBytes 2 (numberAt place.identifier v) in
     let d = groupBytes (v .dispatchers) in
     ap (λ (x : List ℕ). length x) (value-is v)
     ∙ omega (
       arith,
       length-append u (afterUsers v),
       length-append m (afterMask v),
-      length-append i (one (v .option) ∷ d),
+      length-append i (one (givenAt 0 v) ∷ d),
       length-number 8 (v .mask),
-      length-number 2 (v .identifier),
+      length-number 2 (numberAt place.identifier v),
       length-group (v .users) (p .users .places),
       length-group (v .dispatchers) (p .dispatchers .places),
     )
@@ -173,12 +202,12 @@ fits-taken v p =
     let y = afterUsers v in
     let nu = length-group (v .users) (p .users .places) in
     let masked : getD (valueBytes v) 107 0 ≡ one (v .masked) = ap (λ (x : List ℕ). getD x 107 0) (value-is v) ∙ past-byte 106 u y nu 0 in
-    let option : getD (valueBytes v) 121 0 ≡ one (v .option) =
+    let option : getD (valueBytes v) 121 0 ≡ one (givenAt 0 v) =
     ap (λ (x : List ℕ). getD x 121 0) (value-is v)
     ∙ past-byte 106 u y nu 14
     ∙ past-byte 8 (numberBytes 8 (v .mask)) (afterMask v) (length-number 8 (v .mask)) 5
-    ∙ past-byte 2 (numberBytes 2 (v .identifier)) (one (v .option) ∷ groupBytes (v .dispatchers)) (length-number 2 (v .identifier)) 0 in
-    both-true _ _ (eq-eqb _ _ (value-length v p)) (both-true _ _ (ap (λ (b : ℕ). leb b 1) masked ∙ flag-small (v .masked)) (ap (λ (b : ℕ). leb b 1) option ∙ flag-small (v .option)))
+    ∙ past-byte 2 (numberBytes 2 (numberAt place.identifier v)) (one (givenAt 0 v) ∷ groupBytes (v .dispatchers)) (length-number 2 (numberAt place.identifier v)) 0 in
+    both-true _ _ (eq-eqb _ _ (value-length v p)) (both-true _ _ (ap (λ (b : ℕ). leb b 1) masked ∙ flag-small (v .masked)) (ap (λ (b : ℕ). leb b 1) option ∙ flag-small (givenAt 0 v)))
 
 -- the bytes of a valid value are taken
 pub value-taken : (air : Air) (v : Value) → validOf air v ≡ true → isValue (valueBytes v) ≡ true

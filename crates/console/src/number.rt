@@ -1,6 +1,6 @@
 // Bytes at an index, and numbers in several of them, most significant first.
 ghost use mathlib.Core.Path.{_≡_};
-ghost use Prim.Native.Nat.{_*_, _≤_, _<_, _^_};
+ghost use Prim.Native.Nat.{_*_, _%_, _≤_, _<_, _^_};
 ghost use lib.ListN.{getD, drop, set};
 ghost use lib.Seq.{sets};
 ghost use Rattle.profile.specs.Counting.{one};
@@ -67,6 +67,13 @@ pub(crate) fn put_flag(out: &mut [u8], at: usize, b: bool)
         return;
     }
     put_byte(out, at, 0);
+}
+
+// Its low byte.
+pub(crate) fn put_low(out: &mut [u8], at: usize, n: u32)
+    ensures { λ _. ⌜ now (out .exit) ≡ set (now (out .entry)) at (n % 256) ⌝ }
+{
+    put_byte(out, at, (n % 256) as u8);
 }
 
 // From the last byte to the first.

@@ -29,16 +29,18 @@ pub(crate) fn value_from(l: &[u8]) -> Value
 {
     let users = group_at(l, 1);
     let dispatchers = group_at(l, 122);
+    let identifier = number::two_at(l, 119);
+    let cause = number::byte_at(l, 118) as u32;
+    let result = number::byte_at(l, 116) as u32;
+    let reason = number::byte_at(l, 117) as u32;
+    let option = number::byte_at(l, 121) == 1;
     Value {
         pdu: number::byte_at(l, 0),
+        numbers: [identifier, cause, result, reason, 0, 0, 0, 0, 0, 0, 0, 0],
         users: users,
         masked: number::byte_at(l, 107) == 1,
         mask: number::number_at(l, 108, 8),
-        result: number::byte_at(l, 116),
-        reason: number::byte_at(l, 117),
-        cause: number::byte_at(l, 118),
-        identifier: number::two_at(l, 119),
-        option: number::byte_at(l, 121) == 1,
+        given: [option, false, false, false, false, false, false],
         dispatchers: dispatchers,
     }
 }
@@ -82,11 +84,16 @@ pub(crate) fn put_value(out: &mut [u8], v: Value)
     put_group(out, 1, users);
     number::put_flag(out, 107, v.masked);
     number::put_number(out, 108, 8, v.mask);
-    number::put_byte(out, 116, v.result);
-    number::put_byte(out, 117, v.reason);
-    number::put_byte(out, 118, v.cause);
-    number::put_number(out, 119, 2, v.identifier as u64);
-    number::put_flag(out, 121, v.option);
+    number::put_low(out, 116, message::number_at(v, message::RESULT_AT));
+    number::put_low(out, 117, message::number_at(v, message::REASON_AT));
+    number::put_low(out, 118, message::number_at(v, message::CAUSE_AT));
+    number::put_number(
+        out,
+        119,
+        2,
+        message::number_at(v, message::IDENTIFIER_AT) as u64,
+    );
+    number::put_flag(out, 121, message::given_at(v, 0));
     put_group(out, 122, dispatchers);
 }
 

@@ -15,7 +15,7 @@ use Rattle.message.specs.Addresses.{nobody}
 use Rattle.message.specs.Numbers as place
 use Rattle.message.specs.Numbers.{elements, elementOf, widths, widthOf}
 use Rattle.message.specs.Values.{numberAt, givenAt, withNumber, withGiven}
-use Rattle.message.specs.Rows.{table, rowIn, rowOf, Holds, put, get, Options, orElse, ifGiven, putOption, copyOption, putOptions, someOf, noneOf}
+use Rattle.message.specs.Rows.{noRow, table, rowIn, rowOf, Holds, put, get, Options, orElse, ifGiven, putOption, copyOption, putOptions, someOf, noneOf}
 use Rattle.message.specs.declared.Group.{Group}
 use Rattle.message.specs.declared.Part.{Part}
 use Rattle.message.specs.declared.Part.the-variants as part
@@ -35,24 +35,30 @@ pub width-none : (k : ℕ) → 12 ≤ k → 0 ≡ widthOf k
 unfolding widthOf widths
 width-none k h = sym (List·getD-eq-default widths 0 h)
 
--- ---- every row has seven slots for its options
+-- ---- what every row of the table passes
 
-abbrev sized : List (ℕ × Row) → Bool
-sized [] = true
-sized (x ∷ rest) = both (eqb (length (x .1 .optional)) 7) (sized rest)
+abbrev pub allRows : (Row → Bool) → List (ℕ × Row) → Bool
+allRows test [] = true
+allRows test (x ∷ rest) = both (test (x .1)) (allRows test rest)
 
-sized-in : (rows : List (ℕ × Row)) (t : ℕ) → sized rows ≡ true → length (rowIn rows t .optional) ≡ 7
+row-in : (test : Row → Bool) (rows : List (ℕ × Row)) (t : ℕ) → test noRow ≡ true → allRows test rows ≡ true → test (rowIn rows t) ≡ true
 unfolding rowIn
-sized-in [] t e = refl
-sized-in (x ∷ rest) t e = go (eqb t (x .0)) (sized-in rest t (both-right (eqb (length (x .1 .optional)) 7) _ e))
+row-in test [] t none e = none
+row-in test (x ∷ rest) t none e = go (eqb t (x .0)) (row-in test rest t none (both-right (test (x .1)) _ e))
   where
-    go : (b : Bool) → length (rowIn rest t .optional) ≡ 7 → length (cond b (x .1) (rowIn rest t) .optional) ≡ 7
-    go true h = eqb-true _ _ (both-left _ _ e)
+    go : (b : Bool) → test (rowIn rest t) ≡ true → test (cond b (x .1) (rowIn rest t)) ≡ true
+    go true h = both-left _ _ e
     go false h = h
 
+-- a test that the rows pass, and a type that has none, is passed by the row of any type
+pub every-row : (test : Row → Bool) → test noRow ≡ true → allRows test table ≡ true → (t : ℕ) → test (rowOf t) ≡ true
+unfolding rowOf
+every-row test none e t = row-in test table t none e
+
+-- each has seven slots for its options
 pub seven-options : (t : ℕ) → length (rowOf t .optional) ≡ 7
-unfolding rowOf table both
-seven-options t = sized-in table t refl
+unfolding table both
+seven-options t = eqb-true _ _ (every-row (λ r. eqb (length (r .optional)) 7) refl refl t)
 
 -- ---- no number is wider than 32 bits
 
@@ -77,7 +83,7 @@ number-back k v = rw (set-getD (v .numbers) k 0)
 group-back : (i : ℕ) (g : Group) → _≡_ {A = Group} (record { range = g .range; addresses = set (g .addresses) i (getD (g .addresses) i nobody) }) g
 group-back i g = rw (set-getD (g .addresses) i nobody)
 
-put-get : (p : Part) (v : Value) → put p (get p v) v ≡ v
+pub put-get : (p : Part) (v : Value) → put p (get p v) v ≡ v
 put-get part.Nothing v = refl
 put-get (part.Number k) v = number-back k v
 put-get part.Users v = refl
