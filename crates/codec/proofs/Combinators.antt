@@ -1,11 +1,12 @@
 -- Each combinator makes good codecs of good ones. Assumes nothing.
 use Prim.Native.Nat.{ℕ, zero, suc, _+_, _≤_, _<_, _^_}
 use mathlib.Core.Path.{_≡_, refl, sym, ap, _∙_, subst}
-use mathlib.Core.Bool.{Bool, true, false, cond}
+use mathlib.Core.Bool.{Bool, true, false, not, cond}
 use mathlib.Core.List.{List, [], _∷_}
 use mathlib.Core.Logic.{⊎-elim}
 use native.Mathlib.Nat.{add-zero}
 use native.Mathlib.Omega.{arith}
+use lib.Dec.{leb}
 use lib.ListN.{length, length-append}
 use borrow.Author.Tests.{le-leb, lt-leb, ltb-true, lt-ltb}
 use Rattle.bits.specs.Fields.{fieldAt}
@@ -15,8 +16,9 @@ use Rattle.bits.proofs.SetLaws.{lt-or}
 use Rattle.bits.proofs.Stands.{AreBits, Stands, stands-left, stands-right, stands-join, bits-join}
 use Rattle.bits.proofs.RoundLaws.{binary-bits, binary-read, read-binary}
 use Rattle.codec.specs.Stops.{short, refusal}
-use Rattle.codec.specs.Codec.{Read, got, no, bind, Codec, number, pure, guard, seq, map, choose, vec, vecRead, vecBits, vecOk, vecThen}
-use Rattle.codec.proofs.Good.{both-true, both-left, both-right, not-both, Binary, Agree, Found, View, refused, found, Good}
+use Rattle.codec.specs.Codec.{both, firstOf, noneOf, Read, got, no, bind, Codec, number, pure, guard, seq, map, choose, vec, vecRead, vecOrder, vecBits, vecOk, vecThen}
+use Rattle.codec.proofs.Good.{both-true, both-left, both-right, not-both, Binary, Agree, Found, View, refused, found, Told, Good}
+use Rattle.codec.proofs.GroundLaws.{told-then, told-map, told-test}
 
 -- ---- number
 
@@ -47,6 +49,14 @@ module _ (e w : ℕ) where
       (λ h. number-got e f n at w h ∙ ap (λ (v : ℕ). got v (at + w)) (field-same f g at w (λ i _ k. a i (omega arith))) ∙ sym (number-got e g n at w h))
       (lt-or n (at + w))
 
+  number-told : (f : ℕ → ℕ) (n at : ℕ) → Told (number e w .order f n at) (number e w .read f n at)
+  unfolding number noneOf firstOf both short
+  number-told f n at = go (leb (at + w) n)
+    where
+      go : (b : Bool) → Told {A = ℕ} ((4, not b) ∷ []) (cond b (got (fieldAt f at w) (at + w)) (no (short e at)))
+      go true = refl
+      go false = (refl, refl)
+
   pub good-number : Good (number e w)
   unfolding number
   good-number =
@@ -57,17 +67,20 @@ module _ (e w : ℕ) where
             rw (le-leb (at + w) n l, read-binary f at w v (ltb-true v (2 ^ w) h) s, length-binary);
         backward = number-view;
         alike = λ f g n at hf a. number-alike f g n at a;
+        told = λ f n hf at. number-told f n at;
       }
 
 -- ---- pure
 
 pub good-pure : {A : Type 0} (a : A) (same : A → Bool) → same a ≡ true → ((b : A) → same b ≡ true → b ≡ a) → Good (pure a same)
+unfolding noneOf
 good-pure a same self only =
     record {
       are-bits = λ b e. tt;
       forward = λ f n at b e s k. rw (only b e, add-zero);
       backward = λ f n hf at. found a at (record { valid = self; next = sym (add-zero at); within = λ k. k; stands = tt });
       alike = λ f g n at hf e. refl;
+      told = λ f n hf at. refl;
     }
 
 -- ---- guard
@@ -88,6 +101,7 @@ module _ {A : Type 0} (c : ℕ) (test : A → Bool) (C : Codec A) (G : Good C) w
         forward = λ f n at a v s k. rw (G .forward f n at a (both-left (C .ok a) (test a) v) s k, both-right (C .ok a) (test a) v);
         backward = λ f n hf at. guard-view f n at (C .read f n at) (G .backward f n hf at);
         alike = λ f g n at hf e. rw (G .alike f g n at hf e);
+        told = λ f n hf at. told-then (C .order f n at) _ _ (C .read f n at) (G .told f n hf at) (λ a p e. told-test c (test a) a p);
       }
 
 -- ---- seq
@@ -113,6 +127,16 @@ module _ {A B : Type 0} (C : Codec A) (D : A → Codec B) (G : Good C) (H : (a :
   second-alike f g n at hf e (no s) (refused _) = refl
   second-alike f g n at hf e (got a p) (found _ _ w) = rw (H a (w .valid) .alike f g n p hf e)
 
+  -- what was read first is valid
+  read-valid : (f : ℕ → ℕ) (n at : ℕ) (r : Read A) → View C f n at r → (a : A) (p : ℕ) → r ≡ got a p → C .ok a ≡ true
+  read-valid f n at (no s) (refused _) a p e = let z : _≡_ {A = ℕ} 0 1 = cc in absurd (omega arith)
+  read-valid f n at (got b q) (found _ _ w) a p e = let ab : b ≡ a = cc in subst (λ (x : A). C .ok x ≡ true) ab (w .valid)
+
+  seq-told : (f : ℕ → ℕ) (n : ℕ) → Binary f → (at : ℕ) → Told (seq C D .order f n at) (seq C D .read f n at)
+  seq-told f n hf at =
+      told-then (C .order f n at) _ _ (C .read f n at) (G .told f n hf at)
+      (λ a p e. told-map (D a .order f n p) _ (D a .read f n p) (H a (read-valid f n at (C .read f n at) (G .backward f n hf at) a p e) .told f n hf p))
+
   first-ok : (x : A × B) → seq C D .ok x ≡ true → C .ok (x .0) ≡ true
   first-ok x v = both-left (C .ok (x .0)) (D (x .0) .ok (x .1)) v
 
@@ -133,6 +157,7 @@ module _ {A B : Type 0} (C : Codec A) (D : A → Codec B) (G : Good C) (H : (a :
             rw (r₁, r₂) (ap (λ (q : ℕ). got (a, b) q) (omega (arith, e)));
         backward = λ f n hf at. first-view f n at hf (C .read f n at) (G .backward f n hf at);
         alike = λ f g n at hf e. second-alike f g n at hf e (C .read f n at) (G .backward f n hf at) ∙ rw (G .alike f g n at hf e);
+        told = seq-told;
       }
 
 -- ---- map: a value that was read goes there and back, and fits; one that fits comes back whole
@@ -160,6 +185,7 @@ module _ {A B : Type 0} (to : A → B) (from : B → A) (fits : B → Bool) (C :
             rw (G .forward f n at (from b) w s k) (ap (λ (x : B). got x (at + length (C .bits (from b)))) (there b (both-left (fits b) (C .ok (from b)) v) w));
         backward = λ f n hf at. map-view f n at (C .read f n at) (G .backward f n hf at);
         alike = λ f g n at hf e. rw (G .alike f g n at hf e);
+        told = λ f n hf at. told-map (C .order f n at) to (C .read f n at) (G .told f n hf at);
       }
 
 -- where all of the other type is carried, every value fits
@@ -226,5 +252,11 @@ module _ {A : Type 0} (C : Codec A) (G : Good C) where
   vec-alike zero f g n at hf e = refl
   vec-alike (suc k) f g n at hf e = rw (G .alike f g n at hf e) (then-alike (vecRead C k f n) (vecRead C k g n) (λ p. vec-alike k f g n p hf e) (C .read g n at))
 
+  vec-told : (k : ℕ) (f : ℕ → ℕ) (n : ℕ) → Binary f → (at : ℕ) → Told (vecOrder C k f n at) (vecRead C k f n at)
+  unfolding vecRead vecOrder noneOf
+  vec-told zero f n hf at = refl
+  vec-told (suc k) f n hf at =
+      told-then (C .order f n at) _ _ (C .read f n at) (G .told f n hf at) (λ a p e. told-map (vecOrder C k f n p) _ (vecRead C k f n p) (vec-told k f n hf p))
+
   pub good-vec : (k : ℕ) → Good (vec k C)
-  good-vec k = record { are-bits = vec-bits k; forward = vec-forward k; backward = vec-view k; alike = vec-alike k }
+  good-vec k = record { are-bits = vec-bits k; forward = vec-forward k; backward = vec-view k; alike = vec-alike k; told = vec-told k }

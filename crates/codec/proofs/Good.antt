@@ -2,10 +2,11 @@
 use Prim.Native.Nat.{ℕ, _+_, _≤_, _<_}
 use mathlib.Core.Path.{_≡_, refl}
 use mathlib.Core.Bool.{Bool, true, false}
+use mathlib.Core.List.{List}
 use native.Mathlib.Omega.{arith}
 use lib.ListN.{length}
 use Rattle.bits.proofs.Stands.{AreBits, Stands}
-use Rattle.codec.specs.Codec.{Read, got, no, both, Codec}
+use Rattle.codec.specs.Codec.{Ground, firstOf, noneOf, Read, got, no, both, Codec}
 use Rattle.codec.specs.declared.Stop.{Stop}
 
 -- ---- both
@@ -54,6 +55,11 @@ pub data View {A : Type 0} (C : Codec A) (f : ℕ → ℕ) (n at : ℕ) : Read A
   refused : (s : Stop) → View C f n at (no s)
   found : (a : A) (p : ℕ) → Found C f n at a p → View C f n at (got a p)
 
+-- the grounds g are those of what a reading answered: none holds where something was read, and else the first gives the refusal
+abbrev pub Told : {A : Type 0} → List Ground → Read A → Type 0
+Told g (got a p) = noneOf g ≡ true
+Told g (no s) = (noneOf g ≡ false) × (firstOf g ≡ s .number)
+
 pub record Good {A : Type 0} (C : Codec A) : Type 0 where
   -- a valid value is written as bits
   pub are-bits : (a : A) → C .ok a ≡ true → AreBits (C .bits a)
@@ -64,3 +70,5 @@ pub record Good {A : Type 0} (C : Codec A) : Type 0 where
   pub backward : (f : ℕ → ℕ) (n : ℕ) → Binary f → (at : ℕ) → View C f n at (C .read f n at)
   -- bits from n on are never looked at
   pub alike : (f g : ℕ → ℕ) (n at : ℕ) → Binary f → Agree f g n → C .read f n at ≡ C .read g n at
+  -- a refusal comes exactly on the first ground that holds, along the bits
+  pub told : (f : ℕ → ℕ) (n : ℕ) → Binary f → (at : ℕ) → Told (C .order f n at) (C .read f n at)

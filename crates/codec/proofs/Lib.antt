@@ -1,4 +1,5 @@
 pub mod Good
+pub mod GroundLaws
 pub mod Combinators
 pub mod OptionLaws
 pub mod RoundTrips

@@ -10,6 +10,7 @@ use Rattle.codec.specs.Codec.{Read, got, no, bind, Codec, number, pure, 
 use Rattle.codec.specs.Options.{flag, given, Optional, absent, there, isThere, isAbsent, thereBits, thereOk, thereC, optional, options}
 use Rattle.bits.proofs.Stands.{AreBits, Stands}
 use Rattle.codec.proofs.Good.{both-right, not-both, View, refused, found, Good}
+use Rattle.codec.proofs.GroundLaws.{told-map}
 use Rattle.codec.proofs.Combinators.{good-number, good-pure, good-guard, good-seq, good-iso, good-choose}
 
 -- ---- a flag
@@ -56,6 +57,7 @@ module _ {A : Type 0} (C : Codec A) (G : Good C) where
         forward = there-forward;
         backward = λ f n hf at. there-view f n at (C .read f n at) (G .backward f n hf at);
         alike = λ f g n at hf e. rw (G .alike f g n at hf e);
+        told = λ f n hf at. told-map (C .order f n at) there (C .read f n at) (G .told f n hf at);
       }
 
 absent-is : {A : Type 0} (x : Optional A) → isAbsent x ≡ true → x ≡ absent

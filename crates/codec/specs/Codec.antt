@@ -2,13 +2,36 @@
 -- together from those of its elements by the combinators here, and the order of refusals is their nesting: `number` stops with 4
 -- before the content of an element, `guard` with its own number right after it.
 use Prim.Native.Nat.{ℕ, zero, suc, _+_, _^_}
-use mathlib.Core.Bool.{Bool, true, false, cond}
+use mathlib.Core.Bool.{Bool, true, false, not, cond}
 use mathlib.Core.List.{List, [], _∷_, _++_}
 use lib.Dec.{leb, ltb}
 use Rattle.bits.specs.Fields.{fieldAt}
 use Rattle.bits.specs.Puts.{binary}
 use Rattle.codec.specs.Stops.{short, refusal}
 use Rattle.codec.specs.declared.Stop.{Stop}
+
+-- ---- grounds for a refusal, first to last
+
+-- a number of document 01's table, and whether its ground holds
+abbrev pub Ground : Type 0
+Ground = ℕ × Bool
+
+-- both hold; shut, so that a proof finds its two sides
+unfoldable pub both : Bool → Bool → Bool
+both true b = b
+both false b = false
+
+-- the number of the first ground that holds; 0 for none
+unfoldable pub firstOf : List Ground → ℕ
+firstOf [] = 0
+firstOf ((c, holds) ∷ rest) = cond holds c (firstOf rest)
+
+-- no ground holds
+unfoldable pub noneOf : List Ground → Bool
+noneOf [] = true
+noneOf ((c, holds) ∷ rest) = both (not holds) (noneOf rest)
+
+-- ---- reading
 
 -- a value and the next position, or a refusal
 pub data Read (A : Type 0) : Type 0 where
@@ -20,14 +43,18 @@ abbrev pub bind : {A B : Type 0} → Read A → (A → ℕ → Read B) → Read 
 bind (got a p) k = k a p
 bind (no s) k = no s
 
--- both hold; shut, so that a proof finds its two sides
-unfoldable pub both : Bool → Bool → Bool
-both true b = b
-both false b = false
+-- the grounds after what was read, if something was
+abbrev pub afterwards : {A : Type 0} → Read A → (A → ℕ → List Ground) → List Ground
+afterwards (got a p) k = k a p
+afterwards (no s) k = []
 
--- `read f n at` reads at position at of the bits f, of which there are n
+-- ---- codecs
+
+-- `read f n at` reads at position at of the bits f, of which there are n; `order f n at` are the grounds on which it would refuse, along the
+-- bits, each element in its turn: first 4, if it reaches past the end, then the number of its own test
 pub record Codec (A : Type 0) : Type 1 where
   pub read : (ℕ → ℕ) → ℕ → ℕ → Read A
+  pub order : (ℕ → ℕ) → ℕ → ℕ → List Ground
   pub bits : A → List ℕ
   pub ok : A → Bool
 
@@ -36,19 +63,21 @@ unfoldable pub number : ℕ → ℕ → Codec ℕ
 number e w =
     record {
       read = λ f n at. cond (leb (at + w) n) (got (fieldAt f at w) (at + w)) (no (short e at));
+      order = λ f n at. (4, not (leb (at + w) n)) ∷ [];
       bits = λ v. binary w v;
       ok = λ v. ltb v (2 ^ w);
     }
 
 -- nothing on the air: the value is a, and `same` is the test for it
 abbrev pub pure : {A : Type 0} → A → (A → Bool) → Codec A
-pure a same = record { read = λ f n at. got a at; bits = λ b. []; ok = λ b. same b }
+pure a same = record { read = λ f n at. got a at; order = λ f n at. []; bits = λ b. []; ok = λ b. same b }
 
 -- C, refused with c where the test fails
 abbrev pub guard : {A : Type 0} → ℕ → (A → Bool) → Codec A → Codec A
 guard c test C =
     record {
       read = λ f n at. bind (C .read f n at) (λ a p. cond (test a) (got a p) (no (refusal c)));
+      order = λ f n at. C .order f n at ++ afterwards (C .read f n at) (λ a p. (c, not (test a)) ∷ []);
       bits = λ a. C .bits a;
       ok = λ a. both (C .ok a) (test a);
     }
@@ -58,6 +87,7 @@ abbrev pub seq : {A B : Type 0} → Codec A → (A → Codec B) → Codec (A × 
 seq C D =
     record {
       read = λ f n at. bind (C .read f n at) (λ a p. bind (D a .read f n p) (λ b q. got (a, b) q));
+      order = λ f n at. C .order f n at ++ afterwards (C .read f n at) (λ a p. D a .order f n p);
       bits = λ x. C .bits (x .0) ++ D (x .0) .bits (x .1);
       ok = λ x. both (C .ok (x .0)) (D (x .0) .ok (x .1));
     }
@@ -67,6 +97,7 @@ abbrev pub map : {A B : Type 0} → (A → B) → (B → A) → (B → Bool) →
 map to from fits C =
     record {
       read = λ f n at. bind (C .read f n at) (λ a p. got (to a) p);
+      order = λ f n at. C .order f n at;
       bits = λ b. C .bits (from b);
       ok = λ b. both (fits b) (C .ok (from b));
     }
@@ -85,6 +116,10 @@ module _ {A : Type 0} (C : Codec A) where
   vecRead zero f n at = got [] at
   vecRead (suc k) f n at = vecThen (vecRead k f n) (C .read f n at)
 
+  unfoldable pub vecOrder : ℕ → (ℕ → ℕ) → ℕ → ℕ → List Ground
+  vecOrder zero f n at = []
+  vecOrder (suc k) f n at = C .order f n at ++ afterwards (C .read f n at) (λ a p. vecOrder k f n p)
+
   abbrev pub vecBits : List A → List ℕ
   vecBits [] = []
   vecBits (a ∷ xs) = C .bits a ++ vecBits xs
@@ -96,4 +131,4 @@ module _ {A : Type 0} (C : Codec A) where
   vecOk (suc k) (a ∷ xs) = both (C .ok a) (vecOk k xs)
 
 abbrev pub vec : {A : Type 0} → ℕ → Codec A → Codec (List A)
-vec k C = record { read = λ f n at. vecRead C k f n at; bits = λ xs. vecBits C xs; ok = λ xs. vecOk C k xs }
+vec k C = record { read = λ f n at. vecRead C k f n at; order = λ f n at. vecOrder C k f n at; bits = λ xs. vecBits C xs; ok = λ xs. vecOk C k xs }

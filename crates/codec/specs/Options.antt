@@ -38,7 +38,13 @@ module _ {A : Type 0} (C : Codec A) where
   thereOk (there a) = C .ok a
 
 abbrev pub thereC : {A : Type 0} → Codec A → Codec (Optional A)
-thereC C = record { read = λ f n at. bind (C .read f n at) (λ a p. got (there a) p); bits = λ x. thereBits C x; ok = λ x. thereOk C x }
+thereC C =
+    record {
+      read = λ f n at. bind (C .read f n at) (λ a p. got (there a) p);
+      order = λ f n at. C .order f n at;
+      bits = λ x. thereBits C x;
+      ok = λ x. thereOk C x;
+    }
 
 -- the P-bit p, then C if it is 1
 abbrev pub optional : {A : Type 0} → ℕ → Codec A → Codec (Optional A)

@@ -330,6 +330,10 @@ options-fit air (q ∷ (r ∷ qs)) x v f b e = not-both b
 abbrev rowHasBytes : Row → Bool
 rowHasBytes r = both (allHaveBytes (partsOf r)) (atMostOne (optionsOf r))
 
+row-bytes : (t : ℕ) → rowHasBytes (rowOf t) ≡ true
+unfolding table firstParts both
+row-bytes t = every-row rowHasBytes refl refl t
+
 body-fits : (air : Air) (t : ℕ) (v : Value) → bodyC air t .ok v ≡ true → Value-fits v
 unfolding bodyC
 body-fits air t v e =
@@ -339,10 +343,6 @@ body-fits air t v e =
     let ok = both-right _ _ e in
     subst (λ (w : Value). Value-fits w) (value-one (fill t ps qs (taken t ps qs v)) v (both-left _ _ e))
     (options-fit air qs (getOptions 0 qs v) (puts ps (gets ps v) (blank t)) (parts-fit air ps (gets ps v) (blank t) (blank-fits t) (both-left _ _ b) (both-left _ _ ok)) (both-right (allHaveBytes ps) _ b) (both-right _ _ ok))
-  where
-    row-bytes : (u : ℕ) → rowHasBytes (rowOf u) ≡ true
-    unfolding table firstParts both
-    row-bytes u = every-row rowHasBytes refl refl u
 
 pub valid-fits : (air : Air) (v : Value) → validOf air v ≡ true → Value-fits v
 valid-fits air v e = body-fits air (v .pdu) v (valid-body air v e)

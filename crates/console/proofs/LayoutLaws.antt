@@ -100,7 +100,7 @@ value-is v = simp append-assoc
 
 -- what is taken from a value's bytes is written as those bytes
 pub value-there : (l : List ℕ) → AreBytes l → isValue l ≡ true → valueBytes (valueFrom l) ≡ l
-unfolding valueFrom isValue
+unfolding valueFrom isValue AreBytes
 value-there l h e =
     let n : length l ≡ 228 = eqb-true _ _ (both-left _ _ e) in
     let flags = both-right (eqb (length l) 228) _ e in
@@ -117,7 +117,6 @@ value-there l h e =
     value-is (valueFrom l) ∙ byte-front l 0 _ _ (omega arith) refl (run-front l 1 106 _ _ users d107)
   where
     low : (i : ℕ) → getD l i 0 % 256 ≡ getD l i 0
-    unfolding AreBytes
     low i = let k = h i in omega arith
 
 -- a value whose numbers and options are those that have bytes
