@@ -12,6 +12,7 @@ use Rattle.codec.specs.Stops.{refusal, published}
 use Rattle.codec.specs.declared.Stop.{Stop}
 use Rattle.codec.proofs.Good.{both-true, both-left, both-right}
 use Rattle.profile.specs.Rules.{profileOk}
+use Rattle.message.specs.Values.{identifierIn}
 use Rattle.message.specs.Reading.{readOf, isReading}
 use Rattle.message.specs.declared.Group.{Group}
 use Rattle.message.specs.declared.Value.{Value}
@@ -110,14 +111,14 @@ module _ (ok : Answer → Bool) (refused : (s : Stop) → pastOne (s .number) �
         (diverted : ok answer.Diverted ≡ true) (passes : profileOk (d .profile) ≡ true) where
       type-ok : (room post : ℕ) (v : Value) (a b c e : Bool)
           → ok (cond a (activateAnswer d rows n room v) (cond b (interrogateAnswer d rows n post v)
-          (cond c (decideAnswer d room post (v .identifier) answer.Proceed) (cond e (decideAnswer d room post (v .identifier) answer.Diverted) (answer.Refused (refusal 8)))))) ≡ true
+          (cond c (decideAnswer d room post (identifierIn v) answer.Proceed) (cond e (decideAnswer d room post (identifierIn v) answer.Diverted) (answer.Refused (refusal 8)))))) ≡ true
       unfolding activateAnswer interrogateAnswer decideAnswer pastOne both refusal
       type-ok room post v true b c e =
           unless-ok (ltb room 300) 14 _ refl
           (unless-ok (not (recordsOk rows n (postsOf d))) 15 _ refl (unless-ok (namesDispatchers (d .profile .air) v) 21 answer.Acks refl acks))
       type-ok room post v false true c e = unless-ok (not (recordsOk rows n (postsOf d))) 15 _ refl (state _)
-      type-ok room post v false false true e = unless-ok (ltb room 300) 14 _ refl (end-ok post (v .identifier) answer.Proceed proceed)
-      type-ok room post v false false false true = unless-ok (ltb room 300) 14 _ refl (end-ok post (v .identifier) answer.Diverted diverted)
+      type-ok room post v false false true e = unless-ok (ltb room 300) 14 _ refl (end-ok post (identifierIn v) answer.Proceed proceed)
+      type-ok room post v false false false true = unless-ok (ltb room 300) 14 _ refl (end-ok post (identifierIn v) answer.Diverted diverted)
       type-ok room post v false false false false = refused (refusal 8) refl
 
       message-ok : (l : List ℕ) (room post bits : ℕ) → ok (messageAnswer d rows n l room post bits) ≡ true

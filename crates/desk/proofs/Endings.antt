@@ -8,6 +8,7 @@ use lib.ListN.{length}
 use Rattle.codec.specs.Codec.{Read, got, no}
 use Rattle.codec.specs.Stops.{refusal}
 use Rattle.codec.proofs.Good.{not-both}
+use Rattle.message.specs.Values.{identifierIn}
 use Rattle.message.specs.Reading.{readOf}
 use Rattle.message.specs.declared.Value.{Value}
 use Rattle.records.specs.Records.{recordsOk}
@@ -56,18 +57,18 @@ module _ (d : Desk) where
   cancel-not identifier e = rw e (unless-not (not (identifierOk identifier)) 16 _ refl)
 
   module _ (rows : List Record) (n room post : ℕ) where
-    type-not : (v : Value) (a b c e : Bool) → waits d (v .identifier) ≡ false
+    type-not : (v : Value) (a b c e : Bool) → waits d (identifierIn v) ≡ false
         → isEnding (cond a (activateAnswer d rows n room v) (cond b (interrogateAnswer d rows n post v)
-        (cond c (decideAnswer d room post (v .identifier) answer.Proceed) (cond e (decideAnswer d room post (v .identifier) answer.Diverted) (answer.Refused (refusal 8)))))) ≡ false
+        (cond c (decideAnswer d room post (identifierIn v) answer.Proceed) (cond e (decideAnswer d room post (identifierIn v) answer.Diverted) (answer.Refused (refusal 8)))))) ≡ false
     unfolding activateAnswer interrogateAnswer decideAnswer
     type-not v true b c e w =
         unless-not (ltb room 300) 14 _ (unless-not (not (recordsOk rows n (postsOf d))) 15 _ (unless-not (namesDispatchers (d .profile .air) v) 21 answer.Acks refl))
     type-not v false true c e w = unless-not (not (recordsOk rows n (postsOf d))) 15 _ refl
-    type-not v false false true e w = unless-not (ltb room 300) 14 _ (end-not post (v .identifier) answer.Proceed w)
-    type-not v false false false true w = unless-not (ltb room 300) 14 _ (end-not post (v .identifier) answer.Diverted w)
+    type-not v false false true e w = unless-not (ltb room 300) 14 _ (end-not post (identifierIn v) answer.Proceed w)
+    type-not v false false false true w = unless-not (ltb room 300) 14 _ (end-not post (identifierIn v) answer.Diverted w)
     type-not v false false false false w = refl
 
-    message-not : (r : Read Value) → waits d (valueBy r .identifier) ≡ false → isEnding (readAnswer r (λ v. sentAnswer d rows n room post v)) ≡ false
+    message-not : (r : Read Value) → waits d (identifierIn (valueBy r)) ≡ false → isEnding (readAnswer r (λ v. sentAnswer d rows n room post v)) ≡ false
     unfolding sentAnswer
     message-not (got v p) w = type-not v (eqb (v .pdu) 2) (eqb (v .pdu) 8) (eqb (v .pdu) 12) (eqb (v .pdu) 15) w
     message-not (no s) w = refl

@@ -10,6 +10,7 @@ use lib.ListN.{take}
 use Rattle.codec.specs.Codec.{Read, got, no}
 use Rattle.codec.specs.Stops.{refusal}
 use Rattle.codec.proofs.Good.{both-left, both-right}
+use Rattle.message.specs.Values.{identifierIn}
 use Rattle.message.specs.Messages.{isCarried, headerC, messageC}
 use Rattle.message.specs.Reading.{readOf}
 use Rattle.message.specs.declared.Value.{Value}
@@ -115,10 +116,10 @@ module _ (d : Desk) (rows : List Record) (n : ℕ) where
     interrogate-first = last (not (recordsOk rows n (postsOf d))) 15 _ refl
 
     decide-first : (a : Answer) → numberOf a ≡ 0
-        → numberOf (decideAnswer d room post (v .identifier) a)
-        ≡ firstOf ((14, ltb room 300) ∷ (19, not (waits d (v .identifier))) ∷ (20, not (waitsHere d post (v .identifier))) ∷ [])
+        → numberOf (decideAnswer d room post (identifierIn v) a)
+        ≡ firstOf ((14, ltb room 300) ∷ (19, not (waits d (identifierIn v))) ∷ (20, not (waitsHere d post (identifierIn v))) ∷ [])
     unfolding decideAnswer
-    decide-first a e = before (ltb room 300) 14 _ _ (end-first post (v .identifier) a e)
+    decide-first a e = before (ltb room 300) 14 _ _ (end-first post (identifierIn v) a e)
 
     -- the types that are carried are the four that posts send and the four that they don't
     sent-first : isCarried (v .pdu) ≡ true → numberOf (sentAnswer d rows n room post v) ≡ firstOf (notSent v ∷ typeOrder d rows n room post v)
@@ -129,11 +130,11 @@ module _ (d : Desk) (rows : List Record) (n : ℕ) where
         By : ℕ → Type 0
         By t =
             numberOf (cond (eqb t 2) (activateAnswer d rows n room v) (cond (eqb t 8) (interrogateAnswer d rows n post v)
-            (cond (eqb t 12) (decideAnswer d room post (v .identifier) answer.Proceed) (cond (eqb t 15) (decideAnswer d room post (v .identifier) answer.Diverted) (answer.Refused (refusal 8))))))
+            (cond (eqb t 12) (decideAnswer d room post (identifierIn v) answer.Proceed) (cond (eqb t 15) (decideAnswer d room post (identifierIn v) answer.Diverted) (answer.Refused (refusal 8))))))
             ≡ firstOf ((8, eqb t 3 || (eqb t 10 || (eqb t 13 || eqb t 16)))
             ∷ cond (eqb t 2) ((14, ltb room 300) ∷ (15, not (recordsOk rows n (postsOf d))) ∷ (21, namesDispatchers (d .profile .air) v) ∷ [])
             (cond (eqb t 8) ((15, not (recordsOk rows n (postsOf d))) ∷ [])
-            (cond (eqb t 12 || eqb t 15) ((14, ltb room 300) ∷ (19, not (waits d (v .identifier))) ∷ (20, not (waitsHere d post (v .identifier))) ∷ []) [])))
+            (cond (eqb t 12 || eqb t 15) ((14, ltb room 300) ∷ (19, not (waits d (identifierIn v))) ∷ (20, not (waitsHere d post (identifierIn v))) ∷ []) [])))
 
   after-reading : (room post : ℕ) (r : Read Value) → ((v : Value) (p : ℕ) → r ≡ got v p → isCarried (v .pdu) ≡ true)
       → numberOf (readAnswer r (λ v. sentAnswer d rows n room post v)) ≡ firstOf (readOrder r (λ v. notSent v ∷ typeOrder d rows n room post v))

@@ -11,6 +11,7 @@ use lib.ListN.{take}
 use Rattle.codec.specs.Codec.{Read, got, no}
 use Rattle.codec.proofs.Good.{both-left, not-both}
 use Rattle.profile.specs.Rules.{profileOk}
+use Rattle.message.specs.Values.{identifierIn}
 use Rattle.message.specs.Groups.{firstOf}
 use Rattle.message.specs.Reading.{readOf}
 use Rattle.message.specs.declared.Group.{Group}
@@ -111,17 +112,17 @@ module _ (d : Desk) (rows : List Record) (n : ℕ) (l : List ℕ) (room post bit
 
     -- what was read is answered by its type
     pub message-sent : r .found ≡ true → (area m : List ℕ) (s : Stepped)
-        → (s ≡ stepBy d (take n rows) post (r .value .users) (r .value .identifier) (sentAnswer d rows n room post (r .value)))
+        → (s ≡ stepBy d (take n rows) post (r .value .users) (identifierIn (r .value)) (sentAnswer d rows n room post (r .value)))
         × (m ≡ areaBy d (take n rows) post (r .value .users) area (sentAnswer d rows n room post (r .value)))
-        → (s ≡ stepBy d (take n rows) post (valueBy (readOf (d .profile) l bits) .users) (valueBy (readOf (d .profile) l bits) .identifier) (messageAnswer d rows n l room post bits))
+        → (s ≡ stepBy d (take n rows) post (valueBy (readOf (d .profile) l bits) .users) (identifierIn (valueBy (readOf (d .profile) l bits))) (messageAnswer d rows n l room post bits))
         × (m ≡ areaBy d (take n rows) post (valueBy (readOf (d .profile) l bits) .users) area (messageAnswer d rows n l room post bits))
     unfolding messageAnswer readingOf
     message-sent f area m s = rw (lt-ltb post (postsOf d) h) (go (readOf (d .profile) l bits) z)
       where
         go : (x : Read Value) → r ≡ readingOf x
-            → (s ≡ stepBy d (take n rows) post (r .value .users) (r .value .identifier) (sentAnswer d rows n room post (r .value)))
+            → (s ≡ stepBy d (take n rows) post (r .value .users) (identifierIn (r .value)) (sentAnswer d rows n room post (r .value)))
             × (m ≡ areaBy d (take n rows) post (r .value .users) area (sentAnswer d rows n room post (r .value)))
-            → (s ≡ stepBy d (take n rows) post (valueBy x .users) (valueBy x .identifier) (readAnswer x (λ v. sentAnswer d rows n room post v)))
+            → (s ≡ stepBy d (take n rows) post (valueBy x .users) (identifierIn (valueBy x)) (readAnswer x (λ v. sentAnswer d rows n room post v)))
             × (m ≡ areaBy d (take n rows) post (valueBy x .users) area (readAnswer x (λ v. sentAnswer d rows n room post v)))
         go (got v q) e p = rw (ap (λ (y : Reading). y .value) e) at p
         go (no t) e p = not-both (sym (ap (λ (y : Reading). y .found) e) ∙ f)

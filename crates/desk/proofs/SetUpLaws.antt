@@ -8,7 +8,7 @@ use borrow.Author.Tests.{lt-ltb, le-ltb, ltb-true}
 use Rattle.codec.proofs.Good.{both-left}
 use Rattle.codec.specs.Stops.{refusal}
 use Rattle.message.specs.Addresses.{nobody}
-use Rattle.message.specs.Values.{plainV}
+use Rattle.message.specs.Values.{blank}
 use Rattle.places.specs.Held.{admitsOf}
 use Rattle.places.specs.Spots.{placeOf, lowestFree, takeOf}
 use Rattle.places.specs.declared.Places.{Places}
@@ -67,7 +67,7 @@ module _ (d : Desk) (post identifier : ℕ) where
 
   pub admitted-is : (at : Spot) (x : Laid) (l m : List ℕ) (next : Places) (marks : Marks) → admitsOf (d .profile .shares) (placesOf d) post ≡ true
       → at ≡ lowestFree (placesOf d)
-      → (x ≡ laidOf (d .profile .air) (plainV 10 nobody 0 0 false nobody ∷ [])) × (m ≡ layAll (d .profile .air) l (plainV 10 nobody 0 0 false nobody ∷ []))
+      → (x ≡ laidOf (d .profile .air) (blank 10 ∷ [])) × (m ≡ layAll (d .profile .air) l (blank 10 ∷ []))
       → next ≡ record { place = takeOf (placesOf d) (at .place) identifier post } → marks ≡ noMarks
       → (record { answer = answer.Admitted post (at .place); laid = x; desk = record { profile = d .profile; places = next }; marks = marks }
       ≡ plainStep d identifier (admitAnswer d post))

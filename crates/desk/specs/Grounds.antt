@@ -6,6 +6,7 @@ use mathlib.Core.List.{List, [], _∷_}
 use lib.Dec.{eqb, ltb}
 use lib.ListN.{take}
 use Rattle.codec.specs.Codec.{Read, got, no, both}
+use Rattle.message.specs.Values.{identifierIn}
 use Rattle.message.specs.Reading.{readOf}
 use Rattle.message.specs.declared.Value.{Value}
 use Rattle.places.specs.Held.{placeIn, admitsOf}
@@ -88,7 +89,7 @@ abbrev pub typeOrder : Desk → List Record → ℕ → ℕ → ℕ → Value �
 typeOrder d rows n room post v =
     cond (eqb (v .pdu) 2) (shortArea room ∷ badRecords d rows n ∷ dispatchersGiven d v ∷ [])
     (cond (eqb (v .pdu) 8) (badRecords d rows n ∷ [])
-    (cond (eqb (v .pdu) 12 || eqb (v .pdu) 15) (shortArea room ∷ notWaiting d (v .identifier) ∷ waitsElsewhere d post (v .identifier) ∷ []) []))
+    (cond (eqb (v .pdu) 12 || eqb (v .pdu) 15) (shortArea room ∷ notWaiting d (identifierIn v) ∷ waitsElsewhere d post (identifierIn v) ∷ []) []))
 
 -- a refusal of reading stands in the order by its own number
 abbrev pub readOrder : Read Value → (Value → List Ground) → List Ground

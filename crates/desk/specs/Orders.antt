@@ -12,6 +12,7 @@ use Rattle.profile.specs.declared.Kind.{Kind}
 use Rattle.profile.specs.declared.Kind.the-variants as kind
 use Rattle.profile.specs.declared.Air.{Air}
 use Rattle.message.specs.Groups.{firstOf}
+use Rattle.message.specs.Values.{identifierIn, givenAt}
 use Rattle.message.specs.Reading.{readOf}
 use Rattle.message.specs.declared.Value.{Value}
 use Rattle.places.specs.Held.{placeIn, admitsOf}
@@ -62,7 +63,7 @@ someoneBy kind.FirstLast = true
 
 -- dispatcher addresses are given; an option with range meaning "none" is as no option
 unfoldable pub namesDispatchers : Air → Value → Bool
-namesDispatchers air v = both (v .option) (someoneBy (meaningIn (air .meanings) (v .dispatchers .range) .kind))
+namesDispatchers air v = both (givenAt 0 v) (someoneBy (meaningIn (air .meanings) (v .dispatchers .range) .kind))
 
 -- ACTIVATE: 14, 15, 21
 unfoldable pub activateAnswer : Desk → List Record → ℕ → ℕ → Value → Answer
@@ -89,8 +90,8 @@ unfoldable pub sentAnswer : Desk → List Record → ℕ → ℕ → ℕ → Val
 sentAnswer d rows n room post v =
     cond (eqb (v .pdu) 2) (activateAnswer d rows n room v)
     (cond (eqb (v .pdu) 8) (interrogateAnswer d rows n post v)
-    (cond (eqb (v .pdu) 12) (decideAnswer d room post (v .identifier) answer.Proceed)
-    (cond (eqb (v .pdu) 15) (decideAnswer d room post (v .identifier) answer.Diverted) (answer.Refused (refusal 8)))))
+    (cond (eqb (v .pdu) 12) (decideAnswer d room post (identifierIn v) answer.Proceed)
+    (cond (eqb (v .pdu) 15) (decideAnswer d room post (identifierIn v) answer.Diverted) (answer.Refused (refusal 8)))))
 
 abbrev pub readAnswer : Read Value → (Value → Answer) → Answer
 readAnswer (got v n) after = after v

@@ -5,9 +5,8 @@ use mathlib.Core.List.{List, [], _∷_}
 use lib.ListN.{take, length}
 use Rattle.codec.specs.Codec.{Read, got, no}
 use Rattle.profile.specs.declared.Profile.{Profile}
-use Rattle.message.specs.Addresses.{nobody}
 use Rattle.message.specs.Groups.{noGroup}
-use Rattle.message.specs.Values.{plainV, noValue}
+use Rattle.message.specs.Values.{blank, noValue, identifierIn}
 use Rattle.message.specs.Reading.{readOf}
 use Rattle.message.specs.declared.Group.{Group}
 use Rattle.message.specs.declared.Value.{Value}
@@ -50,7 +49,7 @@ usersOf p l (event.Cancel identifier) = noGroup
 
 -- the call that an event speaks of
 abbrev pub identifierOf : Profile → List ℕ → Event → ℕ
-identifierOf p l (event.Message post bits) = valueBy (readOf p l bits) .identifier
+identifierOf p l (event.Message post bits) = identifierIn (valueBy (readOf p l bits))
 identifierOf p l (event.SetUp caller called identifier) = identifier
 identifierOf p l (event.Reject post identifier) = identifier
 identifierOf p l (event.Cancel identifier) = identifier
@@ -87,9 +86,9 @@ messagesBy (answer.Refused s) = []
 messagesBy answer.Acks = []
 messagesBy (answer.State k) = []
 messagesBy answer.Free = []
-messagesBy (answer.Admitted post place) = plainV 10 nobody 0 0 false nobody ∷ []
-messagesBy answer.Proceed = plainV 13 nobody 0 0 false nobody ∷ []
-messagesBy answer.Diverted = plainV 16 nobody 0 0 false nobody ∷ []
+messagesBy (answer.Admitted post place) = blank 10 ∷ []
+messagesBy answer.Proceed = blank 13 ∷ []
+messagesBy answer.Diverted = blank 16 ∷ []
 messagesBy answer.Rejected = []
 messagesBy answer.Cancelled = []
 

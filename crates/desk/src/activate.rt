@@ -5,6 +5,7 @@ ghost use Prim.Native.Nat.{_≤_};
 ghost use lib.ListN.{length, take};
 ghost use Rattle.profile.specs.Rules.{profileOk};
 ghost use Rattle.message.specs.Groups.{groupC};
+ghost use Rattle.message.specs.Values.{identifierIn};
 ghost use Rattle.validity.specs.Validity.{validOf};
 ghost use Rattle.desk.specs.Orders.{someoneBy, namesDispatchers, activateAnswer};
 ghost use Rattle.desk.specs.Steps.{acksStep, acksArea, stepBy, areaBy};
@@ -28,7 +29,7 @@ pub(crate) fn activate(
     out: &mut [u8],
 ) -> Stepped
     requires { ⌜ (profileOk (desk .profile) ≡ true) × ((validOf (desk .profile .air) value ≡ true) × (value .pdu ≡ 2)) ⌝ }
-    ensures { λ r. ⌜ (r ≡ stepBy desk (take count rows) post (value .users) (value .identifier) (activateAnswer desk rows count (length (now (out .entry))) value))
+    ensures { λ r. ⌜ (r ≡ stepBy desk (take count rows) post (value .users) (identifierIn value) (activateAnswer desk rows count (length (now (out .entry))) value))
         × (now (out .exit) ≡ areaBy desk (take count rows) post (value .users) (now (out .entry)) (activateAnswer desk rows count (length (now (out .entry))) value)) ⌝ }
 {
     let profile = desk.profile;
@@ -80,7 +81,7 @@ fn names_dispatchers(air: Air, value: Value) -> bool
 {
     let meanings = air.meanings;
     let dispatchers = value.dispatchers;
-    if value.option {
+    if message::given_at(value, 0) {
         return names_someone(profile::meaning_of(meanings, dispatchers.range));
     }
     false

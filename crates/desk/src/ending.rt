@@ -34,7 +34,7 @@ pub(crate) fn accept(desk: Desk, post: u8, identifier: u32, out: &mut [u8]) -> S
     let e = ending_of(desk, post, identifier);
     if e.found {
         let profile = desk.profile;
-        let accepted = message::plain_value(13, message::NOBODY, 0, 0, false, message::NOBODY);
+        let accepted = message::blank(13);
         let laid = sending::send(profile, sending::no_laid(), accepted, out);
         return ended(desk, e.place, Answer::Proceed, laid);
     }
@@ -53,7 +53,7 @@ pub(crate) fn divert(desk: Desk, post: u8, identifier: u32, out: &mut [u8]) -> S
     let e = ending_of(desk, post, identifier);
     if e.found {
         let profile = desk.profile;
-        let diverted = message::plain_value(16, message::NOBODY, 0, 0, false, message::NOBODY);
+        let diverted = message::blank(16);
         let laid = sending::send(profile, sending::no_laid(), diverted, out);
         return ended(desk, e.place, Answer::Diverted, laid);
     }

@@ -3,6 +3,7 @@ ghost use mathlib.Core.Path.{_≡_};
 ghost use mathlib.Core.Bool.{true};
 ghost use lib.ListN.{length, take};
 ghost use Rattle.profile.specs.Rules.{profileOk};
+ghost use Rattle.message.specs.Values.{identifierIn};
 ghost use Rattle.message.specs.Reading.{readOf};
 ghost use Rattle.validity.specs.Validity.{validOf};
 ghost use Rattle.desk.specs.Orders.{interrogateAnswer, sentAnswer, messageAnswer};
@@ -26,7 +27,7 @@ pub(crate) fn post_message(
     bits: u64,
 ) -> Stepped
     requires { ⌜ profileOk (desk .profile) ≡ true ⌝ }
-    ensures { λ r. ⌜ (r ≡ stepBy desk (take count rows) post (valueBy (readOf (desk .profile) (now (message .entry)) bits) .users) (valueBy (readOf (desk .profile) (now (message .entry)) bits) .identifier) (messageAnswer desk rows count (now (message .entry)) (length (now (out .entry))) post bits))
+    ensures { λ r. ⌜ (r ≡ stepBy desk (take count rows) post (valueBy (readOf (desk .profile) (now (message .entry)) bits) .users) (identifierIn (valueBy (readOf (desk .profile) (now (message .entry)) bits))) (messageAnswer desk rows count (now (message .entry)) (length (now (out .entry))) post bits))
         × (now (out .exit) ≡ areaBy desk (take count rows) post (valueBy (readOf (desk .profile) (now (message .entry)) bits) .users) (now (out .entry)) (messageAnswer desk rows count (now (message .entry)) (length (now (out .entry))) post bits)) ⌝ }
 {
     let profile = desk.profile;
@@ -53,7 +54,7 @@ fn sent(
     value: Value,
 ) -> Stepped
     requires { ⌜ (profileOk (desk .profile) ≡ true) × (validOf (desk .profile .air) value ≡ true) ⌝ }
-    ensures { λ r. ⌜ (r ≡ stepBy desk (take count rows) post (value .users) (value .identifier) (sentAnswer desk rows count (length (now (out .entry))) post value))
+    ensures { λ r. ⌜ (r ≡ stepBy desk (take count rows) post (value .users) (identifierIn value) (sentAnswer desk rows count (length (now (out .entry))) post value))
         × (now (out .exit) ≡ areaBy desk (take count rows) post (value .users) (now (out .entry)) (sentAnswer desk rows count (length (now (out .entry))) post value)) ⌝ }
 {
     let pdu = value.pdu;
@@ -64,16 +65,26 @@ fn sent(
         return interrogate(desk, rows, count, post, value);
     }
     if pdu == 12 {
-        return ending::accept(desk, post, value.identifier, out);
+        return ending::accept(
+            desk,
+            post,
+            message::number_at(value, message::IDENTIFIER_AT),
+            out,
+        );
     }
     if pdu == 15 {
-        return ending::divert(desk, post, value.identifier, out);
+        return ending::divert(
+            desk,
+            post,
+            message::number_at(value, message::IDENTIFIER_AT),
+            out,
+        );
     }
     kept::refused(desk, codec::refuse(8))
 }
 
 fn interrogate(desk: Desk, rows: [Record; 128], count: usize, post: u8, value: Value) -> Stepped
-    ensures { λ r. ⌜ r ≡ plainStep desk (value .identifier) (interrogateAnswer desk rows count post value) ⌝ }
+    ensures { λ r. ⌜ r ≡ plainStep desk (identifierIn value) (interrogateAnswer desk rows count post value) ⌝ }
 {
     let profile = desk.profile;
     let air = profile.air;
@@ -84,6 +95,6 @@ fn interrogate(desk: Desk, rows: [Record; 128], count: usize, post: u8, value: V
     }
     kept::keeps(
         desk,
-        Answer::State(records::state_of(air, rows, count, post, message::first_of(users))),
+        Answer::State(records::state_of(air, rows, count, post, message::address_at(users, 0))),
     )
 }

@@ -64,7 +64,7 @@ fn admit(desk: Desk, post: u8, identifier: u32, out: &mut [u8]) -> Stepped
         return kept::refused(desk, codec::refuse(18));
     }
     let at = places::lowest_free(places);
-    let intercepted = message::plain_value(10, message::NOBODY, 0, 0, false, message::NOBODY);
+    let intercepted = message::blank(10);
     let laid = sending::send(profile, sending::no_laid(), intercepted, out);
     let next = places::take(places, at.place, identifier as u16, post);
     Stepped {

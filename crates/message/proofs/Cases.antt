@@ -19,7 +19,7 @@ use Rattle.message.specs.Acks.{maskC, maskedC, resultC}
 use Rattle.message.specs.Numbers as place
 use Rattle.message.specs.Numbers.{elements, elementOf, widths, widthOf}
 use Rattle.message.specs.Values.{blank, withNumber, withUsers, withDispatchers, withGiven}
-use Rattle.message.specs.Rows.{rowOf, partsC, puts, eachC, optionsC, putOptions, firstParts}
+use Rattle.message.specs.Rows.{table, rowIn, rowOf, partsC, puts, eachC, optionsC, putOptions, firstParts}
 use Rattle.message.specs.Messages.{bodyC, isKnown, isCarried, headerC, messageC}
 use Rattle.message.specs.Reading.{wholeOf, lengthOk, readBits, readOf}
 use Rattle.message.specs.declared.Value.{Value}
@@ -74,5 +74,5 @@ cases =
     ∷ []
 
 pub cases-right : list.map gives cases ≡ list.map wants cases
-unfolding bitAt fieldAt both number vecRead flag every sum meaningOk meaningIn airOk shareOk shareIn sharesOk profileOk sample sampleMeanings sampleShare kindC extensionC addressC addressesIn allowedIn nobodies placesC rangeOk endsOk addressesC rangeC groupC noGroup oneGroup spanIn spanOf maskC maskedC resultC elements elementOf widths widthOf blank rowOf partsC puts eachC optionsC putOptions firstParts bodyC isKnown isCarried headerC messageC wholeOf lengthOk readBits readOf
+unfolding bitAt fieldAt both number vecRead flag every sum meaningOk meaningIn airOk shareOk shareIn sharesOk profileOk sample sampleMeanings sampleShare kindC extensionC addressC addressesIn allowedIn nobodies placesC rangeOk endsOk addressesC rangeC groupC noGroup oneGroup spanIn spanOf maskC maskedC resultC elements elementOf widths widthOf blank rowOf rowIn table partsC puts eachC optionsC putOptions firstParts bodyC isKnown isCarried headerC messageC wholeOf lengthOk readBits readOf
 cases-right = refl

@@ -16,7 +16,7 @@ use Rattle.message.specs.Elements as element
 use Rattle.message.specs.Numbers.{elementOf, widthOf}
 use Rattle.message.specs.Groups.{noGroup, nobodies}
 use Rattle.message.specs.Values.{blank, sameValue}
-use Rattle.message.specs.Rows.{rowOf, Holds, partC, put, get, Tuple, partsC, puts, gets, Options, orElse, putOption, putOptions, getOptions, someOf, noneOf, eachC, optionsC, firstParts, partsOf, optionsOf}
+use Rattle.message.specs.Rows.{table, rowIn, rowOf, Holds, partC, put, get, Tuple, partsC, puts, gets, Options, orElse, putOption, putOptions, getOptions, someOf, noneOf, eachC, optionsC, firstParts, partsOf, optionsOf}
 use Rattle.message.specs.Messages.{fill, taken, holdsJust, messageOf, bodyC, isKnown, isCarried, headerC, messageC}
 use Rattle.message.specs.declared.Address.{Address}
 use Rattle.message.specs.declared.Group.{Group}
@@ -86,7 +86,7 @@ arm true t r s h k = h
 arm false t r s h k = k
 
 back-of : (t : ℕ) → Back t (partsOf (rowOf t)) (optionsOf (rowOf t))
-unfolding rowOf firstParts gets puts getOptions putOptions blank noGroup nobodies
+unfolding rowOf rowIn table firstParts gets puts getOptions putOptions blank noGroup nobodies
 back-of t =
     arm (eqb t 2) t _ _ (λ x y. ap (λ (o : Optional Group). (x, (o, tt))) (given-back (y .0) _))
     (arm (eqb t 3) t _ _ (λ x y. refl)

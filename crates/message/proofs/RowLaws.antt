@@ -1,13 +1,13 @@
 -- What is put into a value and taken out of it again; the tables past their ends, and widths that fit a number of 32 bits. Assumes nothing.
 use Prim.Native.Nat.{ℕ, zero, suc, _≤_}
 use mathlib.Core.Path.{_≡_, refl, sym, ap, _∙_}
-use mathlib.Core.Bool.{Bool, true, false, not, _||_}
+use mathlib.Core.Bool.{Bool, true, false, not, cond, _||_}
 use mathlib.Core.List.{List, [], _∷_}
 use native.Mathlib.Omega.{arith}
-use lib.Dec.{leb}
+use lib.Dec.{eqb, leb}
 use lib.ListN.{length, getD, set, List·getD-eq-default}
 use lib.Seq.{set-getD}
-use borrow.Author.Tests.{leb-true}
+use borrow.Author.Tests.{eqb-true, leb-true}
 use Rattle.codec.specs.Codec.{both}
 use Rattle.codec.specs.Options.{Optional, absent, there, isThere}
 use Rattle.codec.proofs.Good.{both-left, both-right, not-both}
@@ -15,10 +15,11 @@ use Rattle.message.specs.Addresses.{nobody}
 use Rattle.message.specs.Numbers as place
 use Rattle.message.specs.Numbers.{elements, elementOf, widths, widthOf}
 use Rattle.message.specs.Values.{numberAt, givenAt, withNumber, withGiven}
-use Rattle.message.specs.Rows.{Holds, put, get, Options, orElse, ifGiven, putOption, copyOption, putOptions, someOf, noneOf}
+use Rattle.message.specs.Rows.{table, rowIn, rowOf, Holds, put, get, Options, orElse, ifGiven, putOption, copyOption, putOptions, someOf, noneOf}
 use Rattle.message.specs.declared.Group.{Group}
 use Rattle.message.specs.declared.Part.{Part}
 use Rattle.message.specs.declared.Part.the-variants as part
+use Rattle.message.specs.declared.Row.{Row}
 use Rattle.message.specs.declared.Value.{Value}
 
 -- ---- past the end of an array
@@ -33,6 +34,25 @@ element-none k h = sym (List·getD-eq-default elements 0 h)
 pub width-none : (k : ℕ) → 12 ≤ k → 0 ≡ widthOf k
 unfolding widthOf widths
 width-none k h = sym (List·getD-eq-default widths 0 h)
+
+-- ---- every row has seven slots for its options
+
+abbrev sized : List (ℕ × Row) → Bool
+sized [] = true
+sized (x ∷ rest) = both (eqb (length (x .1 .optional)) 7) (sized rest)
+
+sized-in : (rows : List (ℕ × Row)) (t : ℕ) → sized rows ≡ true → length (rowIn rows t .optional) ≡ 7
+unfolding rowIn
+sized-in [] t e = refl
+sized-in (x ∷ rest) t e = go (eqb t (x .0)) (sized-in rest t (both-right (eqb (length (x .1 .optional)) 7) _ e))
+  where
+    go : (b : Bool) → length (rowIn rest t .optional) ≡ 7 → length (cond b (x .1) (rowIn rest t) .optional) ≡ 7
+    go true h = eqb-true _ _ (both-left _ _ e)
+    go false h = h
+
+pub seven-options : (t : ℕ) → length (rowOf t .optional) ≡ 7
+unfolding rowOf table both
+seven-options t = sized-in table t refl
 
 -- ---- no number is wider than 32 bits
 

@@ -62,26 +62,34 @@ dispatchers = part.Dispatchers
 abbrev pub dispatcher : Part
 dispatcher = part.Dispatcher
 
--- by PDU type: document 01's table; any other type is not carried
-unfoldable pub rowOf : ℕ → Row
-rowOf t =
+-- document 01's table, by PDU type
+unfoldable pub table : List (ℕ × Row)
+table =
     -- ACTIVATE
-    cond (eqb t 2) (row (users ∷ []) (dispatchers ∷ []))
+    (2, row (users ∷ []) (dispatchers ∷ []))
     -- ACTIVATE ACK
-    (cond (eqb t 3) (row (users ∷ masked ∷ result ∷ []) [])
+    ∷ (3, row (users ∷ masked ∷ result ∷ []) [])
     -- INTERROGATE
-    (cond (eqb t 8) (row (user ∷ []) [])
+    ∷ (8, row (user ∷ []) [])
     -- INTERCEPTED
-    (cond (eqb t 10) (row (cause ∷ []) (dispatcher ∷ []))
+    ∷ (10, row (cause ∷ []) (dispatcher ∷ []))
     -- ACCEPT
-    (cond (eqb t 12) (row (identifier ∷ []) [])
+    ∷ (12, row (identifier ∷ []) [])
     -- ACCEPTED
-    (cond (eqb t 13) (row [] [])
+    ∷ (13, row [] [])
     -- DIVERT
-    (cond (eqb t 15) (row (identifier ∷ []) [])
+    ∷ (15, row (identifier ∷ []) [])
     -- DIVERTED
-    (cond (eqb t 16) (row (cause ∷ []) (dispatcher ∷ []))
-    noRow)))))))
+    ∷ (16, row (cause ∷ []) (dispatcher ∷ []))
+    ∷ []
+
+-- any other type is not carried
+unfoldable pub rowIn : List (ℕ × Row) → ℕ → Row
+rowIn [] t = noRow
+rowIn ((k, r) ∷ rest) t = cond (eqb t k) r (rowIn rest t)
+
+unfoldable pub rowOf : ℕ → Row
+rowOf t = rowIn table t
 
 -- ---- the parts
 

@@ -5,6 +5,7 @@ use mathlib.Core.List.{List, [], _∷_}
 use lib.Dec.{eqb}
 use lib.ListN.{getD, set, replicate}
 use Rattle.codec.specs.Codec.{both}
+use Rattle.message.specs.Numbers as place
 use Rattle.message.specs.Groups.{noGroup}
 use Rattle.message.specs.declared.Address.{Address}
 use Rattle.message.specs.declared.Group.{Group}
@@ -23,6 +24,10 @@ noValue = blank 0
 -- the number at a place (Numbers)
 abbrev pub numberAt : ℕ → Value → ℕ
 numberAt k v = getD (v .numbers) k 0
+
+-- the call that it speaks of
+abbrev pub identifierIn : Value → ℕ
+identifierIn v = numberAt place.identifier v
 
 -- the i-th option of its row is there
 abbrev pub givenAt : ℕ → Value → Bool

@@ -8,11 +8,11 @@ use Rattle.codec.specs.declared.Stop.{Stop}
 use Rattle.message.specs.declared.Address.{Address}
 use Rattle.message.specs.declared.Group.{Group}
 use Rattle.message.specs.declared.Value.{Value}
-use Rattle.reading.specs.Answers.{placesOf, groupOf, optionOf, bodyOf}
+use Rattle.reading.specs.Answers.{placesOf, groupOf, bodyOf, eachOf}
 use Rattle.reading.specs.declared.group.PlacesRead.{PlacesRead}
 use Rattle.reading.specs.declared.group.GroupRead.{GroupRead}
-use Rattle.reading.specs.declared.option.OptionRead.{OptionRead}
-use Rattle.reading.specs.declared.body.Body.{Body}
+use Rattle.reading.specs.declared.option.Each.{Each}
+use Rattle.reading.specs.declared.part.Body.{Body}
 
 -- what such an answer R of a reading of A says: `answer` makes it, `value` and `next` and `stop` take it apart
 module _ {A R : Type 0} (answer : Read A → R) (found : R → Bool) (value : R → A) (next : R → ℕ) (stop : R → Stop)
@@ -46,15 +46,15 @@ unfolding groupOf
 group-no =
     answer-no groupOf (λ (r : GroupRead). r .found) (λ (r : GroupRead). r .group) (λ (r : GroupRead). r .next) (λ (r : GroupRead). r .stop) (λ a p. refl) (λ s. refl) (λ a p. refl) (λ s. refl)
 
-pub option-got : (rd : Read (Bool × Group)) (r : OptionRead) → r ≡ optionOf rd → r .found ≡ true → rd ≡ got (r .present, r .group) (r .next)
-unfolding optionOf
-option-got =
-    answer-got optionOf (λ (r : OptionRead). r .found) (λ (r : OptionRead). (r .present, r .group)) (λ (r : OptionRead). r .next) (λ (r : OptionRead). r .stop) (λ a p. refl) (λ s. refl) (λ a p. refl) (λ s. refl)
+pub each-got : (rd : Read (Bool × Value)) (r : Each) → r ≡ eachOf rd → r .found ≡ true → rd ≡ got (r .some, r .value) (r .next)
+unfolding eachOf
+each-got =
+    answer-got eachOf (λ (r : Each). r .found) (λ (r : Each). (r .some, r .value)) (λ (r : Each). r .next) (λ (r : Each). r .stop) (λ a p. refl) (λ s. refl) (λ a p. refl) (λ s. refl)
 
-pub option-no : (rd : Read (Bool × Group)) (r : OptionRead) → r ≡ optionOf rd → r .found ≡ false → rd ≡ no (r .stop)
-unfolding optionOf
-option-no =
-    answer-no optionOf (λ (r : OptionRead). r .found) (λ (r : OptionRead). (r .present, r .group)) (λ (r : OptionRead). r .next) (λ (r : OptionRead). r .stop) (λ a p. refl) (λ s. refl) (λ a p. refl) (λ s. refl)
+pub each-no : (rd : Read (Bool × Value)) (r : Each) → r ≡ eachOf rd → r .found ≡ false → rd ≡ no (r .stop)
+unfolding eachOf
+each-no =
+    answer-no eachOf (λ (r : Each). r .found) (λ (r : Each). (r .some, r .value)) (λ (r : Each). r .next) (λ (r : Each). r .stop) (λ a p. refl) (λ s. refl) (λ a p. refl) (λ s. refl)
 
 pub body-got : (rd : Read Value) (r : Body) → r ≡ bodyOf rd → r .found ≡ true → rd ≡ got (r .value) (r .next)
 unfolding bodyOf

@@ -6,7 +6,7 @@ use mathlib.Core.List.{List}
 use lib.Dec.{leb}
 use Rattle.bits.specs.Fields.{bitAt}
 use Rattle.codec.specs.Stops.{short, noStop}
-use Rattle.codec.specs.Codec.{Read, got, no, bind, number}
+use Rattle.codec.specs.Codec.{Read, got, no, number}
 use Rattle.message.specs.Groups.{nobodies, noGroup}
 use Rattle.message.specs.Values.{noValue}
 use Rattle.message.specs.declared.Address.{Address}
@@ -22,14 +22,12 @@ use Rattle.reading.specs.declared.address.AddressTook.{AddressTook}
 use Rattle.reading.specs.declared.address.AddressTook.the-variants as address
 use Rattle.reading.specs.declared.group.PlacesRead.{PlacesRead}
 use Rattle.reading.specs.declared.group.GroupRead.{GroupRead}
-use Rattle.reading.specs.declared.option.OptionRead.{OptionRead}
-use Rattle.reading.specs.declared.option.OptionTook.{OptionTook}
-use Rattle.reading.specs.declared.option.OptionTook.the-variants as option
+use Rattle.reading.specs.declared.option.Each.{Each}
 use Rattle.reading.specs.declared.ack.MaskedTook.{MaskedTook}
 use Rattle.reading.specs.declared.ack.MaskedTook.the-variants as masked
 use Rattle.reading.specs.declared.ack.ResultTook.{ResultTook}
 use Rattle.reading.specs.declared.ack.ResultTook.the-variants as result
-use Rattle.reading.specs.declared.body.Body.{Body}
+use Rattle.reading.specs.declared.part.Body.{Body}
 use Rattle.reading.specs.declared.header.HeaderTook.{HeaderTook}
 use Rattle.reading.specs.declared.header.HeaderTook.the-variants as header
 use Rattle.reading.specs.declared.Reading.{Reading}
@@ -71,21 +69,7 @@ unfoldable pub groupOf : Read Group → GroupRead
 groupOf (got g p) = record { found = true; stop = noStop; next = p; group = g }
 groupOf (no s) = record { found = false; stop = s; next = 0; group = noGroup }
 
--- ---- options
-
-unfoldable pub optionOf : Read (Bool × Group) → OptionRead
-optionOf (got x p) = record { found = true; stop = noStop; next = p; present = x .0; group = x .1 }
-optionOf (no s) = record { found = false; stop = s; next = 0; present = false; group = noGroup }
-
--- what is there after a P-bit of 1
-abbrev pub present : {A : Type 0} → Read A → Read (Bool × A)
-present r = bind r (λ a q. got (true, a) q)
-
-abbrev pub optionAddressOf : OptionTook → Read (Bool × Address)
-optionAddressOf (option.Got o a p) = got (o, a) p
-optionAddressOf (option.Refused s) = no s
-
--- ---- acks, bodies, headers
+-- ---- acks, parts, options, headers
 
 abbrev pub maskedOf : MaskedTook → Read (Bool × ℕ)
 maskedOf (masked.Got b m p) = got (b, m) p
@@ -98,6 +82,11 @@ resultOf (result.Refused s) = no s
 unfoldable pub bodyOf : Read Value → Body
 bodyOf (got v p) = record { found = true; stop = noStop; next = p; value = v }
 bodyOf (no s) = record { found = false; stop = s; next = 0; value = noValue }
+
+-- what the options so far make of a value, and whether one is there
+unfoldable pub eachOf : Read (Bool × Value) → Each
+eachOf (got x p) = record { found = true; stop = noStop; next = p; some = x .0; value = x .1 }
+eachOf (no s) = record { found = false; stop = s; next = 0; some = false; value = noValue }
 
 abbrev pub headerOf : HeaderTook → Read (ℕ × ℕ)
 headerOf (header.Got x t p) = got (x, t) p

@@ -25,7 +25,7 @@ pub(crate) fn read_masked(count: usize, buf: &[u8], bits: usize, at: usize) -> M
     requires { ⌜ count ≤ 64 ⌝ }
     ensures { λ r. ⌜ maskedOf r ≡ maskedC count .read (bitAt (now (buf .entry))) bits at ⌝ }
 {
-    match element::bit(element::MASK_PRESENT, buf, bits, at) {
+    match element::bit(message::MASK_PRESENT, buf, bits, at) {
         FlagTook::Refused(s) => MaskedTook::Refused(s),
         FlagTook::Got(b, p) => {
             if b {
@@ -43,7 +43,7 @@ fn read_mask(count: usize, buf: &[u8], bits: usize, at: usize) -> Took
     requires { ⌜ count ≤ 64 ⌝ }
     ensures { λ r. ⌜ tookOf r ≡ maskC count .read (bitAt (now (buf .entry))) bits at ⌝ }
 {
-    match codec::take(element::MASK, buf, bits, at, count) {
+    match codec::take(message::MASK, buf, bits, at, count) {
         Took::Refused(s) => Took::Refused(s),
         Took::Got(v, p) => Took::Got(aligned(v, count), p),
     }
@@ -63,13 +63,13 @@ fn aligned(v: u64, count: usize) -> u64
 pub(crate) fn read_result(buf: &[u8], bits: usize, at: usize) -> ResultTook
     ensures { λ r. ⌜ resultOf r ≡ resultC .read (bitAt (now (buf .entry))) bits at ⌝ }
 {
-    match element::byte(element::RESULT, buf, bits, at, 1) {
+    match element::byte(message::RESULT, buf, bits, at, 1) {
         ByteTook::Refused(s) => ResultTook::Refused(s),
         ByteTook::Got(result, p) => {
             if result == 1 {
                 return ResultTook::Got(result, 0, p);
             }
-            match element::byte(element::REASON, buf, bits, p, 7) {
+            match element::byte(message::REASON, buf, bits, p, 7) {
                 ByteTook::Refused(s) => ResultTook::Refused(s),
                 ByteTook::Got(reason, q) => ResultTook::Got(result, reason, q),
             }

@@ -19,7 +19,7 @@ pub(crate) fn read_address(buf: &[u8], bits: usize, at: usize) -> AddressTook
 {
     match read_kind(buf, bits, at) {
         ByteTook::Refused(s) => AddressTook::Refused(s),
-        ByteTook::Got(kind, p) => match element::word(element::SSI, buf, bits, p, 24) {
+        ByteTook::Got(kind, p) => match element::word(message::SSI, buf, bits, p, 24) {
             WordTook::Refused(s) => AddressTook::Refused(s),
             WordTook::Got(ssi, q) => match read_extension(kind, buf, bits, q) {
                 WordTook::Refused(s) => AddressTook::Refused(s),
@@ -39,7 +39,7 @@ pub(crate) fn read_address(buf: &[u8], bits: usize, at: usize) -> AddressTook
 fn read_kind(buf: &[u8], bits: usize, at: usize) -> ByteTook
     ensures { λ r. ⌜ byteOf r ≡ kindC .read (bitAt (now (buf .entry))) bits at ⌝ }
 {
-    match element::byte(element::KIND, buf, bits, at, 2) {
+    match element::byte(message::KIND, buf, bits, at, 2) {
         ByteTook::Refused(s) => ByteTook::Refused(s),
         ByteTook::Got(kind, p) => {
             if kind == 1 {
@@ -59,5 +59,5 @@ fn read_extension(kind: u8, buf: &[u8], bits: usize, at: usize) -> WordTook
     if kind == 1 {
         return WordTook::Got(0, at);
     }
-    element::word(element::EXTENSION, buf, bits, at, 24)
+    element::word(message::EXTENSION, buf, bits, at, 24)
 }

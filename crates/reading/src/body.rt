@@ -1,65 +1,52 @@
-// What each message has after the first 11 bits: its row's parts, one after the other.
+// What each message has after the first 11 bits: its row's parts, one after the other, then its options.
 ghost use mathlib.Core.Path.{_≡_};
-ghost use Prim.Native.Nat.{min};
 ghost use Rattle.bits.specs.Fields.{bitAt};
-ghost use Rattle.codec.specs.Codec.{got, no};
-ghost use Rattle.message.specs.Values.{noValue};
 ghost use Rattle.message.specs.Messages.{bodyC};
-ghost use Rattle.message.specs.declared.Part.the-variants.{Number, Users, User, Masked, Result, Dispatchers, Dispatcher};
 ghost use Rattle.reading.specs.Answers.{bodyOf};
-ghost use Rattle.reading.specs.Parts.{partRead, rowRead};
-use crate::ack;
-use crate::ack::MaskedTook;
-use crate::ack::ResultTook;
-use crate::address;
-use crate::address::AddressTook;
-use crate::element;
-use crate::element::WordTook;
-use crate::group;
+ghost use Rattle.reading.specs.Parts.{partsRead};
 use crate::option;
-use crate::option::OptionTook;
-use codec::Stop;
-use message::Part;
+use crate::part;
+use crate::part::Body;
 use message::Slot;
 use message::Value;
 use profile::Air;
-
-pub struct Body {
-    pub found: bool,
-    pub stop: Stop,
-    pub next: usize,
-    pub value: Value,
-}
 
 pub(crate) fn read_body(air: Air, pdu: u8, buf: &[u8], bits: usize, at: usize) -> Body
     ensures { λ r. ⌜ r ≡ bodyOf (bodyC air pdu .read (bitAt (now (buf .entry))) bits at) ⌝ }
 {
     let row = message::row_of(pdu);
     let parts = row.parts;
-    read_row(air, parts, row.count, message::blank(pdu), buf, bits, at)
+    let b = read_parts(air, parts, row.count, message::blank(pdu), buf, bits, at);
+    if b.found {
+        let optional = row.optional;
+        let value = b.value;
+        return option::read_options(air, optional, row.options, value, buf, bits, b.next);
+    }
+    let s = b.stop;
+    part::no_body(s)
 }
 
-fn read_row(
+fn read_parts(
     air: Air,
-    parts: [Slot; 4],
+    parts: [Slot; 6],
     count: u8,
     empty: Value,
     buf: &[u8],
     bits: usize,
     at: usize,
 ) -> Body
-    ensures { λ r. ⌜ r ≡ bodyOf (rowRead air empty count parts (bitAt (now (buf .entry))) bits at) ⌝ }
+    ensures { λ r. ⌜ r ≡ bodyOf (partsRead air empty count parts (bitAt (now (buf .entry))) bits at) ⌝ }
 {
     let mut value = empty;
     let mut next = at;
     let mut i: usize = 0;
     while i < count as usize {
-        if i >= 4 {
-            return carried(value, next);
+        if i >= 6 {
+            return part::carried(value, next);
         }
         let slot = parts[i];
         let part = slot.part;
-        let b = read_part(air, value, part, buf, bits, next);
+        let b = part::read_part(air, value, part, buf, bits, next);
         i += 1;
         if b.found {
             let v = b.value;
@@ -67,146 +54,8 @@ fn read_row(
             next = b.next;
         } else {
             let s = b.stop;
-            return no_body(s);
+            return part::no_body(s);
         }
     }
-    carried(value, next)
-}
-
-fn read_part(air: Air, value: Value, part: Part, buf: &[u8], bits: usize, at: usize) -> Body
-    ensures { λ r. ⌜ r ≡ bodyOf (partRead air value part (bitAt (now (buf .entry))) bits at) ⌝ }
-{
-    match part {
-        Part::Nothing => carried(value, at),
-        Part::Number(element) => number_part(air, value, element, buf, bits, at),
-        Part::Users => users_part(air, value, buf, bits, at),
-        Part::User => user_part(air, value, buf, bits, at),
-        Part::Masked => mask_part(air, value, buf, bits, at),
-        Part::Result => result_part(air, value, buf, bits, at),
-        Part::Dispatchers => dispatchers_part(air, value, buf, bits, at),
-        Part::Dispatcher => dispatcher_part(air, value, buf, bits, at),
-    }
-}
-
-fn number_part(air: Air, value: Value, element: u8, buf: &[u8], bits: usize, at: usize) -> Body
-    ensures { λ r. ⌜ r ≡ bodyOf (partRead air value (Number element) (bitAt (now (buf .entry))) bits at) ⌝ }
-{
-    match element::word(element, buf, bits, at, message::width_of(element)) {
-        WordTook::Refused(s) => no_body(s),
-        WordTook::Got(n, p) => carried(message::with_number(value, element, n), p),
-    }
-}
-
-fn users_part(air: Air, value: Value, buf: &[u8], bits: usize, at: usize) -> Body
-    ensures { λ r. ⌜ r ≡ bodyOf (partRead air value Users (bitAt (now (buf .entry))) bits at) ⌝ }
-{
-    let u = group::read_group(air, false, buf, bits, at);
-    if u.found {
-        let users = u.group;
-        return carried(message::with_users(value, users), u.next);
-    }
-    let s = u.stop;
-    no_body(s)
-}
-
-fn user_part(air: Air, value: Value, buf: &[u8], bits: usize, at: usize) -> Body
-    ensures { λ r. ⌜ r ≡ bodyOf (partRead air value User (bitAt (now (buf .entry))) bits at) ⌝ }
-{
-    match address::read_address(buf, bits, at) {
-        AddressTook::Refused(s) => no_body(s),
-        AddressTook::Got(a, p) => carried(message::with_users(value, message::one_group(a)), p),
-    }
-}
-
-fn mask_part(air: Air, value: Value, buf: &[u8], bits: usize, at: usize) -> Body
-    ensures { λ r. ⌜ r ≡ bodyOf (partRead air value Masked (bitAt (now (buf .entry))) bits at) ⌝ }
-{
-    let users = value.users;
-    match ack::read_masked(few(message::span_of(air, users)), buf, bits, at) {
-        MaskedTook::Refused(s) => no_body(s),
-        MaskedTook::Got(masked, mask, p) => carried(message::with_mask(value, masked, mask), p),
-    }
-}
-
-// Users that were read have no more.
-fn few(count: usize) -> usize
-    ensures { λ r. ⌜ r ≡ min count 64 ⌝ }
-{
-    if count < 64 {
-        return count;
-    }
-    64
-}
-
-fn result_part(air: Air, value: Value, buf: &[u8], bits: usize, at: usize) -> Body
-    ensures { λ r. ⌜ r ≡ bodyOf (partRead air value Result (bitAt (now (buf .entry))) bits at) ⌝ }
-{
-    match ack::read_result(buf, bits, at) {
-        ResultTook::Refused(s) => no_body(s),
-        ResultTook::Got(result, reason, p) => carried(
-            message::with_number(
-                message::with_number(value, element::RESULT, result as u32),
-                element::REASON,
-                reason as u32,
-            ),
-            p,
-        ),
-    }
-}
-
-fn dispatchers_part(air: Air, value: Value, buf: &[u8], bits: usize, at: usize) -> Body
-    ensures { λ r. ⌜ r ≡ bodyOf (partRead air value Dispatchers (bitAt (now (buf .entry))) bits at) ⌝ }
-{
-    let o = option::read_dispatchers(air, buf, bits, at);
-    if o.found {
-        let dispatchers = o.group;
-        return carried(
-            message::with_dispatchers(value, o.present, dispatchers),
-            o.next,
-        );
-    }
-    let s = o.stop;
-    no_body(s)
-}
-
-fn dispatcher_part(air: Air, value: Value, buf: &[u8], bits: usize, at: usize) -> Body
-    ensures { λ r. ⌜ r ≡ bodyOf (partRead air value Dispatcher (bitAt (now (buf .entry))) bits at) ⌝ }
-{
-    match option::read_dispatcher(buf, bits, at) {
-        OptionTook::Refused(s) => no_body(s),
-        OptionTook::Got(present, dispatcher, p) => carried(
-            message::with_dispatchers(value, present, message::one_group(dispatcher)),
-            p,
-        ),
-    }
-}
-
-pub(crate) fn carried(value: Value, next: usize) -> Body
-    ensures { λ r. ⌜ r ≡ bodyOf (got value next) ⌝ }
-{
-    Body {
-        found: true,
-        stop: codec::no_stop(),
-        next: next,
-        value: value,
-    }
-}
-
-pub(crate) fn no_body(s: Stop) -> Body
-    ensures { λ r. ⌜ r ≡ bodyOf (no s) ⌝ }
-{
-    let value = no_value();
-    Body {
-        found: false,
-        stop: s,
-        next: 0,
-        value: value,
-    }
-}
-
-// What stands beside a refusal: all zero.
-pub(crate) fn no_value() -> Value
-    ensures { λ r. ⌜ r ≡ noValue ⌝ }
-{
-    message::blank(0)
+    part::carried(value, next)
 }

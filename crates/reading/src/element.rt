@@ -6,35 +6,6 @@ ghost use Rattle.reading.specs.Answers.{byteOf, wordOf, flagOf, upTo};
 use codec::Stop;
 use codec::Took;
 
-// The elements by number, as specs/Elements of `message` has them.
-pub const SS_TYPE: u8 = 1;
-
-pub const PDU_TYPE: u8 = 2;
-
-pub const RANGE: u8 = 3;
-
-pub const KIND: u8 = 4;
-
-pub const SSI: u8 = 5;
-
-pub const EXTENSION: u8 = 6;
-
-pub const MASK_PRESENT: u8 = 7;
-
-pub const MASK: u8 = 8;
-
-pub const RESULT: u8 = 9;
-
-pub const REASON: u8 = 10;
-
-pub const CAUSE: u8 = 11;
-
-pub const IDENTIFIER: u8 = 12;
-
-pub const O_BIT: u8 = 13;
-
-pub const P_BIT: u8 = 14;
-
 pub enum ByteTook {
     Got(u8, usize),
     Refused(Stop),

@@ -61,7 +61,7 @@ fn read_range(air: Air, none: bool, buf: &[u8], bits: usize, at: usize) -> ByteT
     ensures { λ r. ⌜ byteOf r ≡ rangeC air none .read (bitAt (now (buf .entry))) bits at ⌝ }
 {
     let meanings = air.meanings;
-    match element::byte(element::RANGE, buf, bits, at, 4) {
+    match element::byte(message::RANGE, buf, bits, at, 4) {
         ByteTook::Refused(s) => ByteTook::Refused(s),
         ByteTook::Got(range, p) => {
             if message::allowed(none, profile::meaning_of(meanings, range)) {

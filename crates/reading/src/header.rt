@@ -15,9 +15,9 @@ pub enum HeaderTook {
 pub(crate) fn read_header(ss: u8, buf: &[u8], bits: usize, at: usize) -> HeaderTook
     ensures { λ r. ⌜ headerOf r ≡ headerC ss .read (bitAt (now (buf .entry))) bits at ⌝ }
 {
-    match element::byte(element::SS_TYPE, buf, bits, at, 6) {
+    match element::byte(message::SS_TYPE, buf, bits, at, 6) {
         ByteTook::Refused(s) => HeaderTook::Refused(s),
-        ByteTook::Got(x, p) => match element::byte(element::PDU_TYPE, buf, bits, p, 5) {
+        ByteTook::Got(x, p) => match element::byte(message::PDU_TYPE, buf, bits, p, 5) {
             ByteTook::Refused(s) => HeaderTook::Refused(s),
             ByteTook::Got(pdu, q) => {
                 if x == ss {

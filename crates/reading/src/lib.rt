@@ -1,7 +1,7 @@
 // Reading a message: from bytes and a bit length to a value, or to the refusal that document 01's order gives.
 //
 // `read` equals `readOf` of `message` for every profile, buffer and length. The files go from small to large: element, address, group,
-// option, ack, body, header. Each function reads one codec and hands the refusal of what it calls on unchanged.
+// ack, part, option, body, header. Each function reads one codec and hands the refusal of what it calls on unchanged.
 ghost use mathlib.Core.Path.{_≡_};
 ghost use Rattle.bits.specs.Fields.{bitAt};
 ghost use Rattle.codec.specs.Codec.{got, no};
@@ -19,6 +19,7 @@ mod element;
 mod group;
 mod header;
 mod option;
+mod part;
 
 // The value, or a refusal and a value that is all zero.
 pub struct Reading {
@@ -87,7 +88,7 @@ fn found(value: Value) -> Reading
 fn refused(s: Stop) -> Reading
     ensures { λ r. ⌜ r ≡ readingOf (no s) ⌝ }
 {
-    let value = body::no_value();
+    let value = part::no_value();
     Reading {
         found: false,
         stop: s,

@@ -1,123 +1,173 @@
-// What may stand behind an O-bit and a P-bit: ACTIVATE's dispatchers, and the dispatcher address of INTERCEPTED and DIVERTED.
+// The options of a row: one O-bit, and if it is 1 each behind its P-bit; 12 if none of these is 1.
 ghost use mathlib.Core.Path.{_≡_};
-ghost use mathlib.Core.Bool.{true, false};
+ghost use mathlib.Core.Bool.{false, _||_};
 ghost use Rattle.bits.specs.Fields.{bitAt};
 ghost use Rattle.codec.specs.Codec.{got, no};
-ghost use Rattle.message.specs.Groups.{noGroup, groupC};
-ghost use Rattle.message.specs.Rows.{dispatchersC, dispatcherC};
-ghost use Rattle.reading.specs.Answers.{optionOf, optionAddressOf, present};
-use crate::address;
-use crate::address::AddressTook;
+ghost use Rattle.reading.specs.Answers.{bodyOf, eachOf};
+ghost use Rattle.reading.specs.Parts.{optionRead, eachRead, behindRead, optionsRead};
 use crate::element;
 use crate::element::FlagTook;
-use crate::group;
+use crate::part;
+use crate::part::Body;
 use codec::Stop;
-use message::Address;
-use message::Group;
+use message::Part;
+use message::Slot;
+use message::Value;
 use profile::Air;
 
-pub struct OptionRead {
+// `some` says whether one of them is there.
+pub struct Each {
     pub found: bool,
     pub stop: Stop,
     pub next: usize,
-    pub present: bool,
-    pub group: Group,
+    pub some: bool,
+    pub value: Value,
 }
 
-pub enum OptionTook {
-    Got(bool, Address, usize),
-    Refused(Stop),
-}
-
-pub(crate) fn read_dispatchers(air: Air, buf: &[u8], bits: usize, at: usize) -> OptionRead
-    ensures { λ r. ⌜ r ≡ optionOf (dispatchersC air .read (bitAt (now (buf .entry))) bits at) ⌝ }
+pub(crate) fn read_options(
+    air: Air,
+    optional: [Slot; 7],
+    count: u8,
+    value: Value,
+    buf: &[u8],
+    bits: usize,
+    at: usize,
+) -> Body
+    ensures { λ r. ⌜ r ≡ bodyOf (optionsRead air value count optional (bitAt (now (buf .entry))) bits at) ⌝ }
 {
-    match element::bit(element::O_BIT, buf, bits, at) {
-        FlagTook::Refused(s) => no_option(s),
+    if count == 0 {
+        return part::carried(value, at);
+    }
+    match element::bit(message::O_BIT, buf, bits, at) {
+        FlagTook::Refused(s) => part::no_body(s),
         FlagTook::Got(o, p) => {
             if o {
-                return match element::bit(element::P_BIT, buf, bits, p) {
-                    FlagTook::Refused(s) => no_option(s),
-                    FlagTook::Got(b, q) => {
-                        if b {
-                            return given(air, buf, bits, q);
-                        }
-                        no_option(codec::refuse(12))
-                    }
-                };
+                return behind(air, optional, count, value, buf, bits, p);
             }
-            absent(p)
+            part::carried(value, p)
         }
     }
 }
 
-// The dispatchers after a P-bit of 1.
-fn given(air: Air, buf: &[u8], bits: usize, at: usize) -> OptionRead
-    ensures { λ r. ⌜ r ≡ optionOf (present (groupC air true .read (bitAt (now (buf .entry))) bits at)) ⌝ }
+// After an O-bit of 1.
+fn behind(
+    air: Air,
+    optional: [Slot; 7],
+    count: u8,
+    value: Value,
+    buf: &[u8],
+    bits: usize,
+    at: usize,
+) -> Body
+    ensures { λ r. ⌜ r ≡ bodyOf (behindRead air value count optional (bitAt (now (buf .entry))) bits at) ⌝ }
 {
-    let g = group::read_group(air, true, buf, bits, at);
-    if g.found {
-        let group = g.group;
-        let next = g.next;
-        return OptionRead {
-            found: true,
-            stop: codec::no_stop(),
-            next: next,
-            present: true,
-            group: group,
-        };
+    let e = read_each(air, optional, count, value, buf, bits, at);
+    if e.found {
+        if e.some {
+            let v = e.value;
+            return part::carried(v, e.next);
+        }
+        return part::no_body(codec::refuse(12));
     }
-    let s = g.stop;
-    no_option(s)
+    let s = e.stop;
+    part::no_body(s)
 }
 
-fn absent(next: usize) -> OptionRead
-    ensures { λ r. ⌜ r ≡ optionOf (got (false, noGroup) next) ⌝ }
+fn read_each(
+    air: Air,
+    optional: [Slot; 7],
+    count: u8,
+    empty: Value,
+    buf: &[u8],
+    bits: usize,
+    at: usize,
+) -> Each
+    ensures { λ r. ⌜ r ≡ eachOf (eachRead air 0 false empty count optional (bitAt (now (buf .entry))) bits at) ⌝ }
 {
-    let group = message::no_group();
-    OptionRead {
+    let mut some = false;
+    let mut value = empty;
+    let mut next = at;
+    let mut i: usize = 0;
+    while i < count as usize {
+        if i >= 7 {
+            return these(some, value, next);
+        }
+        let slot = optional[i];
+        let part = slot.part;
+        let o = read_option(air, i, value, part, buf, bits, next);
+        i += 1;
+        if o.found {
+            let v = o.value;
+            some = either(some, o.some);
+            value = v;
+            next = o.next;
+        } else {
+            let s = o.stop;
+            return no_each(s);
+        }
+    }
+    these(some, value, next)
+}
+
+// The P-bit, and the part if it is 1.
+fn read_option(
+    air: Air,
+    i: usize,
+    value: Value,
+    part: Part,
+    buf: &[u8],
+    bits: usize,
+    at: usize,
+) -> Each
+    ensures { λ r. ⌜ r ≡ eachOf (optionRead air i value part (bitAt (now (buf .entry))) bits at) ⌝ }
+{
+    match element::bit(message::P_BIT, buf, bits, at) {
+        FlagTook::Refused(s) => no_each(s),
+        FlagTook::Got(o, p) => {
+            if o {
+                let b = part::read_part(air, value, part, buf, bits, p);
+                if b.found {
+                    let v = b.value;
+                    return these(true, message::with_given(v, i), b.next);
+                }
+                let s = b.stop;
+                return no_each(s);
+            }
+            these(false, value, p)
+        }
+    }
+}
+
+fn either(a: bool, b: bool) -> bool
+    ensures { λ r. ⌜ r ≡ a || b ⌝ }
+{
+    if a {
+        return true;
+    }
+    b
+}
+
+fn these(some: bool, value: Value, next: usize) -> Each
+    ensures { λ r. ⌜ r ≡ eachOf (got (some, value) next) ⌝ }
+{
+    Each {
         found: true,
         stop: codec::no_stop(),
         next: next,
-        present: false,
-        group: group,
+        some: some,
+        value: value,
     }
 }
 
-fn no_option(s: Stop) -> OptionRead
-    ensures { λ r. ⌜ r ≡ optionOf (no s) ⌝ }
+fn no_each(s: Stop) -> Each
+    ensures { λ r. ⌜ r ≡ eachOf (no s) ⌝ }
 {
-    let group = message::no_group();
-    OptionRead {
+    let value = part::no_value();
+    Each {
         found: false,
         stop: s,
         next: 0,
-        present: false,
-        group: group,
-    }
-}
-
-pub(crate) fn read_dispatcher(buf: &[u8], bits: usize, at: usize) -> OptionTook
-    ensures { λ r. ⌜ optionAddressOf r ≡ dispatcherC .read (bitAt (now (buf .entry))) bits at ⌝ }
-{
-    match element::bit(element::O_BIT, buf, bits, at) {
-        FlagTook::Refused(s) => OptionTook::Refused(s),
-        FlagTook::Got(o, p) => {
-            if o {
-                return match element::bit(element::P_BIT, buf, bits, p) {
-                    FlagTook::Refused(s) => OptionTook::Refused(s),
-                    FlagTook::Got(b, q) => {
-                        if b {
-                            return match address::read_address(buf, bits, q) {
-                                AddressTook::Refused(s) => OptionTook::Refused(s),
-                                AddressTook::Got(a, e) => OptionTook::Got(true, a, e),
-                            };
-                        }
-                        OptionTook::Refused(codec::refuse(12))
-                    }
-                };
-            }
-            OptionTook::Got(false, message::NOBODY, p)
-        }
+        some: false,
+        value: value,
     }
 }

@@ -1,6 +1,6 @@
 -- What the desk sends can be sent: its ACKs, of a valid request, and the messages that say nothing but their type. Assumes nothing.
-use Prim.Native.Nat.{ℕ, zero, suc, _+_, _≤_, _<_}
-use mathlib.Core.Path.{_≡_, refl}
+use Prim.Native.Nat.{ℕ, zero, suc, _+_, _≤_, _<_, min}
+use mathlib.Core.Path.{_≡_, refl, sym, subst}
 use mathlib.Core.Bool.{Bool, true, false, cond}
 use mathlib.Core.List.{List, [], _∷_, _++_}
 use native.Mathlib.Omega.{arith}
@@ -12,12 +12,14 @@ use Rattle.codec.specs.Options.{flag}
 use Rattle.codec.proofs.Good.{both-true, both-left, both-right}
 use Rattle.profile.specs.Rules.{airOk, profileOk}
 use Rattle.profile.specs.declared.Profile.{Profile}
-use Rattle.message.specs.Addresses.{nobody, isNobody}
-use Rattle.message.specs.Groups.{groupC, spanOf, nobodies, areNobody, oneGroup, isOneGroup}
+use Rattle.message.specs.Numbers.{elements, elementOf, widths, widthOf}
+use Rattle.message.specs.Groups.{groupC, spanOf, noGroup, nobodies}
 use Rattle.message.specs.Acks.{maskC, maskedC, resultC}
-use Rattle.message.specs.Values.{ackV, plainV, plainFits, interceptedFits, callFits, acceptedFits}
-use Rattle.message.specs.Messages.{ackC, interceptedC, acceptedC, bodyC, isCarried, headerC, messageC}
-use Rattle.message.proofs.ValueLaws.{ack-fits}
+use Rattle.message.specs.Values.{blank, sameBools, sameNumbers, sameAddress, sameAddresses, sameGroup, sameValue}
+use Rattle.message.specs.Rows.{table, rowIn, rowOf, partsC, puts, gets, putOptions, getOptions, eachC, optionsC, firstParts, partsOf, optionsOf}
+use Rattle.message.specs.Messages.{holdsJust, bodyC, isCarried, headerC, messageC}
+use Rattle.message.proofs.GroupLaws.{few-identities}
+use Rattle.message.proofs.ValueLaws.{value-self}
 use Rattle.message.specs.declared.Group.{Group}
 use Rattle.message.specs.declared.Value.{Value}
 use Rattle.validity.specs.Validity.{validOf}
@@ -25,7 +27,7 @@ use Rattle.validity.proofs.ValidLaws.{carried-ok}
 use Rattle.writing.specs.Writing.{bitsOf}
 use Rattle.writing.proofs.LengthLaws.{ack-bytes-most}
 use Rattle.records.specs.declared.Sorted.{Sorted}
-use Rattle.sending.specs.Acks.{isThere, maskAt, resultOf, reasonOf, severalIn, ackOf, acksOf}
+use Rattle.sending.specs.Acks.{isThere, maskAt, resultOf, reasonOf, severalIn, ackV, ackOf, acksOf}
 use Rattle.sending.proofs.SentLaws.{Sends, AllSend}
 
 -- ---- what a profile that passes says of its numbers
@@ -50,7 +52,7 @@ module _ (p : Profile) (passes : profileOk p ≡ true) where
 -- ---- the ACKs
 
 carried-3 : isCarried 3 ≡ true
-unfolding isCarried
+unfolding isCarried rowOf rowIn table
 carried-3 = refl
 
 -- the result and the reason of a class
@@ -69,17 +71,25 @@ masked-valid n true m e = e
 masked-valid n false m e = refl
 
 ack-pdu-is : (users : Group) (b : Bool) (m r w : ℕ) → ackV users b m r w .pdu ≡ 3
-unfolding ackV
+unfolding ackV blank
 ack-pdu-is users b m r w = refl
+
+-- an ACK holds its three parts and nothing else
+ack-holds : (users : Group) (b : Bool) (m r w : ℕ) → holdsJust 3 (partsOf (rowOf 3)) (optionsOf (rowOf 3)) (ackV users b m r w) ≡ true
+unfolding ackV rowOf rowIn table firstParts gets puts getOptions putOptions blank
+ack-holds users b m r w = value-self (ackV users b m r w)
 
 ack-valid : (p : Profile) → profileOk p ≡ true → (users : Group) → groupC (p .air) false .ok users ≡ true → (b : Bool) (m : ℕ) → maskC (spanOf (p .air) users) .ok m ≡ true
     → (class : ℕ) → validOf (p .air) (ackV users b (cond b m 0) (resultOf class) (reasonOf (p .air) class)) ≡ true
-unfolding validOf messageC bodyC ackC ackV
+unfolding validOf messageC bodyC ackV rowOf rowIn table firstParts gets getOptions partsC optionsC blank
 ack-valid p passes users g b m e class =
+    let few : min (spanOf (p .air) users) 64 ≡ spanOf (p .air) users = omega (arith, few-identities (p .air) false users g) in
     both-true true _ refl
     (both-true _ _ (carried-ok (p .air .ss) 3 (omega (arith, ss-most p passes)) carried-3)
-    (both-true _ _ (ack-fits users b (cond b m 0) (resultOf class) (reasonOf (p .air) class))
-    (both-true _ _ g (both-true _ _ (masked-valid (spanOf (p .air) users) b m e) (result-valid p passes class)))))
+    (both-true _ _ (ack-holds users b (cond b m 0) (resultOf class) (reasonOf (p .air) class))
+    (both-true _ _
+    (both-true _ _ g (both-true _ _ (subst (λ (n : ℕ). maskedC n .ok (b, cond b m 0) ≡ true) (sym few) (masked-valid (spanOf (p .air) users) b m e)) (both-true _ _ (result-valid p passes class) refl)))
+    refl)))
 
 -- ---- what is sent of a request
 
@@ -122,21 +132,21 @@ module _ (p : Profile) (passes : profileOk p ≡ true) (users : Group) (s : Sort
 
 -- ---- INTERCEPTED, ACCEPTED, DIVERTED
 
-plain-sends : (p : Profile) → profileOk p ≡ true → (t : ℕ) → isCarried t ≡ true → bodyC (p .air) t .ok (plainV t nobody 0 0 false nobody) ≡ true
-    → length (bitsOf (p .air) (plainV t nobody 0 0 false nobody)) ≤ 100 → Sends p (plainV t nobody 0 0 false nobody)
-unfolding validOf messageC plainV
+plain-sends : (p : Profile) → profileOk p ≡ true → (t : ℕ) → isCarried t ≡ true → bodyC (p .air) t .ok (blank t) ≡ true
+    → length (bitsOf (p .air) (blank t)) ≤ 100 → Sends p (blank t)
+unfolding validOf messageC blank
 plain-sends p passes t carried body short =
     record { valid = both-true true _ refl (both-true _ _ (carried-ok (p .air .ss) t (omega (arith, ss-most p passes)) carried) body); short = omega arith }
 
 module _ (p : Profile) (passes : profileOk p ≡ true) where
-  pub intercepted-sends : Sends p (plainV 10 nobody 0 0 false nobody)
-  unfolding isCarried both bodyC interceptedC interceptedFits plainFits plainV oneGroup isOneGroup nobodies areNobody isNobody flag number bitsOf messageC headerC
+  pub intercepted-sends : Sends p (blank 10)
+  unfolding isCarried rowOf rowIn table both bodyC firstParts gets puts getOptions putOptions partsC optionsC eachC elements elementOf widths widthOf sameValue sameNumbers sameBools sameGroup sameAddresses sameAddress blank noGroup nobodies flag number bitsOf messageC headerC
   intercepted-sends = plain-sends p passes 10 refl refl (simp (length-append, length-binary) (omega arith))
 
-  pub accepted-sends : Sends p (plainV 13 nobody 0 0 false nobody)
-  unfolding isCarried both bodyC acceptedC acceptedFits callFits plainFits plainV oneGroup isOneGroup nobodies areNobody isNobody number bitsOf messageC headerC
+  pub accepted-sends : Sends p (blank 13)
+  unfolding isCarried rowOf rowIn table both bodyC firstParts gets puts getOptions putOptions partsC optionsC sameValue sameNumbers sameBools sameGroup sameAddresses sameAddress blank noGroup nobodies number bitsOf messageC headerC
   accepted-sends = plain-sends p passes 13 refl refl (simp (length-append, length-binary) (omega arith))
 
-  pub diverted-sends : Sends p (plainV 16 nobody 0 0 false nobody)
-  unfolding isCarried both bodyC interceptedC interceptedFits plainFits plainV oneGroup isOneGroup nobodies areNobody isNobody flag number bitsOf messageC headerC
+  pub diverted-sends : Sends p (blank 16)
+  unfolding isCarried rowOf rowIn table both bodyC firstParts gets puts getOptions putOptions partsC optionsC eachC elements elementOf widths widthOf sameValue sameNumbers sameBools sameGroup sameAddresses sameAddress blank noGroup nobodies flag number bitsOf messageC headerC
   diverted-sends = plain-sends p passes 16 refl refl (simp (length-append, length-binary) (omega arith))

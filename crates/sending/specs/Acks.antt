@@ -7,8 +7,10 @@ use lib.Dec.{eqb, ltb}
 use lib.ListN.{getD}
 use Rattle.profile.specs.Counting.{one}
 use Rattle.profile.specs.declared.Air.{Air}
-use Rattle.message.specs.Values.{ackV}
+use Rattle.message.specs.Values.{blank, withUsers, withMask}
+use Rattle.message.specs.Rows.{put}
 use Rattle.message.specs.declared.Group.{Group}
+use Rattle.message.specs.declared.Part.the-variants as part
 use Rattle.message.specs.declared.Value.{Value}
 use Rattle.records.specs.declared.Sorted.{Sorted}
 
@@ -29,6 +31,10 @@ reasonOf air class = cond (eqb class 0) 0 (cond (eqb class 1) (air .unknown) (ai
 -- more than one outcome
 unfoldable pub severalIn : List Bool → Bool
 severalIn some = ltb 1 (one (getD some 0 false) + one (getD some 1 false) + one (getD some 2 false))
+
+-- an ACTIVATE ACK with these contents
+unfoldable pub ackV : Group → Bool → ℕ → ℕ → ℕ → Value
+ackV users masked mask result reason = put part.Result (result, reason) (withMask masked mask (withUsers users (blank 3)))
 
 unfoldable pub ackOf : Air → Group → Sorted → ℕ → Value
 ackOf air users s class = ackV users (severalIn (s .some)) (cond (severalIn (s .some)) (maskAt s class) 0) (resultOf class) (reasonOf air class)

@@ -8,7 +8,7 @@ ghost use Prim.Native.Nat.{_<_, _≤_};
 ghost use lib.ListN.{getD};
 ghost use Rattle.profile.specs.Counting.{one};
 ghost use Rattle.sending.specs.Sending.{noLaid, laidMore, sendLaid, sendArea, allLaid, allArea};
-ghost use Rattle.sending.specs.Acks.{resultOf, reasonOf, severalIn, ackOf, ackIf, acksOf};
+ghost use Rattle.sending.specs.Acks.{resultOf, reasonOf, severalIn, ackV, ackOf, ackIf, acksOf};
 use message::Group;
 use message::Value;
 use profile::Air;
@@ -96,7 +96,7 @@ fn ack_of(air: Air, users: Group, sorted: Sorted, class: u8) -> Value
     let some = sorted.some;
     let mask = sorted.mask;
     if is_several(some) {
-        return message::ack_value(
+        return ack_with(
             users,
             true,
             mask_at(mask, class),
@@ -104,7 +104,18 @@ fn ack_of(air: Air, users: Group, sorted: Sorted, class: u8) -> Value
             reason_of(air, class),
         );
     }
-    message::ack_value(users, false, 0, result_of(class), reason_of(air, class))
+    ack_with(users, false, 0, result_of(class), reason_of(air, class))
+}
+
+fn ack_with(users: Group, masked: bool, mask: u64, result: u8, reason: u8) -> Value
+    ensures { λ r. ⌜ r ≡ ackV users masked mask result reason ⌝ }
+{
+    let request = message::with_users(message::blank(3), users);
+    message::with_result(
+        message::with_mask(request, masked, mask),
+        result as u32,
+        reason as u32,
+    )
 }
 
 fn is_several(some: [bool; 3]) -> bool

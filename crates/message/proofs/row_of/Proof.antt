@@ -1,7 +1,7 @@
 -- `message::row_of` meets its contract. Assumes nothing.
 use borrow.Author.Needs.{needs}
 use borrow.Author.Tests.{eq-eqb, ne-eqb}
-use Rattle.message.specs.Rows.{rowOf}
+use Rattle.message.specs.Rows.{table, rowIn, rowOf}
 use Rattle.message.proofs.row_of.Statement.{statement}
 use Rattle.message.proofs.row_of.Tie as tie
 
@@ -9,7 +9,7 @@ one-and-option-requires : tie.Need-one-and-option-requires
 one-and-option-requires c κs = search needs
 
 returns : tie.Need-returns
-unfolding rowOf
+unfolding rowOf rowIn table
 returns c =
     let p1 = c .before in
     rw (eq-eqb _ _ (p1 .if1 .taken)) (c .one-and-option .ensures)
@@ -18,7 +18,7 @@ three-requires : tie.Need-three-requires
 three-requires c κs = search needs
 
 returns-2 : tie.Need-returns-2
-unfolding rowOf
+unfolding rowOf rowIn table
 returns-2 c =
     let p1 = c .before .before in
     let p2 = c .before in
@@ -28,7 +28,7 @@ one-requires : tie.Need-one-requires
 one-requires c κs = search needs
 
 returns-3 : tie.Need-returns-3
-unfolding rowOf
+unfolding rowOf rowIn table
 returns-3 c =
     let p1 = c .before .before .before in
     let p2 = c .before .before in
@@ -39,7 +39,7 @@ one-and-option-requires-2 : tie.Need-one-and-option-requires-2
 one-and-option-requires-2 c κs = search needs
 
 returns-4 : tie.Need-returns-4
-unfolding rowOf
+unfolding rowOf rowIn table
 returns-4 c =
     let p1 = c .before .before .before .before in
     let p2 = c .before .before .before in
@@ -51,7 +51,7 @@ one-requires-2 : tie.Need-one-requires-2
 one-requires-2 c κs = search needs
 
 returns-5 : tie.Need-returns-5
-unfolding rowOf
+unfolding rowOf rowIn table
 returns-5 c =
     let p1 = c .before .before .before .before .before in
     let p2 = c .before .before .before .before in
@@ -64,7 +64,7 @@ none-requires : tie.Need-none-requires
 none-requires c κs = search needs
 
 returns-6 : tie.Need-returns-6
-unfolding rowOf
+unfolding rowOf rowIn table
 returns-6 c =
     let p1 = c .before .before .before .before .before .before in
     let p2 = c .before .before .before .before .before in
@@ -78,7 +78,7 @@ one-requires-3 : tie.Need-one-requires-3
 one-requires-3 c κs = search needs
 
 returns-7 : tie.Need-returns-7
-unfolding rowOf
+unfolding rowOf rowIn table
 returns-7 c =
     let p1 = c .before .before .before .before .before .before .before in
     let p2 = c .before .before .before .before .before .before in
@@ -93,7 +93,7 @@ one-and-option-requires-3 : tie.Need-one-and-option-requires-3
 one-and-option-requires-3 c κs = search needs
 
 returns-8 : tie.Need-returns-8
-unfolding rowOf
+unfolding rowOf rowIn table
 returns-8 c =
     let p1 = c .before .before .before .before .before .before .before .before in
     let p2 = c .before .before .before .before .before .before .before in
@@ -109,7 +109,7 @@ not-carried-requires : tie.Need-not-carried-requires
 not-carried-requires c κs = search needs
 
 returns-9 : tie.Need-returns-9
-unfolding rowOf
+unfolding rowOf rowIn table
 returns-9 c =
     let p1 = c .before .before .before .before .before .before .before .before in
     let p2 = c .before .before .before .before .before .before .before in

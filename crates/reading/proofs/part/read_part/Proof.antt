@@ -1,0 +1,116 @@
+-- `reading::part::read_part` meets its contract. Assumes nothing.
+use borrow.Author.Needs.{needs}
+use Rattle.reading.proofs.RowLaws.{nothing-read}
+use Rattle.reading.proofs.part.read_part.Statement.{statement}
+use Rattle.reading.proofs.part.read_part.Tie as tie
+
+enum-told : tie.Need-enum-told
+enum-told c = search needs
+
+carried-requires : tie.Need-carried-requires
+carried-requires c κs = search needs
+
+enum-known-part : tie.Need-enum-known-part
+enum-known-part c = search needs
+
+number-part-requires : tie.Need-number-part-requires
+number-part-requires c κs = search needs
+
+enum-told-2 : tie.Need-enum-told-2
+enum-told-2 c = search needs
+
+users-part-requires : tie.Need-users-part-requires
+users-part-requires c κs = search needs
+
+enum-known-part-2 : tie.Need-enum-known-part-2
+enum-known-part-2 c = search needs
+
+user-part-requires : tie.Need-user-part-requires
+user-part-requires c κs = search needs
+
+enum-told-3 : tie.Need-enum-told-3
+enum-told-3 c = search needs
+
+mask-part-requires : tie.Need-mask-part-requires
+mask-part-requires c κs = search needs
+
+enum-told-4 : tie.Need-enum-told-4
+enum-told-4 c = search needs
+
+result-part-requires : tie.Need-result-part-requires
+result-part-requires c κs = search needs
+
+enum-told-5 : tie.Need-enum-told-5
+enum-told-5 c = search needs
+
+dispatchers-part-requires : tie.Need-dispatchers-part-requires
+dispatchers-part-requires c κs = search needs
+
+enum-told-6 : tie.Need-enum-told-6
+enum-told-6 c = search needs
+
+dispatcher-part-requires : tie.Need-dispatcher-part-requires
+dispatcher-part-requires c κs = search needs
+
+returns : tie.Need-returns
+returns c = rw (c .carried .ensures, c .before .enum-told .given .1, nothing-read _ _ _ _ _)
+
+returns-2 : tie.Need-returns-2
+returns-2 c = rw (c .before .before .part .given .1) (c .number-part .ensures)
+
+returns-3 : tie.Need-returns-3
+returns-3 c =
+    let p1 = c .before in
+    rw (p1 .enum-told2 .given .1) (c .users-part .ensures)
+
+returns-4 : tie.Need-returns-4
+returns-4 c = rw (c .before .before .part2 .given .1) (c .user-part .ensures)
+
+returns-5 : tie.Need-returns-5
+returns-5 c =
+    let p1 = c .before in
+    rw (p1 .enum-told3 .given .1) (c .mask-part .ensures)
+
+returns-6 : tie.Need-returns-6
+returns-6 c =
+    let p1 = c .before in
+    rw (p1 .enum-told4 .given .1) (c .result-part .ensures)
+
+returns-7 : tie.Need-returns-7
+returns-7 c =
+    let p1 = c .before in
+    rw (p1 .enum-told5 .given .1) (c .dispatchers-part .ensures)
+
+returns-8 : tie.Need-returns-8
+returns-8 c =
+    let p1 = c .before in
+    rw (p1 .enum-told6 .given .1) (c .dispatcher-part .ensures)
+
+pub read-part-spec : {M : Type 1} → statement M
+read-part-spec =
+    tie.close
+    (tie.spec
+    enum-told
+    carried-requires
+    enum-known-part
+    number-part-requires
+    enum-told-2
+    users-part-requires
+    enum-known-part-2
+    user-part-requires
+    enum-told-3
+    mask-part-requires
+    enum-told-4
+    result-part-requires
+    enum-told-5
+    dispatchers-part-requires
+    enum-told-6
+    dispatcher-part-requires
+    returns
+    returns-2
+    returns-3
+    returns-4
+    returns-5
+    returns-6
+    returns-7
+    returns-8)

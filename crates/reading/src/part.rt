@@ -1,0 +1,169 @@
+// One part of a message, read into the value so far.
+ghost use mathlib.Core.Path.{_≡_};
+ghost use Prim.Native.Nat.{min};
+ghost use Rattle.bits.specs.Fields.{bitAt};
+ghost use Rattle.codec.specs.Codec.{got, no};
+ghost use Rattle.message.specs.Values.{noValue};
+ghost use Rattle.message.specs.declared.Part.the-variants.{Number, Users, User, Masked, Result, Dispatchers, Dispatcher};
+ghost use Rattle.reading.specs.Answers.{bodyOf};
+ghost use Rattle.reading.specs.Parts.{partRead};
+use crate::ack;
+use crate::ack::MaskedTook;
+use crate::ack::ResultTook;
+use crate::address;
+use crate::address::AddressTook;
+use crate::element;
+use crate::element::WordTook;
+use crate::group;
+use codec::Stop;
+use message::Part;
+use message::Value;
+use profile::Air;
+
+pub struct Body {
+    pub found: bool,
+    pub stop: Stop,
+    pub next: usize,
+    pub value: Value,
+}
+
+pub(crate) fn read_part(
+    air: Air,
+    value: Value,
+    part: Part,
+    buf: &[u8],
+    bits: usize,
+    at: usize,
+) -> Body
+    ensures { λ r. ⌜ r ≡ bodyOf (partRead air value part (bitAt (now (buf .entry))) bits at) ⌝ }
+{
+    match part {
+        Part::Nothing => carried(value, at),
+        Part::Number(place) => number_part(air, value, place, buf, bits, at),
+        Part::Users => users_part(air, value, buf, bits, at),
+        Part::User(place) => user_part(air, value, place, buf, bits, at),
+        Part::Masked => mask_part(air, value, buf, bits, at),
+        Part::Result => result_part(air, value, buf, bits, at),
+        Part::Dispatchers => dispatchers_part(air, value, buf, bits, at),
+        Part::Dispatcher => dispatcher_part(air, value, buf, bits, at),
+    }
+}
+
+fn number_part(air: Air, value: Value, place: u8, buf: &[u8], bits: usize, at: usize) -> Body
+    ensures { λ r. ⌜ r ≡ bodyOf (partRead air value (Number place) (bitAt (now (buf .entry))) bits at) ⌝ }
+{
+    match element::word(
+        message::element_of(place),
+        buf,
+        bits,
+        at,
+        message::width_of(place),
+    ) {
+        WordTook::Refused(s) => no_body(s),
+        WordTook::Got(n, p) => carried(message::with_number(value, place, n), p),
+    }
+}
+
+fn users_part(air: Air, value: Value, buf: &[u8], bits: usize, at: usize) -> Body
+    ensures { λ r. ⌜ r ≡ bodyOf (partRead air value Users (bitAt (now (buf .entry))) bits at) ⌝ }
+{
+    let u = group::read_group(air, false, buf, bits, at);
+    if u.found {
+        let users = u.group;
+        return carried(message::with_users(value, users), u.next);
+    }
+    let s = u.stop;
+    no_body(s)
+}
+
+fn user_part(air: Air, value: Value, place: u8, buf: &[u8], bits: usize, at: usize) -> Body
+    ensures { λ r. ⌜ r ≡ bodyOf (partRead air value (User place) (bitAt (now (buf .entry))) bits at) ⌝ }
+{
+    match address::read_address(buf, bits, at) {
+        AddressTook::Refused(s) => no_body(s),
+        AddressTook::Got(a, p) => carried(message::with_user(value, place, a), p),
+    }
+}
+
+fn mask_part(air: Air, value: Value, buf: &[u8], bits: usize, at: usize) -> Body
+    ensures { λ r. ⌜ r ≡ bodyOf (partRead air value Masked (bitAt (now (buf .entry))) bits at) ⌝ }
+{
+    let users = value.users;
+    match ack::read_masked(few(message::span_of(air, users)), buf, bits, at) {
+        MaskedTook::Refused(s) => no_body(s),
+        MaskedTook::Got(masked, mask, p) => carried(message::with_mask(value, masked, mask), p),
+    }
+}
+
+// Users that were read have no more.
+fn few(count: usize) -> usize
+    ensures { λ r. ⌜ r ≡ min count 64 ⌝ }
+{
+    if count < 64 {
+        return count;
+    }
+    64
+}
+
+fn result_part(air: Air, value: Value, buf: &[u8], bits: usize, at: usize) -> Body
+    ensures { λ r. ⌜ r ≡ bodyOf (partRead air value Result (bitAt (now (buf .entry))) bits at) ⌝ }
+{
+    match ack::read_result(buf, bits, at) {
+        ResultTook::Refused(s) => no_body(s),
+        ResultTook::Got(result, reason, p) => carried(
+            message::with_result(value, result as u32, reason as u32),
+            p,
+        ),
+    }
+}
+
+fn dispatchers_part(air: Air, value: Value, buf: &[u8], bits: usize, at: usize) -> Body
+    ensures { λ r. ⌜ r ≡ bodyOf (partRead air value Dispatchers (bitAt (now (buf .entry))) bits at) ⌝ }
+{
+    let d = group::read_group(air, true, buf, bits, at);
+    if d.found {
+        let dispatchers = d.group;
+        return carried(message::with_dispatchers(value, dispatchers), d.next);
+    }
+    let s = d.stop;
+    no_body(s)
+}
+
+fn dispatcher_part(air: Air, value: Value, buf: &[u8], bits: usize, at: usize) -> Body
+    ensures { λ r. ⌜ r ≡ bodyOf (partRead air value Dispatcher (bitAt (now (buf .entry))) bits at) ⌝ }
+{
+    match address::read_address(buf, bits, at) {
+        AddressTook::Refused(s) => no_body(s),
+        AddressTook::Got(a, p) => carried(message::with_dispatcher(value, a), p),
+    }
+}
+
+pub(crate) fn carried(value: Value, next: usize) -> Body
+    ensures { λ r. ⌜ r ≡ bodyOf (got value next) ⌝ }
+{
+    Body {
+        found: true,
+        stop: codec::no_stop(),
+        next: next,
+        value: value,
+    }
+}
+
+pub(crate) fn no_body(s: Stop) -> Body
+    ensures { λ r. ⌜ r ≡ bodyOf (no s) ⌝ }
+{
+    let value = no_value();
+    Body {
+        found: false,
+        stop: s,
+        next: 0,
+        value: value,
+    }
+}
+
+// What stands beside a refusal: all zero.
+pub(crate) fn no_value() -> Value
+    ensures { λ r. ⌜ r ≡ noValue ⌝ }
+{
+    message::blank(0)
+}
