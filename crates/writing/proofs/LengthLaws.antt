@@ -4,8 +4,9 @@ use mathlib.Core.Path.{_≡_, refl, sym, ap, _∙_}
 use mathlib.Core.Bool.{Bool, true, false, not, cond}
 use mathlib.Core.List.{List, [], _∷_, _++_}
 use native.Mathlib.Omega.{arith}
-use lib.Dec.{eqb}
+use lib.Dec.{eqb, leb}
 use lib.ListN.{length, length-append, length-take, take}
+use borrow.Author.Tests.{leb-true}
 use Rattle.bits.specs.Puts.{binary}
 use Rattle.bits.proofs.PutLaws.{length-binary}
 use Rattle.codec.specs.Codec.{number, pure, guard, choose, vecBits}
@@ -23,11 +24,12 @@ use Rattle.message.specs.Acks.{maskC, maskedC, resultC}
 use Rattle.message.specs.Numbers as place
 use Rattle.message.specs.Numbers.{widths, widthOf}
 use Rattle.message.specs.Values.{blank, numberAt}
-use Rattle.message.specs.Rows.{rowOf, Holds, partC, put, Tuple, partsC, puts, gets, Options, putOption, getOptions, someOf, noneOf, eachC, optionsC, firstParts, partsOf, optionsOf}
+use Rattle.message.specs.Rows.{noRow, table, rowIn, rowOf, Holds, partC, put, Tuple, partsC, puts, gets, Options, putOption, getOptions, someOf, noneOf, eachC, optionsC, firstParts, partsOf, optionsOf}
 use Rattle.message.specs.Messages.{holdsJust, bodyC, headerC, messageC}
 use Rattle.message.specs.declared.Part.{Part}
 use Rattle.message.specs.declared.Part.the-variants as part
 use Rattle.message.specs.declared.Row.{Row}
+use Rattle.message.proofs.TableLaws.{allRows, each-row}
 use Rattle.message.proofs.GroupLaws.{few-addresses, few-identities, range-allowed}
 use Rattle.message.specs.declared.Address.{Address}
 use Rattle.message.specs.declared.Group.{Group}
@@ -191,22 +193,20 @@ options-most air w (q ∷ qs) x e = go (someOf (q ∷ qs) x) (both-right (flag e
 abbrev mostOfRow : Row → ℕ
 mostOfRow r = mostIn (partsOf r) + mostUnder (optionsOf r)
 
-few-arm : (b : Bool) (r s : Row) → mostOfRow r ≤ 1510 → mostOfRow s ≤ 1510 → mostOfRow (cond b r s) ≤ 1510
-few-arm true r s h k = h
-few-arm false r s h k = k
+abbrev short : ℕ → Row → Bool
+short t r = leb (mostOfRow r) 1510
+
+all-short : allRows short table ≡ true
+unfolding table firstParts widthOf widths both
+all-short = refl
+
+none-short : (t : ℕ) → short t noRow ≡ true
+unfolding firstParts
+none-short t = refl
 
 few-in : (t : ℕ) → mostOfRow (rowOf t) ≤ 1510
-unfolding rowOf firstParts widthOf widths
-few-in t =
-    few-arm (eqb t 2) _ _ (omega arith)
-    (few-arm (eqb t 3) _ _ (omega arith)
-    (few-arm (eqb t 8) _ _ (omega arith)
-    (few-arm (eqb t 10) _ _ (omega arith)
-    (few-arm (eqb t 12) _ _ (omega arith)
-    (few-arm (eqb t 13) _ _ (omega arith)
-    (few-arm (eqb t 15) _ _ (omega arith)
-    (few-arm (eqb t 16) _ _ (omega arith)
-    (omega arith))))))))
+unfolding rowOf
+few-in t = leb-true (mostOfRow (rowIn table t)) 1510 (each-row short table t all-short (none-short t))
 
 body-most : (air : Air) (t : ℕ) (v : Value) → bodyC air t .ok v ≡ true → length (bodyC air t .bits v) ≤ 1510
 unfolding bodyC
@@ -230,7 +230,7 @@ ack-ok air v ok e = ap (λ (t : ℕ). bodyC air t .ok v) (sym e) ∙ valid-body 
 
 -- its users are good
 ack-users : (air : Air) (v : Value) → bodyC air 3 .ok v ≡ true → groupC air false .ok (v .users) ≡ true
-unfolding bodyC rowOf firstParts partsC gets
+unfolding bodyC rowOf rowIn table firstParts partsC gets
 ack-users air v e = both-left _ _ (both-left _ _ (both-right _ _ e))
 
 -- and at most 64 identities
@@ -238,7 +238,7 @@ pub valid-span : (air : Air) (v : Value) → validOf air v ≡ true → v .pdu �
 valid-span air v ok e = few-identities air false (v .users) (ack-users air v (ack-ok air v ok e))
 
 pub ack-most : (air : Air) (v : Value) → bodyC air 3 .ok v ≡ true → length (bodyC air 3 .bits v) ≤ 778
-unfolding bodyC rowOf firstParts partsC gets optionsC
+unfolding bodyC rowOf rowIn table firstParts partsC gets optionsC
 ack-most air v e =
     let n = min (spanOf air (v .users)) 64 in
     let us = groupC air false .bits (v .users) in
