@@ -9,7 +9,7 @@ use lib.ListN.{length, length-append, length-take, take}
 use borrow.Author.Tests.{leb-true}
 use Rattle.bits.specs.Puts.{binary}
 use Rattle.bits.proofs.PutLaws.{length-binary}
-use Rattle.codec.specs.Codec.{number, pure, guard, choose, vecBits}
+use Rattle.codec.specs.Codec.{both, number, pure, guard, choose, vecBits}
 use Rattle.codec.specs.Options.{Optional, absent, there, flag, optional}
 use Rattle.codec.proofs.Good.{both-left, both-right}
 use Rattle.profile.specs.Rules.{meaningIn}
