@@ -8,3 +8,4 @@ pub mod StopLaws
 pub mod Cases
 pub mod RowLaws
 pub mod SlotLaws
+pub mod TableLaws

@@ -17,7 +17,7 @@ use Rattle.message.specs.Acks.{maskC, maskedC, resultC}
 use Rattle.message.specs.Numbers as place
 use Rattle.message.specs.Numbers.{widths, widthOf}
 use Rattle.message.specs.Values.{blank, withNumber, withUsers, withMask, withDispatchers, withGiven, sameBools, sameNumbers, sameAddress, sameAddresses, sameGroup, sameValue}
-use Rattle.message.specs.Rows.{rowOf, partsC, puts, gets, eachC, optionsC, putOptions, getOptions, firstParts}
+use Rattle.message.specs.Rows.{table, rowIn, rowOf, partsC, puts, gets, eachC, optionsC, putOptions, getOptions, firstParts}
 use Rattle.message.specs.Messages.{bodyC, isKnown, isCarried, headerC, messageC}
 use Rattle.message.specs.declared.Address.{Address}
 use Rattle.message.specs.declared.Group.{Group}
@@ -199,7 +199,7 @@ cases =
     ∷ []
 
 pub cases-right : list.map gives cases ≡ list.map wants cases
-unfolding both number flag meaningIn sample sampleMeanings isNobody kindC extensionC addressC addressesIn allowedIn nobodies areNobody placesC rangeOk endsOk addressesC rangeC groupC noGroup oneGroup spanIn spanOf maskC maskedC resultC blank sameBools sameNumbers sameAddress sameAddresses sameGroup sameValue rowOf widths widthOf partsC puts gets eachC optionsC putOptions getOptions firstParts bodyC isKnown isCarried headerC messageC validOf
+unfolding both number flag meaningIn sample sampleMeanings isNobody kindC extensionC addressC addressesIn allowedIn nobodies areNobody placesC rangeOk endsOk addressesC rangeC groupC noGroup oneGroup spanIn spanOf maskC maskedC resultC blank sameBools sameNumbers sameAddress sameAddresses sameGroup sameValue rowOf rowIn table widths widthOf partsC puts gets eachC optionsC putOptions getOptions firstParts bodyC isKnown isCarried headerC messageC validOf
 cases-right = refl
 
 -- ---- profiles that break a rule: a list of 200, an SS type of 7 bits
@@ -210,5 +210,5 @@ wide ss =
 
 pub wide-right : validOf (wide 9) (activate (one 0 (home 1001))) ∷ validOf (wide 9) (activate (one 1 (home 1001))) ∷ validOf (wide 64) (activate (one 1 (home 1001))) ∷ []
     ≡ false ∷ true ∷ false ∷ []
-unfolding both number flag meaningIn isNobody kindC extensionC addressC addressesIn allowedIn nobodies areNobody placesC rangeOk endsOk addressesC rangeC groupC noGroup blank sameBools sameNumbers sameAddress sameAddresses sameGroup sameValue rowOf widths widthOf partsC puts gets eachC optionsC putOptions getOptions firstParts bodyC isKnown isCarried headerC messageC validOf
+unfolding both number flag meaningIn isNobody kindC extensionC addressC addressesIn allowedIn nobodies areNobody placesC rangeOk endsOk addressesC rangeC groupC noGroup blank sameBools sameNumbers sameAddress sameAddresses sameGroup sameValue rowOf rowIn table widths widthOf partsC puts gets eachC optionsC putOptions getOptions firstParts bodyC isKnown isCarried headerC messageC validOf
 wide-right = refl

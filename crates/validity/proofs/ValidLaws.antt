@@ -1,25 +1,26 @@
 -- What the tests of validity go by. Assumes nothing.
 use Prim.Native.Nat.{ℕ, suc, _+_, _-_, _*_, _/_, _%_, _^_, _≤_, _<_}
-use mathlib.Core.Path.{_≡_, refl, sym, _∙_}
+use mathlib.Core.Path.{_≡_, refl, sym, ap, _∙_}
 use mathlib.Core.Bool.{Bool, true, false, cond}
 use mathlib.Core.List.{List, _∷_}
 use native.Mathlib.Numerals.{add-one}
 use native.Mathlib.Omega.{arith}
-use lib.Dec.{eqb, ltb}
+use lib.Dec.{eqb, leb, ltb}
 use lib.ListN.{length, length-take, take, drop, getD, drop-of-length-le}
 use lib.Pow.{shr-lt, shl-exact}
 use lib.Seq.{drop-cons, getD-take}
-use borrow.Author.Tests.{eqb-true, eqb-false, eq-eqb, ne-eqb, lt-ltb, le-ltb, le-leb}
+use borrow.Author.Tests.{eqb-true, eqb-false, eq-eqb, ne-eqb, lt-ltb, le-ltb, le-leb, leb-true}
 use Rattle.codec.specs.Codec.{both, number, vecOk}
 use Rattle.codec.specs.Options.{flag}
-use Rattle.codec.proofs.Good.{both-true, both-none, not-both}
+use Rattle.codec.proofs.Good.{both-true, both-left, both-right, both-none}
 use Rattle.message.specs.Addresses.{nobody, isZero, isNobody, kindC, addressC}
 use Rattle.message.specs.Groups.{areNobody}
 use Rattle.message.specs.Acks.{maskC, maskedC}
-use Rattle.message.specs.Rows.{rowOf}
+use Rattle.message.specs.Rows.{table, rowOf}
 use Rattle.message.specs.Messages.{isKnown, isCarried, headerC}
 use Rattle.message.specs.declared.Row.{Row}
 use Rattle.message.specs.declared.Address.{Address}
+use Rattle.message.proofs.TableLaws.{allRows, each-row}
 
 -- ---- both
 
@@ -136,25 +137,21 @@ masked-none n m b e = rw e (both-yes _ _ (flag-ok _ false))
 
 -- ---- the header
 
-carried-arm : (t k : ℕ) (r s : Row) → 2 ≤ k → k ≤ 18 → (s .carried ≡ true → (2 ≤ t) × (t ≤ 18)) → cond (eqb t k) r s .carried ≡ true → (2 ≤ t) × (t ≤ 18)
-carried-arm t k r s l h rest = go (eqb t k) refl
-  where
-    go : (b : Bool) → eqb t k ≡ b → cond b r s .carried ≡ true → (2 ≤ t) × (t ≤ 18)
-    go true e w = let z = eqb-true t k e in (omega arith, omega arith)
-    go false e w = rest w
+-- a type that is carried is a known one
+abbrev onlyKnown : ℕ → Row → Bool
+onlyKnown t r = cond (r .carried) (isKnown t) true
+
+all-known : allRows onlyKnown table ≡ true
+unfolding table isKnown both
+all-known = refl
+
+carried-known : (t : ℕ) → isCarried t ≡ true → isKnown t ≡ true
+unfolding isCarried rowOf
+carried-known t e = ap (λ (b : Bool). cond b (isKnown t) true) (sym e) ∙ each-row onlyKnown table t all-known refl
 
 carried-small : (t : ℕ) → isCarried t ≡ true → (2 ≤ t) × (t ≤ 18)
-unfolding isCarried rowOf
-carried-small t =
-    carried-arm t 2 _ _ (omega arith) (omega arith)
-    (carried-arm t 3 _ _ (omega arith) (omega arith)
-    (carried-arm t 8 _ _ (omega arith) (omega arith)
-    (carried-arm t 10 _ _ (omega arith) (omega arith)
-    (carried-arm t 12 _ _ (omega arith) (omega arith)
-    (carried-arm t 13 _ _ (omega arith) (omega arith)
-    (carried-arm t 15 _ _ (omega arith) (omega arith)
-    (carried-arm t 16 _ _ (omega arith) (omega arith)
-    (λ e. not-both e))))))))
+unfolding isKnown
+carried-small t e = let k = carried-known t e in (leb-true 2 t (both-left _ _ k), leb-true t 18 (both-right (leb 2 t) _ k))
 
 -- so the header of a carried type is a good one
 pub carried-ok : (ss t : ℕ) → ss < 64 → isCarried t ≡ true → headerC ss .ok (ss, t) ≡ true

@@ -15,10 +15,11 @@ use Rattle.profile.specs.Counting.{every, sum}
 use Rattle.profile.specs.Rules.{meaningOk, meaningIn, airOk, shareOk, shareIn, sharesOk, profileOk}
 use Rattle.profile.specs.Sample.{sample, sampleMeanings, sampleShare}
 use Rattle.message.specs.Addresses.{nobody, isNobody, kindC, extensionC, addressC}
-use Rattle.message.specs.Groups.{addressesIn, allowedIn, nobodies, areNobody, placesC, rangeOk, endsOk, addressesC, rangeC, groupC, noGroup, oneGroup, isNoGroup, spanIn, spanOf}
+use Rattle.message.specs.Groups.{addressesIn, allowedIn, nobodies, areNobody, placesC, rangeOk, endsOk, addressesC, rangeC, groupC, noGroup, oneGroup, spanIn, spanOf}
 use Rattle.message.specs.Acks.{maskC, maskedC, resultC}
-use Rattle.message.specs.Values.{blank, withNumber, withUsers, withMask, withDispatchers, sameNumbers, sameAddress, sameAddresses, sameGroup, sameValue}
-use Rattle.message.specs.Rows.{rowOf, widths, widthOf, rowC, puts, gets, firstParts}
+use Rattle.message.specs.Numbers.{elements, elementOf, widths, widthOf}
+use Rattle.message.specs.Values.{blank, sameBools, sameNumbers, sameAddress, sameAddresses, sameGroup, sameValue}
+use Rattle.message.specs.Rows.{table, rowIn, rowOf, partsC, puts, gets, eachC, optionsC, putOptions, getOptions, firstParts}
 use Rattle.message.specs.Messages.{bodyC, isKnown, isCarried, headerC, messageC}
 use Rattle.message.specs.Reading.{wholeOf, lengthOk, readBits, readOf}
 use Rattle.message.specs.declared.Address.{Address}
@@ -98,7 +99,7 @@ abbrev pub written : Row → Write
 written (row v n bytes) = laid (bytes ++ (0xAA ∷ [])) n
 
 pub rows-written : list.map writes rows ≡ list.map written rows
-unfolding withDigit setBit putBits binary spare both number flag every sum meaningOk meaningIn airOk shareOk shareIn sharesOk profileOk sample sampleMeanings sampleShare isNobody kindC extensionC addressC addressesIn allowedIn nobodies areNobody placesC rangeOk endsOk addressesC rangeC groupC noGroup oneGroup isNoGroup spanIn spanOf maskC maskedC resultC blank sameNumbers sameAddress sameAddresses sameGroup sameValue rowOf widths widthOf rowC puts gets firstParts bodyC isKnown isCarried headerC messageC validOf bitsOf padded layOf layIn writeValid writeOf
+unfolding withDigit setBit putBits binary spare both number flag every sum meaningOk meaningIn airOk shareOk shareIn sharesOk profileOk sample sampleMeanings sampleShare isNobody kindC extensionC addressC addressesIn allowedIn nobodies areNobody placesC rangeOk endsOk addressesC rangeC groupC noGroup oneGroup spanIn spanOf maskC maskedC resultC blank sameBools sameNumbers sameAddress sameAddresses sameGroup sameValue rowOf rowIn table elements elementOf widths widthOf partsC puts gets eachC optionsC putOptions getOptions firstParts bodyC isKnown isCarried headerC messageC validOf bitsOf padded layOf layIn writeValid writeOf
 rows-written = refl
 
 -- ---- and read back
@@ -110,17 +111,17 @@ abbrev pub found : Row → Read Value
 found (row v n bytes) = got v n
 
 pub rows-read : list.map reads rows ≡ list.map found rows
-unfolding blank rowOf widths widthOf rowC puts gets firstParts bitAt fieldAt both number vecRead flag every sum meaningOk meaningIn airOk shareOk shareIn sharesOk profileOk sample sampleMeanings sampleShare kindC extensionC addressC addressesIn allowedIn nobodies placesC rangeOk endsOk addressesC rangeC groupC noGroup oneGroup spanIn spanOf maskC maskedC resultC bodyC isKnown isCarried headerC messageC wholeOf lengthOk readBits readOf
+unfolding blank rowOf rowIn table elements elementOf widths widthOf partsC puts gets eachC optionsC putOptions getOptions firstParts bitAt fieldAt both number vecRead flag every sum meaningOk meaningIn airOk shareOk shareIn sharesOk profileOk sample sampleMeanings sampleShare kindC extensionC addressC addressesIn allowedIn nobodies placesC rangeOk endsOk addressesC rangeC groupC noGroup oneGroup spanIn spanOf maskC maskedC resultC bodyC isKnown isCarried headerC messageC wholeOf lengthOk readBits readOf
 rows-read = refl
 
 -- ---- one byte too few, and from another byte of the area on
 
 pub sizes-right : list.map (λ (l : List ℕ). writeOf sample (call 13 0) l 0) ((0xAA ∷ 0xAA ∷ []) ∷ (0xAA ∷ []) ∷ [] ∷ [])
     ≡ laid (0x25 ∷ 0xA0 ∷ []) 11 ∷ refused (refusal 14) ∷ refused (refusal 14) ∷ []
-unfolding withDigit setBit putBits binary spare both number flag every sum meaningOk meaningIn airOk shareOk shareIn sharesOk profileOk sample sampleMeanings sampleShare isNobody kindC extensionC addressC addressesIn allowedIn nobodies areNobody placesC rangeOk endsOk addressesC rangeC groupC noGroup oneGroup isNoGroup spanIn spanOf maskC maskedC resultC blank sameNumbers sameAddress sameAddresses sameGroup sameValue rowOf widths widthOf rowC puts gets firstParts bodyC isKnown isCarried headerC messageC validOf bitsOf padded layOf layIn writeValid writeOf
+unfolding withDigit setBit putBits binary spare both number flag every sum meaningOk meaningIn airOk shareOk shareIn sharesOk profileOk sample sampleMeanings sampleShare isNobody kindC extensionC addressC addressesIn allowedIn nobodies areNobody placesC rangeOk endsOk addressesC rangeC groupC noGroup oneGroup spanIn spanOf maskC maskedC resultC blank sameBools sameNumbers sameAddress sameAddresses sameGroup sameValue rowOf rowIn table elements elementOf widths widthOf partsC puts gets eachC optionsC putOptions getOptions firstParts bodyC isKnown isCarried headerC messageC validOf bitsOf padded layOf layIn writeValid writeOf
 sizes-right = refl
 
 pub start-right : list.map (λ (b : ℕ). writeOf sample (call 13 0) (0xAA ∷ 0xAA ∷ 0xAA ∷ []) b) (0 ∷ 1 ∷ 2 ∷ [])
     ≡ laid (0x25 ∷ 0xA0 ∷ 0xAA ∷ []) 11 ∷ laid (0xAA ∷ 0x25 ∷ 0xA0 ∷ []) 11 ∷ refused (refusal 14) ∷ []
-unfolding withDigit setBit putBits binary spare both number flag every sum meaningOk meaningIn airOk shareOk shareIn sharesOk profileOk sample sampleMeanings sampleShare isNobody kindC extensionC addressC addressesIn allowedIn nobodies areNobody placesC rangeOk endsOk addressesC rangeC groupC noGroup oneGroup isNoGroup spanIn spanOf maskC maskedC resultC blank sameNumbers sameAddress sameAddresses sameGroup sameValue rowOf widths widthOf rowC puts gets firstParts bodyC isKnown isCarried headerC messageC validOf bitsOf padded layOf layIn writeValid writeOf
+unfolding withDigit setBit putBits binary spare both number flag every sum meaningOk meaningIn airOk shareOk shareIn sharesOk profileOk sample sampleMeanings sampleShare isNobody kindC extensionC addressC addressesIn allowedIn nobodies areNobody placesC rangeOk endsOk addressesC rangeC groupC noGroup oneGroup spanIn spanOf maskC maskedC resultC blank sameBools sameNumbers sameAddress sameAddresses sameGroup sameValue rowOf rowIn table elements elementOf widths widthOf partsC puts gets eachC optionsC putOptions getOptions firstParts bodyC isKnown isCarried headerC messageC validOf bitsOf padded layOf layIn writeValid writeOf
 start-right = refl

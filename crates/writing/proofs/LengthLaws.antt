@@ -1,15 +1,16 @@
 -- How long a valid message is. Assumes nothing.
-use Prim.Native.Nat.{ℕ, _+_, _*_, _-_, _/_, _^_, _≤_, min}
-use mathlib.Core.Path.{_≡_, refl, ap}
-use mathlib.Core.Bool.{Bool, true, false, cond}
+use Prim.Native.Nat.{ℕ, suc, _+_, _*_, _-_, _/_, _^_, _≤_, min}
+use mathlib.Core.Path.{_≡_, refl, sym, ap, _∙_}
+use mathlib.Core.Bool.{Bool, true, false, not, cond}
 use mathlib.Core.List.{List, [], _∷_, _++_}
 use native.Mathlib.Omega.{arith}
-use lib.Dec.{eqb}
+use lib.Dec.{eqb, leb}
 use lib.ListN.{length, length-append, length-take, take}
+use borrow.Author.Tests.{leb-true}
 use Rattle.bits.specs.Puts.{binary}
 use Rattle.bits.proofs.PutLaws.{length-binary}
-use Rattle.codec.specs.Codec.{Codec, number, pure, choose, vecBits}
-use Rattle.codec.specs.Options.{flag, option}
+use Rattle.codec.specs.Codec.{both, number, pure, guard, choose, vecBits}
+use Rattle.codec.specs.Options.{Optional, absent, there, flag, optional}
 use Rattle.codec.proofs.Good.{both-left, both-right}
 use Rattle.profile.specs.Rules.{meaningIn}
 use Rattle.profile.specs.declared.Kind.{Kind}
@@ -18,14 +19,17 @@ use Rattle.profile.specs.declared.Meaning.{Meaning}
 use Rattle.profile.specs.declared.Air.{Air}
 use Rattle.message.specs.Elements as element
 use Rattle.message.specs.Addresses.{isZero, kindC, extensionC, addressC}
-use Rattle.message.specs.Groups.{addressesBy, addressesIn, spanBy, spanIn, placesC, addressesC, rangeC, groupC, spanOf, firstOf}
+use Rattle.message.specs.Groups.{addressesBy, addressesIn, spanBy, spanIn, placesC, addressesC, rangeC, groupC, spanOf}
 use Rattle.message.specs.Acks.{maskC, maskedC, resultC}
-use Rattle.message.specs.Values.{blank}
-use Rattle.message.specs.Rows.{dispatchersC, dispatcherC, rowOf, widths, widthOf, Holds, partC, put, Tuple, rowC, gets, firstParts, partsOf}
-use Rattle.message.specs.Messages.{bodyC, headerC, messageC}
+use Rattle.message.specs.Numbers as place
+use Rattle.message.specs.Numbers.{widths, widthOf}
+use Rattle.message.specs.Values.{blank, numberAt}
+use Rattle.message.specs.Rows.{noRow, table, rowIn, rowOf, Holds, partC, put, Tuple, partsC, puts, gets, Options, putOption, getOptions, someOf, noneOf, eachC, optionsC, firstParts, partsOf, optionsOf}
+use Rattle.message.specs.Messages.{holdsJust, bodyC, headerC, messageC}
 use Rattle.message.specs.declared.Part.{Part}
 use Rattle.message.specs.declared.Part.the-variants as part
 use Rattle.message.specs.declared.Row.{Row}
+use Rattle.message.proofs.TableLaws.{allRows, each-row}
 use Rattle.message.proofs.GroupLaws.{few-addresses, few-identities, range-allowed}
 use Rattle.message.specs.declared.Address.{Address}
 use Rattle.message.specs.declared.Group.{Group}
@@ -84,19 +88,6 @@ module _ (air : Air) (none : Bool) (g : Group) where
   group-span-most v =
       omega (arith, group-length, named-by (m .kind) (m .count) (g .addresses) (few-of v) (few-identities air none g v))
 
-dispatchers-most : (air : Air) (b : Bool) (g : Group) → dispatchersC air .ok (b, g) ≡ true → length (dispatchersC air .bits (b, g)) ≤ 756
-unfolding flag number
-dispatchers-most air true g v =
-    let ok : groupC air true .ok g ≡ true = both-right _ _ (both-left _ _ (both-right _ _ (both-right true _ v))) in
-    omega (arith, group-most air true g ok, length-append (binary 1 1) (groupC air true .bits g), length-append (binary 1 1) (binary 1 1 ++ groupC air true .bits g), length-binary 1 1)
-dispatchers-most air false g v = omega (arith, length-append (binary 1 0) [], length-binary 1 0)
-
-dispatcher-most : (b : Bool) (a : Address) → length (dispatcherC .bits (b, a)) ≤ 52
-unfolding flag number
-dispatcher-most true a =
-    omega (arith, address-most a, length-append (binary 1 1) (addressC .bits a), length-append (binary 1 1) (binary 1 1 ++ addressC .bits a), length-binary 1 1)
-dispatcher-most false a = omega (arith, length-append (binary 1 0) [], length-binary 1 0)
-
 masked-most : (n : ℕ) (b : Bool) (k : ℕ) → length (maskedC n .bits (b, k)) ≤ 1 + n
 unfolding maskedC maskC flag number
 masked-most n true k = omega (arith, length-append (binary 1 1) (binary n (k / 2 ^ (64 - n))), length-binary 1 1, length-binary n (k / 2 ^ (64 - n)))
@@ -114,67 +105,155 @@ result-most r w = go (eqb r 1)
 
 abbrev mostOf : Part → ℕ
 mostOf part.Nothing = 0
-mostOf (part.Number e) = widthOf e
+mostOf (part.Number k) = widthOf k
 mostOf part.Users = 754
-mostOf part.User = 50
+mostOf (part.User i) = 50
 mostOf part.Masked = 65
 mostOf part.Result = 8
-mostOf part.Dispatchers = 756
-mostOf part.Dispatcher = 52
+mostOf part.Dispatchers = 754
+mostOf part.Dispatcher = 50
 
 part-most : (air : Air) (w : Value) (p : Part) (x : Holds p) → partC air w p .ok x ≡ true → length (partC air w p .bits x) ≤ mostOf p
 unfolding number
 part-most air w part.Nothing x e = omega arith
-part-most air w (part.Number e) x h = omega (arith, length-binary (widthOf e) x)
+part-most air w (part.Number k) x e = omega (arith, length-binary (widthOf k) x)
 part-most air w part.Users x e = group-most air false x e
-part-most air w part.User x e = address-most x
+part-most air w (part.User i) x e = address-most x
 part-most air w part.Masked x e = omega (arith, masked-most (min (spanOf air (w .users)) 64) (x .0) (x .1))
 part-most air w part.Result x e = result-most (x .0) (x .1)
-part-most air w part.Dispatchers x e = dispatchers-most air (x .0) (x .1) e
-part-most air w part.Dispatcher x e = dispatcher-most (x .0) (x .1)
+part-most air w part.Dispatchers x e = group-most air true x e
+part-most air w part.Dispatcher x e = address-most x
 
 abbrev mostIn : List Part → ℕ
 mostIn [] = 0
 mostIn (p ∷ ps) = mostOf p + mostIn ps
 
-row-most : (air : Air) (w : Value) (ps : List Part) (x : Tuple ps) → rowC air w ps .ok x ≡ true → length (rowC air w ps .bits x) ≤ mostIn ps
-unfolding rowC
-row-most air w [] x e = omega arith
-row-most air w (p ∷ ps) x e =
+parts-most : (air : Air) (w : Value) (ps : List Part) (x : Tuple ps) → partsC air w ps .ok x ≡ true → length (partsC air w ps .bits x) ≤ mostIn ps
+unfolding partsC
+parts-most air w [] x e = omega arith
+parts-most air w (p ∷ ps) x e =
     omega (
       arith,
-      length-append (partC air w p .bits (x .0)) (rowC air (put p (x .0) w) ps .bits (x .1)),
+      length-append (partC air w p .bits (x .0)) (partsC air (put p (x .0) w) ps .bits (x .1)),
       part-most air w p (x .0) (both-left _ _ e),
-      row-most air (put p (x .0) w) ps (x .1) (both-right (partC air w p .ok (x .0)) _ e),
+      parts-most air (put p (x .0) w) ps (x .1) (both-right (partC air w p .ok (x .0)) _ e),
     )
 
-few-arm : (b : Bool) (r s : Row) → mostIn (partsOf r) ≤ 1510 → mostIn (partsOf s) ≤ 1510 → mostIn (partsOf (cond b r s)) ≤ 1510
-few-arm true r s h k = h
-few-arm false r s h k = k
+-- ---- how long its options are: a P-bit each, and an O-bit
 
-few-in : (t : ℕ) → mostIn (partsOf (rowOf t)) ≤ 1510
-unfolding rowOf firstParts widthOf widths
-few-in t =
-    few-arm (eqb t 2) _ _ (omega arith)
-    (few-arm (eqb t 3) _ _ (omega arith)
-    (few-arm (eqb t 4) _ _ (omega arith)
-    (few-arm (eqb t 5) _ _ (omega arith)
-    (few-arm (eqb t 8) _ _ (omega arith)
-    (few-arm (eqb t 10) _ _ (omega arith)
-    (few-arm (eqb t 11) _ _ (omega arith)
-    (few-arm (eqb t 12) _ _ (omega arith)
-    (few-arm (eqb t 13) _ _ (omega arith)
-    (few-arm (eqb t 14) _ _ (omega arith)
-    (few-arm (eqb t 15) _ _ (omega arith)
-    (few-arm (eqb t 16) _ _ (omega arith)
-    (few-arm (eqb t 17) _ _ (omega arith)
-    (few-arm (eqb t 18) _ _ (omega arith)
-    (omega arith))))))))))))))
+option-most : (air : Air) (w : Value) (q : Part) (x : Optional (Holds q)) → optional element.pBit (partC air w q) .ok x ≡ true
+    → length (optional element.pBit (partC air w q) .bits x) ≤ 1 + mostOf q
+unfolding flag number
+option-most air w q absent e = omega (arith, length-append (binary 1 0) [], length-binary 1 0)
+option-most air w q (there a) e =
+    omega (
+      arith,
+      length-append (binary 1 1) (partC air w q .bits a),
+      length-binary 1 1,
+      part-most air w q a (both-right (flag element.pBit .ok true) _ (both-right true _ e)),
+    )
+
+abbrev mostEach : List Part → ℕ
+mostEach [] = 0
+mostEach (q ∷ qs) = 1 + mostOf q + mostEach qs
+
+each-most : (air : Air) (i : ℕ) (w : Value) (qs : List Part) (x : Options qs) → eachC air i w qs .ok x ≡ true → length (eachC air i w qs .bits x) ≤ mostEach qs
+unfolding eachC
+each-most air i w [] x e = omega arith
+each-most air i w (q ∷ qs) x e =
+    omega (
+      arith,
+      length-append (optional element.pBit (partC air w q) .bits (x .0)) (eachC air (suc i) (putOption i q (x .0) w) qs .bits (x .1)),
+      option-most air w q (x .0) (both-left _ _ e),
+      each-most air (suc i) (putOption i q (x .0) w) qs (x .1) (both-right (optional element.pBit (partC air w q) .ok (x .0)) _ e),
+    )
+
+abbrev mostUnder : List Part → ℕ
+mostUnder [] = 0
+mostUnder (q ∷ qs) = 1 + mostEach (q ∷ qs)
+
+options-most : (air : Air) (w : Value) (qs : List Part) (x : Options qs) → optionsC air w qs .ok x ≡ true → length (optionsC air w qs .bits x) ≤ mostUnder qs
+unfolding optionsC flag number
+options-most air w [] x e = omega arith
+options-most air w (q ∷ qs) x e = go (someOf (q ∷ qs) x) (both-right (flag element.oBit .ok (someOf (q ∷ qs) x)) _ (both-right true _ e))
+  where
+    go : (b : Bool) → choose b (guard 12 (someOf (q ∷ qs)) (eachC air 0 w (q ∷ qs))) (pure (noneOf (q ∷ qs)) (λ y. not (someOf (q ∷ qs) y))) .ok x ≡ true
+        → length (binary 1 (cond b 1 0) ++ choose b (guard 12 (someOf (q ∷ qs)) (eachC air 0 w (q ∷ qs))) (pure (noneOf (q ∷ qs)) (λ y. not (someOf (q ∷ qs) y))) .bits x) ≤ mostUnder (q ∷ qs)
+    go true k =
+        omega (
+          arith,
+          length-append (binary 1 1) (eachC air 0 w (q ∷ qs) .bits x),
+          length-binary 1 1,
+          each-most air 0 w (q ∷ qs) x (both-left (eachC air 0 w (q ∷ qs) .ok x) _ k),
+        )
+    go false k = omega (arith, length-append (binary 1 0) [], length-binary 1 0)
+
+-- ---- how long a row is
+
+abbrev mostOfRow : Row → ℕ
+mostOfRow r = mostIn (partsOf r) + mostUnder (optionsOf r)
+
+abbrev short : ℕ → Row → Bool
+short t r = leb (mostOfRow r) 1510
+
+all-short : allRows short table ≡ true
+unfolding table firstParts widthOf widths both
+all-short = refl
+
+none-short : (t : ℕ) → short t noRow ≡ true
+unfolding firstParts
+none-short t = refl
+
+few-in : (t : ℕ) → mostOfRow (rowOf t) ≤ 1510
+unfolding rowOf
+few-in t = leb-true (mostOfRow (rowIn table t)) 1510 (each-row short table t all-short (none-short t))
 
 body-most : (air : Air) (t : ℕ) (v : Value) → bodyC air t .ok v ≡ true → length (bodyC air t .bits v) ≤ 1510
 unfolding bodyC
 body-most air t v e =
-    omega (arith, few-in t, row-most air (blank t) (partsOf (rowOf t)) (gets (partsOf (rowOf t)) v) (both-right _ _ e))
+    let ps = partsOf (rowOf t) in
+    let qs = optionsOf (rowOf t) in
+    let w = puts ps (gets ps v) (blank t) in
+    let ok = both-right (holdsJust t ps qs v) _ e in
+    omega (
+      arith,
+      few-in t,
+      length-append (partsC air (blank t) ps .bits (gets ps v)) (optionsC air w qs .bits (getOptions 0 qs v)),
+      parts-most air (blank t) ps (gets ps v) (both-left _ _ ok),
+      options-most air w qs (getOptions 0 qs v) (both-right (partsC air (blank t) ps .ok (gets ps v)) _ ok),
+    )
+
+-- ---- an ACTIVATE ACK: a long list of users has a short mask
+
+ack-ok : (air : Air) (v : Value) → validOf air v ≡ true → v .pdu ≡ 3 → bodyC air 3 .ok v ≡ true
+ack-ok air v ok e = ap (λ (t : ℕ). bodyC air t .ok v) (sym e) ∙ valid-body air v ok
+
+-- its users are good
+ack-users : (air : Air) (v : Value) → bodyC air 3 .ok v ≡ true → groupC air false .ok (v .users) ≡ true
+unfolding bodyC rowOf rowIn table firstParts partsC gets
+ack-users air v e = both-left _ _ (both-left _ _ (both-right _ _ e))
+
+-- and at most 64 identities
+pub valid-span : (air : Air) (v : Value) → validOf air v ≡ true → v .pdu ≡ 3 → spanOf air (v .users) ≤ 64
+valid-span air v ok e = few-identities air false (v .users) (ack-users air v (ack-ok air v ok e))
+
+pub ack-most : (air : Air) (v : Value) → bodyC air 3 .ok v ≡ true → length (bodyC air 3 .bits v) ≤ 778
+unfolding bodyC rowOf rowIn table firstParts partsC gets optionsC
+ack-most air v e =
+    let n = min (spanOf air (v .users)) 64 in
+    let us = groupC air false .bits (v .users) in
+    let ms = maskedC n .bits (v .masked, v .mask) in
+    let rs = resultC .bits (numberAt place.result v, numberAt place.reason v) in
+    omega (
+      arith,
+      length-append (us ++ (ms ++ (rs ++ []))) [],
+      length-append us (ms ++ (rs ++ [])),
+      length-append ms (rs ++ []),
+      length-append rs [],
+      group-span-most air false (v .users) (ack-users air v e),
+      masked-most n (v .masked) (v .mask),
+      result-most (numberAt place.result v) (numberAt place.reason v),
+    )
 
 -- ---- how long the messages are
 
@@ -189,3 +268,11 @@ message-some air v = omega (arith, header-length air v)
 -- the longest is an ACTIVATE of 1,521 bits: fifteen users and fifteen dispatchers of kind 2; 2,048 are allowed
 pub message-most : (air : Air) (v : Value) → validOf air v ≡ true → length (bitsOf air v) ≤ 1521
 message-most air v ok = omega (arith, header-length air v, body-most air (v .pdu) v (valid-body air v ok))
+
+-- the longest ACTIVATE ACK has 789 bits, so 99 bytes: the desk's stand 100 bytes apart
+pub ack-message-most : (air : Air) (v : Value) → validOf air v ≡ true → v .pdu ≡ 3 → length (bitsOf air v) ≤ 789
+ack-message-most air v ok e =
+    omega (arith, header-length air v, ack-most air v (ack-ok air v ok e), ap (λ (t : ℕ). length (bodyC air t .bits v)) e)
+
+pub ack-bytes-most : (air : Air) (v : Value) → validOf air v ≡ true → v .pdu ≡ 3 → bytesFor (length (bitsOf air v)) ≤ 99
+ack-bytes-most air v ok e = omega (arith, ack-message-most air v ok e)

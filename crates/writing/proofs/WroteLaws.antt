@@ -85,3 +85,7 @@ pub left-none : {l m : List ℕ} {at p : ℕ} {bs : List ℕ} → Left l m at p 
 unfolding putBits
 left-none {l} {m} {at} {p} {bs} h =
     record { next = sym (h .ends ∙ rw add-zero (mod-eq-of-lt (h .small))); same = h .same; area = λ r. sym (h .area r .1) }
+
+-- the last run of them
+pub left-last : {l m k : List ℕ} {at p q : ℕ} {bs xs : List ℕ} → Left l m at p bs xs → Wrote m k p q xs → Wrote l k at q bs
+left-last {xs = xs} h w = left-none (left-some xs [] (rw (append-nil xs) h) w)

@@ -1,16 +1,14 @@
-// What each message has after the first 11 bits: its row's parts, one after the other.
+// What each message has after the first 11 bits: its row's parts, one after the other, then its options behind one O-bit.
 ghost use mathlib.Core.Path.{_≡_};
 ghost use Prim.Native.Nat.{min};
+ghost use Rattle.message.specs.Rows.{firstParts, optionsOf};
 ghost use Rattle.message.specs.Messages.{bodyC};
-ghost use Rattle.message.specs.declared.Part.the-variants.{Number, Users, User, Masked, Result, Dispatchers, Dispatcher};
-ghost use Rattle.writing.specs.Parts.{partBits, rowBits};
+ghost use Rattle.writing.specs.Parts.{someGiven, optionBits, eachBits, optionsBits, partsBits};
 ghost use Rattle.writing.specs.Wrote.{Wrote};
-use crate::ack;
-use crate::address;
 use crate::element;
-use crate::group;
-use crate::option;
+use crate::part;
 use message::Part;
+use message::Row;
 use message::Slot;
 use message::Value;
 use profile::Air;
@@ -20,114 +18,129 @@ pub(crate) fn write_body(air: Air, value: Value, out: &mut [u8], at: usize) -> u
 {
     let row = message::row_of(value.pdu);
     let parts = row.parts;
-    write_row(
-        air,
-        parts,
-        row.count,
-        message::blank(value.pdu),
-        value,
-        out,
-        at,
-    )
+    write_parts(air, row, parts, message::blank(value.pdu), value, out, at)
 }
 
 // `made` is what the parts so far make of the blank value.
-fn write_row(
+fn write_parts(
     air: Air,
-    parts: [Slot; 4],
-    count: u8,
+    row: Row,
+    parts: [Slot; 6],
     blank: Value,
-    value: Value,
+    v: Value,
     out: &mut [u8],
     at: usize,
 ) -> usize
-    ensures { λ r. ⌜ Wrote (now (out .entry)) (now (out .exit)) at r (rowBits air blank count parts value) ⌝ }
+    ensures { λ r. ⌜ Wrote (now (out .entry)) (now (out .exit)) at r (partsBits air blank (firstParts (row .count) parts) (optionsOf row) v) ⌝ }
 {
+    let optional = row.optional;
     let mut made = blank;
     let mut next = at;
     let mut i: usize = 0;
-    while i < count as usize {
-        if i >= 4 {
-            return next;
+    while i < row.count as usize {
+        if i >= 6 {
+            return write_options(air, row.options, optional, made, v, out, next);
         }
         let slot = parts[i];
         let part = slot.part;
-        next = write_part(air, made, part, value, out, next);
-        made = message::copied(part, value, made);
+        next = part::write_part(air, made, part, v, out, next);
+        made = message::copied(part, v, made);
+        i += 1;
+    }
+    write_options(air, row.options, optional, made, v, out, next)
+}
+
+// The O-bit says whether one of the options is there; without it none has a P-bit. A row without options has no O-bit.
+fn write_options(
+    air: Air,
+    count: u8,
+    optional: [Slot; 7],
+    parts: Value,
+    v: Value,
+    out: &mut [u8],
+    at: usize,
+) -> usize
+    ensures { λ r. ⌜ Wrote (now (out .entry)) (now (out .exit)) at r (optionsBits air parts (firstParts count optional) v) ⌝ }
+{
+    let many = few(count);
+    if many == 0 {
+        return at;
+    }
+    if some_given(many, v) {
+        let p = element::bit(out, at, true);
+        return write_each(air, count, optional, parts, v, out, p);
+    }
+    element::bit(out, at, false)
+}
+
+// A row has at most seven options.
+fn few(count: u8) -> usize
+    ensures { λ r. ⌜ r ≡ min count 7 ⌝ }
+{
+    if count < 7 {
+        return count as usize;
+    }
+    7
+}
+
+// One of the first `count` options is there.
+fn some_given(count: usize, v: Value) -> bool
+    ensures { λ r. ⌜ r ≡ someGiven 0 count v ⌝ }
+{
+    let mut i: usize = 0;
+    while i < count {
+        let option = i;
+        i += 1;
+        if message::given_at(v, option) {
+            return true;
+        }
+    }
+    false
+}
+
+// `made` is what the parts, and the options so far, make of the blank value.
+fn write_each(
+    air: Air,
+    count: u8,
+    optional: [Slot; 7],
+    parts: Value,
+    v: Value,
+    out: &mut [u8],
+    at: usize,
+) -> usize
+    ensures { λ r. ⌜ Wrote (now (out .entry)) (now (out .exit)) at r (eachBits air 0 parts (firstParts count optional) v) ⌝ }
+{
+    let mut made = parts;
+    let mut next = at;
+    let mut i: usize = 0;
+    while i < count as usize {
+        if i >= 7 {
+            return next;
+        }
+        let slot = optional[i];
+        let part = slot.part;
+        next = write_option(air, i, made, part, v, out, next);
+        made = message::copied_option(i, part, v, made);
         i += 1;
     }
     next
 }
 
-fn write_part(air: Air, made: Value, part: Part, v: Value, out: &mut [u8], at: usize) -> usize
-    ensures { λ r. ⌜ Wrote (now (out .entry)) (now (out .exit)) at r (partBits air made part v) ⌝ }
+// The P-bit says whether the option is there.
+fn write_option(
+    air: Air,
+    option: usize,
+    made: Value,
+    part: Part,
+    v: Value,
+    out: &mut [u8],
+    at: usize,
+) -> usize
+    ensures { λ r. ⌜ Wrote (now (out .entry)) (now (out .exit)) at r (optionBits air option made part v) ⌝ }
 {
-    match part {
-        Part::Nothing => at,
-        Part::Number(element) => number_part(air, made, element, v, out, at),
-        Part::Users => users_part(air, made, v, out, at),
-        Part::User => user_part(air, made, v, out, at),
-        Part::Masked => mask_part(air, made, v, out, at),
-        Part::Result => result_part(air, made, v, out, at),
-        Part::Dispatchers => dispatchers_part(air, made, v, out, at),
-        Part::Dispatcher => dispatcher_part(air, made, v, out, at),
+    if message::given_at(v, option) {
+        let p = element::bit(out, at, true);
+        return part::write_part(air, made, part, v, out, p);
     }
-}
-
-fn number_part(air: Air, made: Value, element: u8, v: Value, out: &mut [u8], at: usize) -> usize
-    ensures { λ r. ⌜ Wrote (now (out .entry)) (now (out .exit)) at r (partBits air made (Number element) v) ⌝ }
-{
-    let width = message::width_of(element);
-    let n = message::number_of(v, element);
-    element::word(out, at, width, n)
-}
-
-fn users_part(air: Air, made: Value, v: Value, out: &mut [u8], at: usize) -> usize
-    ensures { λ r. ⌜ Wrote (now (out .entry)) (now (out .exit)) at r (partBits air made Users v) ⌝ }
-{
-    let users = v.users;
-    group::write_group(air, users, out, at)
-}
-
-fn user_part(air: Air, made: Value, v: Value, out: &mut [u8], at: usize) -> usize
-    ensures { λ r. ⌜ Wrote (now (out .entry)) (now (out .exit)) at r (partBits air made User v) ⌝ }
-{
-    let users = v.users;
-    address::write_address(message::first_of(users), out, at)
-}
-
-fn mask_part(air: Air, made: Value, v: Value, out: &mut [u8], at: usize) -> usize
-    ensures { λ r. ⌜ Wrote (now (out .entry)) (now (out .exit)) at r (partBits air made Masked v) ⌝ }
-{
-    let users = made.users;
-    ack::write_masked(few(message::span_of(air, users)), v.masked, v.mask, out, at)
-}
-
-fn few(count: usize) -> usize
-    ensures { λ r. ⌜ r ≡ min count 64 ⌝ }
-{
-    if count < 64 {
-        return count;
-    }
-    64
-}
-
-fn result_part(air: Air, made: Value, v: Value, out: &mut [u8], at: usize) -> usize
-    ensures { λ r. ⌜ Wrote (now (out .entry)) (now (out .exit)) at r (partBits air made Result v) ⌝ }
-{
-    ack::write_result(message::number_of(v, 9), message::number_of(v, 10), out, at)
-}
-
-fn dispatchers_part(air: Air, made: Value, v: Value, out: &mut [u8], at: usize) -> usize
-    ensures { λ r. ⌜ Wrote (now (out .entry)) (now (out .exit)) at r (partBits air made Dispatchers v) ⌝ }
-{
-    let dispatchers = v.dispatchers;
-    option::write_dispatchers(air, v.option, dispatchers, out, at)
-}
-
-fn dispatcher_part(air: Air, made: Value, v: Value, out: &mut [u8], at: usize) -> usize
-    ensures { λ r. ⌜ Wrote (now (out .entry)) (now (out .exit)) at r (partBits air made Dispatcher v) ⌝ }
-{
-    let dispatchers = v.dispatchers;
-    option::write_dispatcher(v.option, message::first_of(dispatchers), out, at)
+    element::bit(out, at, false)
 }

@@ -10,8 +10,8 @@ row-of-requires c κs = search needs
 blank-requires : tie.Need-blank-requires
 blank-requires c κs = search needs
 
-write-row-requires : tie.Need-write-row-requires
-write-row-requires c κs = search needs
+write-parts-requires : tie.Need-write-parts-requires
+write-parts-requires c κs = search needs
 
 same-length : tie.Need-same-length
 same-length c = search needs
@@ -19,8 +19,8 @@ same-length c = search needs
 returns : tie.Need-returns
 returns c =
     let r = c .before .before in
-    rw (body-row _ _ _, ← (r .before .before .before .before .row-of .ensures), ← (r .before .before .blank .ensures)) (r .write-row .ensures)
+    rw (body-row _ _ _, ← (r .before .before .before .before .row-of .ensures), ← (r .before .before .blank .ensures)) (r .write-parts .ensures)
 
 pub write-body-spec : {M : Type 1} → statement M
 write-body-spec =
-    tie.close (tie.spec row-of-requires blank-requires write-row-requires same-length returns)
+    tie.close (tie.spec row-of-requires blank-requires write-parts-requires same-length returns)

@@ -1,9 +1,9 @@
--- `writing::body::users_part` meets its contract. Assumes nothing.
+-- `writing::part::dispatchers_part` meets its contract. Assumes nothing.
 use borrow.Author.Needs.{needs}
 use Rattle.message.specs.Groups.{rangeC, groupC}
 use Rattle.writing.specs.Parts.{partBits}
-use Rattle.writing.proofs.body.users_part.Statement.{statement}
-use Rattle.writing.proofs.body.users_part.Tie as tie
+use Rattle.writing.proofs.part.dispatchers_part.Statement.{statement}
+use Rattle.writing.proofs.part.dispatchers_part.Tie as tie
 
 write-group-requires : tie.Need-write-group-requires
 write-group-requires c κs = search needs
@@ -17,5 +17,5 @@ returns c =
     let p1 = c .before .before in
     p1 .write-group .ensures
 
-pub users-part-spec : {M : Type 1} → statement M
-users-part-spec = tie.close (tie.spec write-group-requires same-length returns)
+pub dispatchers-part-spec : {M : Type 1} → statement M
+dispatchers-part-spec = tie.close (tie.spec write-group-requires same-length returns)

@@ -1,8 +1,8 @@
--- `writing::body::write_part` meets its contract. Assumes nothing.
+-- `writing::part::write_part` meets its contract. Assumes nothing.
 use borrow.Author.Needs.{needs}
 use Rattle.writing.proofs.RowLaws.{wrote-nothing}
-use Rattle.writing.proofs.body.write_part.Statement.{statement}
-use Rattle.writing.proofs.body.write_part.Tie as tie
+use Rattle.writing.proofs.part.write_part.Statement.{statement}
+use Rattle.writing.proofs.part.write_part.Tie as tie
 
 enum-told : tie.Need-enum-told
 enum-told c = search needs
@@ -19,32 +19,32 @@ enum-told-2 c = search needs
 users-part-requires : tie.Need-users-part-requires
 users-part-requires c κs = search needs
 
-enum-told-3 : tie.Need-enum-told-3
-enum-told-3 c = search needs
+enum-known-part-2 : tie.Need-enum-known-part-2
+enum-known-part-2 c = search needs
 
 user-part-requires : tie.Need-user-part-requires
 user-part-requires c κs = search needs
 
-enum-told-4 : tie.Need-enum-told-4
-enum-told-4 c = search needs
+enum-told-3 : tie.Need-enum-told-3
+enum-told-3 c = search needs
 
 mask-part-requires : tie.Need-mask-part-requires
 mask-part-requires c κs = search needs
 
-enum-told-5 : tie.Need-enum-told-5
-enum-told-5 c = search needs
+enum-told-4 : tie.Need-enum-told-4
+enum-told-4 c = search needs
 
 result-part-requires : tie.Need-result-part-requires
 result-part-requires c κs = search needs
 
-enum-told-6 : tie.Need-enum-told-6
-enum-told-6 c = search needs
+enum-told-5 : tie.Need-enum-told-5
+enum-told-5 c = search needs
 
 dispatchers-part-requires : tie.Need-dispatchers-part-requires
 dispatchers-part-requires c κs = search needs
 
-enum-told-7 : tie.Need-enum-told-7
-enum-told-7 c = search needs
+enum-told-6 : tie.Need-enum-told-6
+enum-told-6 c = search needs
 
 dispatcher-part-requires : tie.Need-dispatcher-part-requires
 dispatcher-part-requires c κs = search needs
@@ -71,10 +71,7 @@ same-length-3 : tie.Need-same-length-3
 same-length-3 c = search needs
 
 returns-4 : tie.Need-returns-4
-returns-4 c =
-    let p1 = c .before .before .before .before in
-    let p2 = c .before .before in
-    rw (p1 .enum-told3 .given .1) (p2 .user-part .ensures)
+returns-4 c = rw (c .before .before .before .before .before .part2 .given .1) (c .before .before .user-part .ensures)
 
 same-length-4 : tie.Need-same-length-4
 same-length-4 c = search needs
@@ -83,7 +80,7 @@ returns-5 : tie.Need-returns-5
 returns-5 c =
     let p1 = c .before .before .before .before in
     let p2 = c .before .before in
-    rw (p1 .enum-told4 .given .1) (p2 .mask-part .ensures)
+    rw (p1 .enum-told3 .given .1) (p2 .mask-part .ensures)
 
 same-length-5 : tie.Need-same-length-5
 same-length-5 c = search needs
@@ -92,7 +89,7 @@ returns-6 : tie.Need-returns-6
 returns-6 c =
     let p1 = c .before .before .before .before in
     let p2 = c .before .before in
-    rw (p1 .enum-told5 .given .1) (p2 .result-part .ensures)
+    rw (p1 .enum-told4 .given .1) (p2 .result-part .ensures)
 
 same-length-6 : tie.Need-same-length-6
 same-length-6 c = search needs
@@ -101,7 +98,7 @@ returns-7 : tie.Need-returns-7
 returns-7 c =
     let p1 = c .before .before .before .before in
     let p2 = c .before .before in
-    rw (p1 .enum-told6 .given .1) (p2 .dispatchers-part .ensures)
+    rw (p1 .enum-told5 .given .1) (p2 .dispatchers-part .ensures)
 
 same-length-7 : tie.Need-same-length-7
 same-length-7 c = search needs
@@ -110,7 +107,7 @@ returns-8 : tie.Need-returns-8
 returns-8 c =
     let p1 = c .before .before .before .before in
     let p2 = c .before .before in
-    rw (p1 .enum-told7 .given .1) (p2 .dispatcher-part .ensures)
+    rw (p1 .enum-told6 .given .1) (p2 .dispatcher-part .ensures)
 
 pub write-part-spec : {M : Type 1} → statement M
 write-part-spec =
@@ -121,15 +118,15 @@ write-part-spec =
     number-part-requires
     enum-told-2
     users-part-requires
-    enum-told-3
+    enum-known-part-2
     user-part-requires
-    enum-told-4
+    enum-told-3
     mask-part-requires
-    enum-told-5
+    enum-told-4
     result-part-requires
-    enum-told-6
+    enum-told-5
     dispatchers-part-requires
-    enum-told-7
+    enum-told-6
     dispatcher-part-requires
     returns
     same-length

@@ -1,15 +1,15 @@
--- `writing::body::result_part` meets its contract. Assumes nothing.
+-- `writing::part::result_part` meets its contract. Assumes nothing.
 use borrow.Author.Needs.{needs}
 use Rattle.message.specs.Acks.{resultC}
 use Rattle.writing.specs.Parts.{partBits}
-use Rattle.writing.proofs.body.result_part.Statement.{statement}
-use Rattle.writing.proofs.body.result_part.Tie as tie
+use Rattle.writing.proofs.part.result_part.Statement.{statement}
+use Rattle.writing.proofs.part.result_part.Tie as tie
 
-number-of-requires : tie.Need-number-of-requires
-number-of-requires c κs = search needs
+number-at-requires : tie.Need-number-at-requires
+number-at-requires c κs = search needs
 
-number-of-requires-2 : tie.Need-number-of-requires-2
-number-of-requires-2 c κs = search needs
+number-at-requires-2 : tie.Need-number-at-requires-2
+number-at-requires-2 c κs = search needs
 
 write-result-requires : tie.Need-write-result-requires
 write-result-requires c κs = search needs
@@ -23,9 +23,9 @@ returns c =
     let p1 = c .before .before .before .before .before in
     let p2 = c .before .before .before .before in
     let p3 = c .before .before in
-    rw (p2 .number-of2 .ensures, p1 .number-of .ensures) at (p3 .write-result .ensures)
+    rw (p2 .number-at2 .ensures, p1 .number-at .ensures) at (p3 .write-result .ensures)
 
 pub result-part-spec : {M : Type 1} → statement M
 result-part-spec =
     tie.close
-    (tie.spec number-of-requires number-of-requires-2 write-result-requires same-length returns)
+    (tie.spec number-at-requires number-at-requires-2 write-result-requires same-length returns)

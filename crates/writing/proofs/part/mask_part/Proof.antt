@@ -1,9 +1,9 @@
--- `writing::body::mask_part` meets its contract. Assumes nothing.
+-- `writing::part::mask_part` meets its contract. Assumes nothing.
 use borrow.Author.Needs.{needs}
 use Rattle.message.specs.Acks.{maskedC}
 use Rattle.writing.specs.Parts.{partBits}
-use Rattle.writing.proofs.body.mask_part.Statement.{statement}
-use Rattle.writing.proofs.body.mask_part.Tie as tie
+use Rattle.writing.proofs.part.mask_part.Statement.{statement}
+use Rattle.writing.proofs.part.mask_part.Tie as tie
 
 span-of-requires : tie.Need-span-of-requires
 span-of-requires c κs = search needs
