@@ -25,7 +25,8 @@ use Rattle.message.specs.Messages.{fill, taken, bodyC}
 use Rattle.message.proofs.AddressLaws.{zero-is, is-nobody}
 use Rattle.message.proofs.GroupLaws.{few-addresses, range-allowed}
 use Rattle.message.proofs.ValueLaws.{value-one}
-use Rattle.message.proofs.RowLaws.{every-row, option-absent}
+use Rattle.message.proofs.RowLaws.{option-absent}
+use Rattle.message.proofs.TableLaws.{each-row}
 use Rattle.message.specs.declared.Address.{Address}
 use Rattle.message.specs.declared.Group.{Group}
 use Rattle.message.specs.declared.Part.{Part}
@@ -331,8 +332,8 @@ abbrev rowHasBytes : Row → Bool
 rowHasBytes r = both (allHaveBytes (partsOf r)) (atMostOne (optionsOf r))
 
 row-bytes : (t : ℕ) → rowHasBytes (rowOf t) ≡ true
-unfolding table firstParts both
-row-bytes t = every-row rowHasBytes refl refl t
+unfolding rowOf table firstParts both
+row-bytes t = each-row (λ u r. rowHasBytes r) table t refl refl
 
 body-fits : (air : Air) (t : ℕ) (v : Value) → bodyC air t .ok v ≡ true → Value-fits v
 unfolding bodyC

@@ -7,7 +7,7 @@ use mathlib.Core.List.{List, [], _∷_}
 use lib.ListN.{set}
 use Rattle.bits.specs.Fields.{bitAt, fieldAt}
 use Rattle.codec.specs.Stops.{short, refusal}
-use Rattle.codec.specs.Codec.{Read, got, no, both, number, vecRead}
+use Rattle.codec.specs.Codec.{Ground, Read, got, no, both, number, vecRead, vecOrder}
 use Rattle.codec.specs.Options.{flag}
 use Rattle.profile.specs.Counting.{every, sum}
 use Rattle.profile.specs.Rules.{meaningOk, meaningIn, airOk, shareOk, shareIn, sharesOk, profileOk}
@@ -21,7 +21,7 @@ use Rattle.message.specs.Numbers.{elements, elementOf, widths, widthOf}
 use Rattle.message.specs.Values.{blank, withNumber, withUsers, withDispatchers, withGiven}
 use Rattle.message.specs.Rows.{table, rowIn, rowOf, partsC, puts, eachC, optionsC, putOptions, firstParts}
 use Rattle.message.specs.Messages.{bodyC, isKnown, isCarried, headerC, messageC}
-use Rattle.message.specs.Reading.{wholeOf, lengthOk, readBits, readOf}
+use Rattle.message.specs.Reading.{wholeOf, lengthOk, readBits, readOf, bitsOrder, readingOrder}
 use Rattle.message.specs.declared.Value.{Value}
 use Rattle.message.specs.declared.Address.{Address}
 
@@ -71,8 +71,31 @@ cases =
     -- SS type 10 with PDU type 1 and with type 4: 5 comes before 6 and 7
     ∷ reads (0x28 ∷ 0x20 ∷ []) 11 (no (refusal 5))
     ∷ reads (0x28 ∷ 0x80 ∷ []) 11 (no (refusal 5))
+    -- 6: types 0, 1, 19 and 31; 7: type 4, which is known and not carried
+    ∷ reads (0x24 ∷ 0x00 ∷ []) 11 (no (refusal 6))
+    ∷ reads (0x24 ∷ 0x20 ∷ []) 11 (no (refusal 6))
+    ∷ reads (0x26 ∷ 0x60 ∷ []) 11 (no (refusal 6))
+    ∷ reads (0x27 ∷ 0xE0 ∷ []) 11 (no (refusal 6))
+    ∷ reads (0x24 ∷ 0x80 ∷ []) 11 (no (refusal 7))
+    -- 9: ACTIVATE with a reserved range, 4, and with "none" for its users, 0
+    ∷ reads (0x24 ∷ 0x48 ∷ []) 15 (no (refusal 9))
+    ∷ reads (0x24 ∷ 0x40 ∷ []) 15 (no (refusal 9))
+    -- 11: first and last fall, 1,004 to 1,001; of 65 identities, 1,001 to 1,065; of 64 it is read as far as the O-bit, which is missing
+    ∷ reads (0x24 ∷ 0x5E ∷ 0x80 ∷ 0x01 ∷ 0xF6 ∷ 0x20 ∷ 0x00 ∷ 0x7D ∷ 0x20 ∷ []) 67 (no (refusal 11))
+    ∷ reads (0x24 ∷ 0x5E ∷ 0x80 ∷ 0x01 ∷ 0xF4 ∷ 0xA0 ∷ 0x00 ∷ 0x85 ∷ 0x20 ∷ []) 67 (no (refusal 11))
+    ∷ reads (0x24 ∷ 0x5E ∷ 0x80 ∷ 0x01 ∷ 0xF4 ∷ 0xA0 ∷ 0x00 ∷ 0x85 ∷ 0x00 ∷ []) 67 (no (short element.oBit 67))
+    -- 12: INTERCEPTED, its O-bit 1 and its P-bit 0
+    ∷ reads (0x25 ∷ 0x40 ∷ 0x80 ∷ []) 18 (no (refusal 12))
     ∷ []
 
 pub cases-right : list.map gives cases ≡ list.map wants cases
 unfolding bitAt fieldAt both number vecRead flag every sum meaningOk meaningIn airOk shareOk shareIn sharesOk profileOk sample sampleMeanings sampleShare kindC extensionC addressC addressesIn allowedIn nobodies placesC rangeOk endsOk addressesC rangeC groupC noGroup oneGroup spanIn spanOf maskC maskedC resultC elements elementOf widths widthOf blank rowOf rowIn table partsC puts eachC optionsC putOptions firstParts bodyC isKnown isCarried headerC messageC wholeOf lengthOk readBits readOf
 cases-right = refl
+
+-- ---- the grounds along the bits
+
+-- of worked case 8: 1, 3; SS type and PDU type; 5, 6, 7; the range and 9; of each address the kind, 10, the SSI; 11; the O-bit; 13
+pub order-right : list.map (λ (g : Ground). g .0) (readingOrder sample (0x24 ∷ 0x5E ∷ 0x80 ∷ 0x01 ∷ 0xF4 ∷ 0xA0 ∷ 0x00 ∷ 0x7D ∷ 0x80 ∷ []) 68)
+    ≡ 1 ∷ 3 ∷ 4 ∷ 4 ∷ 5 ∷ 6 ∷ 7 ∷ 4 ∷ 9 ∷ 4 ∷ 10 ∷ 4 ∷ 4 ∷ 10 ∷ 4 ∷ 11 ∷ 4 ∷ 13 ∷ []
+unfolding bitAt fieldAt both number vecRead vecOrder flag every sum meaningOk meaningIn airOk shareOk shareIn sharesOk profileOk sample sampleMeanings sampleShare kindC extensionC addressC addressesIn allowedIn nobodies placesC rangeOk endsOk addressesC rangeC groupC noGroup oneGroup spanIn spanOf maskC maskedC resultC elements elementOf widths widthOf blank rowOf rowIn table partsC puts eachC optionsC putOptions firstParts bodyC isKnown isCarried headerC messageC wholeOf lengthOk readBits readOf bitsOrder readingOrder
+order-right = refl

@@ -5,7 +5,9 @@ pub mod ValueLaws
 pub mod MessageLaws
 pub mod ReadingLaws
 pub mod StopLaws
+pub mod OrderLaws
 pub mod Cases
 pub mod RowLaws
 pub mod SlotLaws
 pub mod TableLaws
+pub mod Tried

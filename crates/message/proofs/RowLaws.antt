@@ -1,7 +1,7 @@
 -- What is put into a value and taken out of it again; the tables past their ends, and widths that fit a number of 32 bits. Assumes nothing.
 use Prim.Native.Nat.{ℕ, zero, suc, _≤_}
 use mathlib.Core.Path.{_≡_, refl, sym, ap, _∙_}
-use mathlib.Core.Bool.{Bool, true, false, not, cond, _||_}
+use mathlib.Core.Bool.{Bool, true, false, not, _||_}
 use mathlib.Core.List.{List, [], _∷_}
 use native.Mathlib.Omega.{arith}
 use lib.Dec.{eqb, leb}
@@ -15,12 +15,12 @@ use Rattle.message.specs.Addresses.{nobody}
 use Rattle.message.specs.Numbers as place
 use Rattle.message.specs.Numbers.{elements, elementOf, widths, widthOf}
 use Rattle.message.specs.Values.{numberAt, givenAt, withNumber, withGiven}
-use Rattle.message.specs.Rows.{noRow, table, rowIn, rowOf, Holds, put, get, Options, orElse, ifGiven, putOption, copyOption, putOptions, someOf, noneOf}
+use Rattle.message.specs.Rows.{table, rowOf, Holds, put, get, Options, orElse, ifGiven, putOption, copyOption, putOptions, someOf, noneOf}
 use Rattle.message.specs.declared.Group.{Group}
 use Rattle.message.specs.declared.Part.{Part}
 use Rattle.message.specs.declared.Part.the-variants as part
-use Rattle.message.specs.declared.Row.{Row}
 use Rattle.message.specs.declared.Value.{Value}
+use Rattle.message.proofs.TableLaws.{each-row}
 
 -- ---- past the end of an array
 
@@ -35,30 +35,11 @@ pub width-none : (k : ℕ) → 12 ≤ k → 0 ≡ widthOf k
 unfolding widthOf widths
 width-none k h = sym (List·getD-eq-default widths 0 h)
 
--- ---- what every row of the table passes
+-- ---- every row has seven slots for its options
 
-abbrev pub allRows : (Row → Bool) → List (ℕ × Row) → Bool
-allRows test [] = true
-allRows test (x ∷ rest) = both (test (x .1)) (allRows test rest)
-
-row-in : (test : Row → Bool) (rows : List (ℕ × Row)) (t : ℕ) → test noRow ≡ true → allRows test rows ≡ true → test (rowIn rows t) ≡ true
-unfolding rowIn
-row-in test [] t none e = none
-row-in test (x ∷ rest) t none e = go (eqb t (x .0)) (row-in test rest t none (both-right (test (x .1)) _ e))
-  where
-    go : (b : Bool) → test (rowIn rest t) ≡ true → test (cond b (x .1) (rowIn rest t)) ≡ true
-    go true h = both-left _ _ e
-    go false h = h
-
--- a test that the rows pass, and a type that has none, is passed by the row of any type
-pub every-row : (test : Row → Bool) → test noRow ≡ true → allRows test table ≡ true → (t : ℕ) → test (rowOf t) ≡ true
-unfolding rowOf
-every-row test none e t = row-in test table t none e
-
--- each has seven slots for its options
 pub seven-options : (t : ℕ) → length (rowOf t .optional) ≡ 7
-unfolding table both
-seven-options t = eqb-true _ _ (every-row (λ r. eqb (length (r .optional)) 7) refl refl t)
+unfolding rowOf table both
+seven-options t = eqb-true _ _ (each-row (λ u r. eqb (length (r .optional)) 7) table t refl refl)
 
 -- ---- no number is wider than 32 bits
 

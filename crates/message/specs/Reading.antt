@@ -1,12 +1,12 @@
 -- Reading a message: document 01's order, 1, then 3, then along the bits, then 13.
 use Prim.Native.Nat.{ℕ, _*_}
 use mathlib.Core.Bool.{Bool, cond, not}
-use mathlib.Core.List.{List}
+use mathlib.Core.List.{List, [], _∷_, _++_}
 use lib.Dec.{eqb, leb}
 use lib.ListN.{length}
 use Rattle.bits.specs.Fields.{bitAt}
 use Rattle.codec.specs.Stops.{refusal}
-use Rattle.codec.specs.Codec.{Codec, Read, got, no, bind, both}
+use Rattle.codec.specs.Codec.{Ground, Codec, Read, got, no, bind, afterwards, both}
 use Rattle.profile.specs.Rules.{profileOk}
 use Rattle.profile.specs.declared.Air.{Air}
 use Rattle.profile.specs.declared.Profile.{Profile}
@@ -29,6 +29,16 @@ readBits air l n = cond (lengthOk l n) (wholeOf air (bitAt l) n) (no (refusal 3)
 
 unfoldable pub readOf : Profile → List ℕ → ℕ → Read Value
 readOf p l n = cond (profileOk p) (readBits (p .air) l n) (no (refusal 1))
+
+-- ---- the grounds of its refusals, first to last
+
+-- along the bits: 4 for each element before its content, 5 to 7 after the header, 9 after a range, 10 after a kind, 11 after the second
+-- address, 12 after the last P-bit; and 13 where bits are left over
+unfoldable pub bitsOrder : Air → (ℕ → ℕ) → ℕ → List Ground
+bitsOrder air f n = messageC air .order f n 0 ++ afterwards (messageC air .read f n 0) (λ v p. (13, not (eqb p n)) ∷ [])
+
+unfoldable pub readingOrder : Profile → List ℕ → ℕ → List Ground
+readingOrder p l n = (1, not (profileOk p)) ∷ ((3, not (lengthOk l n)) ∷ bitsOrder (p .air) (bitAt l) n)
 
 -- the numbers that reading gives once 1 does not come: 3 to 13 without 8
 unfoldable pub isReading : ℕ → Bool
