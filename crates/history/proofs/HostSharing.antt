@@ -6,6 +6,7 @@ use mathlib.Core.Bool.{true}
 use mathlib.Core.List as list
 use mathlib.Core.List.{List, [], _∷_}
 use mathlib.Core.Logic.{_⊎_}
+use denote.Ref.{now}
 use Rattle.codec.specs.Stops.{refusal}
 use Rattle.profile.specs.Rules.{shareIn, profileOk}
 use Rattle.profile.specs.declared.Profile.{Profile}
@@ -20,10 +21,27 @@ use Rattle.desk.specs.declared.Desk.{Desk}
 use Rattle.desk.specs.declared.Event.the-variants as event
 use Rattle.desk.specs.declared.Opened.{Opened}
 use Rattle.host.specs.declared.Told.{Told}
+use Rattle.host.proofs.call as call
+use Rattle.contracts.specs.Outcomes.{Contract, sayingOf}
 use Rattle.history.specs.Histories.{Call, History, stepFor, runOf, leftBy, Waiting, waitingOf, heldBy, freeBy, owedToOthers, isRestrictedCall}
 use Rattle.history.specs.Hosts.{Made, Promised, AllPromised, deskLeft, callOf, historyOf}
 use Rattle.history.proofs.RunLaws.{opened}
 use Rattle.history.proofs.Sharing as step
+
+-- ---- what is promised of a call is the contract of `host::call`: of what is lent at entry, the answer, and what stands at exit
+
+pub promised-by-contract : _≡_ {A = Contract call.ended} (λ M. call.spec)
+    (sayingOf call.ended (λ κs a x e. Promised (now (a .0)) (record {
+      rows = now (a .1 .0);
+      message = now (a .1 .1 .1 .0);
+      area = now (a .1 .1 .1 .1 .0);
+      event = a .1 .1 .0;
+      told = x;
+      desk = now (e .0);
+      records = now (e .1 .0);
+      output = now (e .1 .1 .1 .1 .0);
+    })))
+promised-by-contract = refl
 
 -- ---- what was written down is the history of the steps, and the desk that is left is theirs
 
