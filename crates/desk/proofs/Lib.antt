@@ -10,3 +10,4 @@ pub mod Refusals
 pub mod SetUps
 pub mod Endings
 pub mod Cases
+pub mod NumberLaws

@@ -1,4 +1,5 @@
 pub mod Desks
+pub mod Numbers
 pub mod Orders
 pub mod Grounds
 pub mod Steps

@@ -14,7 +14,7 @@ use Rattle.profile.specs.declared.Share.{Share}
 use Rattle.records.specs.declared.Identity.{Identity}
 use Rattle.desk.specs.Desks.{deskWith, openOf}
 use Rattle.desk.specs.Grounds.{partyFor}
-use Rattle.desk.specs.Orders.{numberOf}
+use Rattle.desk.specs.Numbers.{numberOf}
 use Rattle.desk.specs.declared.Answer.{Answer}
 use Rattle.desk.specs.declared.Answer.the-variants as answer
 use Rattle.desk.specs.declared.Desk.{Desk}
