@@ -11,3 +11,6 @@ pub mod SetUps
 pub mod Endings
 pub mod Cases
 pub mod NumberLaws
+pub mod Reuse
+pub mod LaidLaws
+pub mod Outputs

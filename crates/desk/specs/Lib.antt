@@ -3,3 +3,4 @@ pub mod Numbers
 pub mod Orders
 pub mod Grounds
 pub mod Steps
+pub mod Outputs
