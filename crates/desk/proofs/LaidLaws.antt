@@ -181,6 +181,10 @@ module _ (air : Air) (vs : List Value) (few : length vs ≤ 3) where
   unfolding laidOf layAll noLaid
   unfilled-stay l i out = unfilled-from air vs noLaid l i sized (omega arith) (λ k low. out k)
 
+pub all-length : (air : Air) (vs : List Value) (l : List ℕ) → length (layAll air l vs) ≡ length l
+unfolding layAll
+all-length air vs l = from-length air vs 0 l
+
 pub all-read : (p : Profile) → profileOk p ≡ true → (vs : List Value) → length vs ≤ 3 → (l : List ℕ) → 300 ≤ length l → AllSend p vs
     → ReadBack p (laidOf (p .air) vs) (layAll (p .air) l vs) 0 vs
 unfolding laidOf layAll noLaid

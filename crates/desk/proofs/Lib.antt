@@ -14,3 +14,4 @@ pub mod NumberLaws
 pub mod Reuse
 pub mod LaidLaws
 pub mod Outputs
+pub mod Marked

@@ -43,7 +43,7 @@ use Rattle.desk.specs.declared.Desk.{Desk}
 use Rattle.desk.specs.declared.Event.{Event}
 use Rattle.desk.specs.declared.Event.the-variants as event
 use Rattle.desk.proofs.ActivateLaws.{activate-users, request}
-use Rattle.desk.proofs.LaidLaws.{laid-count, unfilled-stay, all-read}
+use Rattle.desk.proofs.LaidLaws.{laid-count, unfilled-stay, all-length, all-read}
 
 -- ---- a call lays what it sends
 
@@ -207,6 +207,10 @@ module _ (d : Desk) (rows : List Record) (n : ℕ) (l area : List ℕ) (e : Even
   -- the answer tells how many messages there are
   pub sent-count : stepOf d rows n l area e .laid .count ≡ length (sentBy d rows n l (length area) e)
   sent-count = ap (λ (x : Laid). x .count) (step-lays d rows n l area e) ∙ laid-count (d .profile .air) sent few-sent
+
+  -- the area keeps its length
+  pub area-length : length (areaAfter d rows n l area e) ≡ length area
+  area-length = ap (λ (m : List ℕ). length m) (step-fills d rows n l area e) ∙ all-length (d .profile .air) sent area
 
   -- bytes that no message fills are as they stood
   pub unfilled-stays : (i : ℕ) → Unfilled (stepOf d rows n l area e .laid) i → getD (areaAfter d rows n l area e) i 0 ≡ getD area i 0
