@@ -4,7 +4,7 @@ use mathlib.Core.Path.{_≡_, refl}
 use mathlib.Core.Bool.{Bool, true, false}
 use mathlib.Core.List as list
 use mathlib.Core.List.{List, [], _∷_, _++_}
-use lib.ListN.{length, set, take, replicate}
+use lib.ListN.{length, take, replicate}
 use Rattle.bits.specs.Fields.{bitAt, fieldAt}
 use Rattle.bits.specs.Puts.{withDigit, binary, setBit, putBits, spare}
 use Rattle.codec.specs.Stops.{refusal}

@@ -1,12 +1,12 @@
 -- Messages laid one after another, 100 bytes apart: bytes that none fills stay, and each is read back as it was sent. Assumes nothing.
-use Prim.Native.Nat.{ℕ, suc, _+_, _-_, _*_, _/_, _%_, _^_, _≤_, _<_}
+use Prim.Native.Nat.{ℕ, suc, _+_, _*_, _/_, _%_, _≤_, _<_}
 use mathlib.Core.Path.{_≡_, refl, sym, ap, _∙_, subst}
 use mathlib.Core.Bool.{true}
 use mathlib.Core.List.{List, [], _∷_, _++_}
 use mathlib.Core.Logic.{_⊎_, inl, inr, ⊎-elim}
 use native.Mathlib.Nat.{add-suc}
 use native.Mathlib.Omega.{arith}
-use lib.ListN.{length, getD, set, drop, replicate, length-append, length-set, length-drop, length-replicate}
+use lib.ListN.{length, getD, drop, length-append, length-set, length-drop}
 use lib.Seq.{getD-set-same, getD-set-other, getD-drop}
 use borrow.Author.Tests.{eq-eqb, le-leb}
 use Rattle.bits.specs.Fields.{bitAt}
@@ -14,13 +14,12 @@ use Rattle.bits.specs.Puts.{putBits, binary, spare}
 use Rattle.bits.proofs.PutLaws.{length-binary}
 use Rattle.bits.proofs.RoundLaws.{binary-bits}
 use Rattle.bits.proofs.Stands.{Stands, stands-left, bits-join, put-stands, byte-other}
-use Rattle.codec.specs.Codec.{Codec, got, both}
-use Rattle.codec.proofs.Good.{Good}
+use Rattle.codec.specs.Codec.{got, both}
 use Rattle.profile.specs.Rules.{profileOk}
 use Rattle.profile.specs.declared.Air.{Air}
 use Rattle.profile.specs.declared.Profile.{Profile}
 use Rattle.message.specs.Messages.{messageC}
-use Rattle.message.specs.Reading.{whole, wholeOf, lengthOk, readBits, readOf}
+use Rattle.message.specs.Reading.{wholeOf, lengthOk, readBits, readOf}
 use Rattle.message.specs.declared.Value.{Value}
 use Rattle.message.proofs.MessageLaws.{good-message}
 use Rattle.validity.specs.Validity.{validOf}

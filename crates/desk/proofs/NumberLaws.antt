@@ -1,11 +1,8 @@
 -- An answer is known by document 01's number and values for it: two answers that have the same are the same. Assumes nothing.
-use Prim.Native.Nat.{ℕ}
 use mathlib.Core.Path.{_≡_, refl, sym, ap, _∙_}
 use mathlib.Core.Bool.{cond}
-use mathlib.Core.List.{List}
 use lib.Dec.{eqb}
 use lib.ListN.{getD}
-use Rattle.codec.specs.declared.Stop.{Stop}
 use Rattle.desk.specs.Numbers.{Paper, paperOf}
 use Rattle.desk.specs.declared.Answer.{Answer}
 use Rattle.desk.specs.declared.Answer.the-variants as answer

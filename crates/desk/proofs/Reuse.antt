@@ -2,12 +2,12 @@
 use Prim.Native.Nat.{ℕ, _<_}
 use mathlib.Core.Path.{_≡_, refl, sym, ap, _∙_}
 use mathlib.Core.Bool.{Bool, true, false, not, cond}
-use mathlib.Core.List.{List, [], _∷_}
+use mathlib.Core.List.{List}
 use mathlib.Core.Logic.{⊎-elim}
 use native.Mathlib.Nat.{eq-or-lt-of-le}
 use native.Mathlib.Omega.{arith}
 use lib.Dec.{eqb, ltb}
-use lib.ListN.{length, take}
+use lib.ListN.{length}
 use borrow.Author.Tests.{eq-eqb, ne-eqb}
 use Rattle.bits.proofs.SetLaws.{eq-or, lt-or}
 use Rattle.codec.specs.Stops.{refusal}
@@ -18,7 +18,7 @@ use Rattle.places.specs.Spots.{spotAt, placeOf, lowestFree, clearOf}
 use Rattle.places.specs.declared.Place.{Place}
 use Rattle.places.proofs.HeldLaws.{used-clear}
 use Rattle.places.proofs.PlaceLaws.{passes}
-use Rattle.places.proofs.SpotLaws.{FoundAt, lowest-found, spot-found, place-of-exactly}
+use Rattle.places.proofs.SpotLaws.{lowest-found, spot-found, place-of-exactly}
 use Rattle.profile.specs.declared.Shares.{Shares}
 use Rattle.records.specs.Records.{recordsOk}
 use Rattle.records.specs.declared.Identity.{Identity}
@@ -26,7 +26,7 @@ use Rattle.records.specs.declared.Record.{Record}
 use Rattle.desk.specs.Desks.{deskOk}
 use Rattle.desk.specs.Grounds.{waits, partyFor}
 use Rattle.desk.specs.Numbers.{numberOf}
-use Rattle.desk.specs.Orders.{unless, postsOf, placesOf, setUpOk, admitAnswer, partyAnswer, setUpAnswer, eventAnswer, answerOf}
+use Rattle.desk.specs.Orders.{unless, postsOf, placesOf, setUpOk, admitAnswer, setUpAnswer, answerOf}
 use Rattle.desk.specs.Steps.{ends, effectBy, effectOf, identifierOf, deskAfter, stepOf}
 use Rattle.desk.specs.declared.Answer.{Answer}
 use Rattle.desk.specs.declared.Answer.the-variants as answer

@@ -1,20 +1,19 @@
 -- What is proved of a step, of `call` on what is lent: bytes that no message fills stay, each message is read back, and which records are
 -- marked, by the identities that an ACTIVATE names. Assumes nothing.
 use Prim.Native.Nat.{ℕ, _<_}
-use mathlib.Core.Path.{_≡_, refl, sym, ap, _∙_, subst}
+use mathlib.Core.Path.{_≡_, sym, ap, _∙_, subst}
 use mathlib.Core.Bool.{Bool, true, cond}
 use mathlib.Core.List.{List}
 use lib.Dec.{ltb}
 use lib.ListN.{length, getD, take}
 use Rattle.codec.specs.Codec.{both}
-use Rattle.message.specs.declared.Value.{Value}
 use Rattle.records.specs.Identities.{identitiesOf}
 use Rattle.records.specs.Marking.{wanted}
 use Rattle.records.specs.Records.{rowOf}
 use Rattle.records.specs.declared.Record.{Record}
 use Rattle.sending.specs.declared.Laid.{Laid}
 use Rattle.desk.specs.Outputs.{sentBy, Unfilled, ReadBack}
-use Rattle.desk.specs.Steps.{usersOf, isAcks, postOf, areaAfter}
+use Rattle.desk.specs.Steps.{usersOf, isAcks, postOf}
 use Rattle.desk.specs.declared.Answer.{Answer}
 use Rattle.desk.specs.declared.Desk.{Desk}
 use Rattle.desk.specs.declared.Event.{Event}
