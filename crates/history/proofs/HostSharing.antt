@@ -115,18 +115,18 @@ module _ (p : Profile) (o : Opened) (opening : o ≡ openOf p) (found : o .found
         pub place : ℕ
         pub answer-is : m .told .answer ≡ answer.Admitted post place
 
-      -- the post is at its ceiling, or the free places are no more than the other posts are owed
+      -- by the calls w: the post is at its ceiling, or the free places are no more than the other posts are owed
+      abbrev pub NoPlaceBy : List Waiting → Type 0
+      NoPlaceBy w = (heldBy w post ≡ share post .ceiling) ⊎ (freeBy w ≤ owedToOthers (p .shares) w post)
+
       abbrev pub NoPlace : Type 0
-      NoPlace = (heldBy waiting post ≡ share post .ceiling) ⊎ (freeBy waiting ≤ owedToOthers (p .shares) waiting post)
+      NoPlace = NoPlaceBy waiting
 
       formed-so : isRestrictedCall p (step.waiting p opens steps) (callOf m) caller called identifier ≡ true
       formed-so = ap (λ (w : List Waiting). isRestrictedCall p w (callOf m) caller called identifier) waiting-is ∙ formed
 
       held-is : heldBy waiting post ≡ heldBy (step.waiting p opens steps) post
       held-is = ap (λ (w : List Waiting). heldBy w post) (sym waiting-is)
-
-      abbrev Room : List Waiting → Type 0
-      Room w = (heldBy w post ≡ share post .ceiling) ⊎ (freeBy w ≤ owedToOthers (p .shares) w post)
 
       -- below its reserved number a post is never refused for want of a place, whatever the other posts did
       pub call-reserved : heldBy waiting post < share post .reserved → ToldAdmitted
@@ -140,12 +140,12 @@ module _ (p : Profile) (o : Opened) (opening : o ≡ openOf p) (found : o .found
           → (NoPlace → m .told .answer ≡ answer.Refused (refusal 18)) × (m .told .answer ≡ answer.Refused (refusal 18) → NoPlace)
       call-refused-exactly h =
           let e = step.refused-exactly p opens steps (callOf m) caller called identifier event-is formed-so (subst (λ (k : ℕ). share post .reserved ≤ k) held-is h) in
-          (λ k. told-is ∙ e .0 (subst Room (sym waiting-is) k), λ z. subst Room waiting-is (e .1 (sym told-is ∙ z)))
+          (λ k. told-is ∙ e .0 (subst NoPlaceBy (sym waiting-is) k), λ z. subst NoPlaceBy waiting-is (e .1 (sym told-is ∙ z)))
 
       -- and is admitted else
       pub call-admitted-else : share post .reserved ≤ heldBy waiting post → (NoPlace → ⊥) → ToldAdmitted
       call-admitted-else h k =
           let a =
           step.admitted-else p opens steps (callOf m) caller called identifier event-is formed-so (subst (λ (x : ℕ). share post .reserved ≤ x) held-is h)
-          (λ r. k (subst Room waiting-is r)) in
+          (λ r. k (subst NoPlaceBy waiting-is r)) in
           record { place = a .place; answer-is = told-is ∙ a .answer-is }
