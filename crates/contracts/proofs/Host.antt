@@ -1,27 +1,40 @@
--- What the contracts of `host` decide: any two outcomes that one allows are equal. The checker makes no claim of a contract on lent
--- structs that could be named here, so these are stated of what the contracts say, `setMark`, `loadedOf` and `Called` of host's
--- definitions; tests/decides.test holds them to the sources. Assumes nothing.
-use Prim.Native.Nat.{ℕ}
-use mathlib.Core.Path.{_≡_}
-use mathlib.Core.Bool.{Bool}
-use mathlib.Core.List.{List}
-use Rattle.records.specs.declared.Record.{Record}
-use Rattle.desk.specs.declared.Desk.{Desk}
-use Rattle.desk.specs.declared.Event.{Event}
+-- What the contracts of `host` decide: any two outcomes that one allows are equal. The checker reads no claim off a contract on lent
+-- structs, so each claim is written out here, and `is` holds it to the contract. Assumes nothing.
+use mathlib.Core.Path.{_≡_, refl, ap, _∙_}
+use denote.Ref.{now}
 use Rattle.host.specs.Lending.{setMark, loadedOf, Called}
-use Rattle.host.specs.declared.Told.{Told}
+use Rattle.host.proofs.call as call
+use Rattle.host.proofs.load as load
+use Rattle.host.proofs.set_mark as set-mark
 use Rattle.host.proofs.HostLaws as host
-use Rattle.contracts.proofs.Law.{same}
+use Rattle.contracts.specs.Outcomes.{Decides}
+use Rattle.contracts.proofs.Law.{same-answer, same-exit}
 
 -- the records at exit
-pub decides-set-mark : (rows : List Record) (i : ℕ) (m : Bool) (v w : List Record) → v ≡ setMark rows i m → w ≡ setMark rows i m → v ≡ w
-decides-set-mark rows i m v w = same
+pub decides-set-mark : Decides set-mark.ended (λ M. set-mark.spec)
+decides-set-mark =
+    record {
+      says = λ κs a x e. now (e .0) ≡ setMark (now (a .0)) (a .1 .0) (a .1 .1 .0);
+      is = refl;
+      one = λ κs a x y v w. same-exit (λ l. (l, _));
+    }
 
 -- the answer
-pub decides-load : (rows r s : List Record) → r ≡ loadedOf rows → s ≡ loadedOf rows → r ≡ s
-decides-load rows r s = same
+pub decides-load : Decides load.ended (λ M. load.spec)
+decides-load = record { says = λ κs a x e. x ≡ loadedOf (now (a .0)); is = refl; one = λ κs a x y v w. same-answer }
+
+three : {A B C D : Type 0} (f : A → B → C → D) {a x : A} {b y : B} {c z : C} → a ≡ x → b ≡ y → c ≡ z → f a b c ≡ f x y z
+three f {x = x} {b = b} {y = y} {c = c} p q r = ap (λ t. f t b c) p ∙ ap (λ t. f x t c) q ∙ ap (λ t. f x y t) r
 
 -- what the host is told, and the desk, the records and the output area at exit
-pub decides-call : (d : Desk) (rows : List Record) (l area : List ℕ) (e : Event) (t u : Told) (d₁ d₂ : Desk) (rows₁ rows₂ : List Record) (area₁ area₂ : List ℕ) → Called d rows l area e t d₁ rows₁ area₁ → Called d rows l area e u d₂ rows₂ area₂
-    → (t ≡ u) × ((d₁ ≡ d₂) × ((rows₁ ≡ rows₂) × (area₁ ≡ area₂)))
-decides-call d rows l area e t u d₁ d₂ rows₁ rows₂ area₁ area₂ p q = host.decides-call d rows l area e t d₁ rows₁ area₁ p u d₂ rows₂ area₂ q
+pub decides-call : Decides call.ended (λ M. call.spec)
+decides-call =
+    record {
+      says =
+          λ κs a x e. Called (now (a .0)) (now (a .1 .0)) (now (a .1 .1 .1 .0)) (now (a .1 .1 .1 .1 .0)) (a .1 .1 .0) x (now (e .0)) (now (e .1 .0)) (now (e .1 .1 .1 .1 .0));
+      is = refl;
+      one =
+          λ κs a x y v w p q.
+          let d = host.decides-call _ _ _ _ _ _ _ _ _ p _ _ _ _ q in
+          (d .0, three (λ i j k. (i, (j, (_, (_, (k, _)))))) (d .1 .0) (d .1 .1 .0) (d .1 .1 .1));
+    }

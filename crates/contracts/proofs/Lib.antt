@@ -15,3 +15,4 @@ pub mod Lines
 pub mod Words
 pub mod Script
 pub mod Host
+pub mod Ties

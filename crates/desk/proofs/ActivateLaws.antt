@@ -70,7 +70,7 @@ activate-users air v ok e = body-users air v (rw (activate-body air v e) at (val
 -- ---- the ACKs
 
 -- of users that were read, the masks of their outcomes fit
-request : (d : Desk) (rows : List Record) (post : ℕ) (users : Group) → groupC (d .profile .air) false .ok users ≡ true
+pub request : (d : Desk) (rows : List Record) (post : ℕ) (users : Group) → groupC (d .profile .air) false .ok users ≡ true
     → Request (d .profile) users (sortedOf (outcomesOf (d .profile .air) users rows post))
 unfolding sortedOf
 request d rows post users ok =

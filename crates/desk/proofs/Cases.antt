@@ -4,7 +4,7 @@ use mathlib.Core.Path.{_≡_, refl}
 use mathlib.Core.Bool.{Bool, true, false}
 use mathlib.Core.List as list
 use mathlib.Core.List.{List, [], _∷_, _++_}
-use lib.ListN.{length, set, take, replicate}
+use lib.ListN.{length, take, replicate}
 use Rattle.bits.specs.Fields.{bitAt, fieldAt}
 use Rattle.bits.specs.Puts.{withDigit, binary, setBit, putBits, spare}
 use Rattle.codec.specs.Stops.{refusal}
@@ -69,46 +69,47 @@ restricted = user 1001 0 true ∷ user 1004 1 true ∷ []
 abbrev pub setUp : ℕ → ℕ → Event
 setUp caller called = event.SetUp (record { ssi = caller; extension = 0 }) (record { ssi = called; extension = 0 }) 100
 
-abbrev pub unmarked4 : List Bool
-unmarked4 = false ∷ false ∷ false ∷ false ∷ []
+-- the marks of the first records, and none beyond
+abbrev pub marked : List Bool → List Bool
+marked ms = ms ++ replicate (128 - length ms) false
 
 -- ---- the cases
 
--- a call on a desk with these records and this message, then what it must be answered, the messages' bit lengths, the marks of the
--- first four records, and the output area
+-- a call on a desk with these records and this message, then what it must be answered, the messages' bit lengths, the desk afterwards,
+-- the marks of all records, and the output area
 pub data Case : Type 0 where
-  on : Desk → List Record → List ℕ → Event → Answer → List ℕ → List Bool → List ℕ → Case
+  on : Desk → List Record → List ℕ → Event → Answer → List ℕ → Desk → List Bool → List ℕ → Case
 
 abbrev pub Outcome : Type 0
-Outcome = Answer × (List ℕ × (List Bool × List ℕ))
+Outcome = Answer × (List ℕ × (Desk × (List Bool × List ℕ)))
 
 -- the step of a case, and the area after it
 abbrev pub stepFor : Case → Stepped
-stepFor (on d r l e a lengths marks area) = stepOf d (rows r) (length r) l (untouched 300) e
+stepFor (on d r l e a lengths after marks area) = stepOf d (rows r) (length r) l (untouched 300) e
 
 abbrev pub areaFor : Case → List ℕ
-areaFor (on d r l e a lengths marks area) = areaAfter d (rows r) (length r) l (untouched 300) e
+areaFor (on d r l e a lengths after marks area) = areaAfter d (rows r) (length r) l (untouched 300) e
 
 abbrev pub gives : Case → Outcome
-gives c = (stepFor c .answer, (take (stepFor c .laid .count) (stepFor c .laid .lengths), (take 4 (stepFor c .marks .at), areaFor c)))
+gives c = (stepFor c .answer, (take (stepFor c .laid .count) (stepFor c .laid .lengths), (stepFor c .desk, (stepFor c .marks .at, areaFor c))))
 
 abbrev pub wants : Case → Outcome
-wants (on d r l e a lengths marks area) = (a, (lengths, (marks, area)))
+wants (on d r l e a lengths after marks area) = (a, (lengths, (after, (marks, area))))
 
 abbrev pub cases : List Case
 cases =
     -- 9: case 8 from post 0; 1,001 and 1,002 at post 0, 1,003 without record, 1,004 at post 1
     on (desk []) (user 1001 0 false ∷ user 1002 0 false ∷ user 1004 1 false ∷ [])
     (0x24 ∷ 0x5E ∷ 0x80 ∷ 0x01 ∷ 0xF4 ∷ 0xA0 ∷ 0x00 ∷ 0x7D ∷ 0x80 ∷ []) (event.Message 0 68)
-    answer.Acks (73 ∷ 80 ∷ 80 ∷ []) (true ∷ true ∷ false ∷ false ∷ [])
+    answer.Acks (73 ∷ 80 ∷ 80 ∷ []) (desk []) (marked (true ∷ true ∷ []))
     ((0x24 ∷ 0x7E ∷ 0x80 ∷ 0x01 ∷ 0xF4 ∷ 0xA0 ∷ 0x00 ∷ 0x7D ∷ 0x9C ∷ 0x80 ∷ []) ++ untouched 90
     ++ (0x24 ∷ 0x7E ∷ 0x80 ∷ 0x01 ∷ 0xF4 ∷ 0xA0 ∷ 0x00 ∷ 0x7D ∷ 0x92 ∷ 0x01 ∷ []) ++ untouched 90
     ++ (0x24 ∷ 0x7E ∷ 0x80 ∷ 0x01 ∷ 0xF4 ∷ 0xA0 ∷ 0x00 ∷ 0x7D ∷ 0x91 ∷ 0x02 ∷ []) ++ untouched 90)
     -- 11: post 0 holds 28, post 1 none: a call for post 0 gets 18, one for post 1 is admitted
-    ∷ on (desk (calls 28 0 0)) restricted [] (setUp 1001 2000) (answer.Refused (refusal 18)) [] unmarked4 (untouched 300)
-    ∷ on (desk (calls 28 0 0)) restricted [] (setUp 1004 2000) (answer.Admitted 1 28) (17 ∷ []) unmarked4 ((0x25 ∷ 0x40 ∷ 0x00 ∷ []) ++ untouched 297)
+    ∷ on (desk (calls 28 0 0)) restricted [] (setUp 1001 2000) (answer.Refused (refusal 18)) [] (desk (calls 28 0 0)) (marked []) (untouched 300)
+    ∷ on (desk (calls 28 0 0)) restricted [] (setUp 1004 2000) (answer.Admitted 1 28) (17 ∷ []) (desk (calls 28 0 0 ++ calls 1 1 100)) (marked []) ((0x25 ∷ 0x40 ∷ 0x00 ∷ []) ++ untouched 297)
     -- 12: post 1 holds 8, post 0 none: 18 for post 1, by its ceiling
-    ∷ on (desk (calls 8 1 0)) restricted [] (setUp 1004 2000) (answer.Refused (refusal 18)) [] unmarked4 (untouched 300)
+    ∷ on (desk (calls 8 1 0)) restricted [] (setUp 1004 2000) (answer.Refused (refusal 18)) [] (desk (calls 8 1 0)) (marked []) (untouched 300)
     ∷ []
 
 pub cases-right : list.map gives cases ≡ list.map wants cases

@@ -26,7 +26,8 @@ use Rattle.writing.proofs.RoundTrips.{read-valid}
 use Rattle.validity.specs.Validity.{validOf}
 use Rattle.desk.specs.Desks.{deskOk}
 use Rattle.desk.specs.Grounds.{Ground, notSent, waits, waitsHere, noPlaceFor, typeOrder, readOrder, messageOrder, setUpOrder, rejectOrder, cancelOrder, orderOf, firstOf}
-use Rattle.desk.specs.Orders.{numberOf, unless, postsOf, placesOf, namesDispatchers, activateAnswer, interrogateAnswer, endAnswer, decideAnswer, sentAnswer, readAnswer, messageAnswer, identifierOk, setUpOk, admitAnswer, partyAnswer, setUpAnswer, rejectAnswer, cancelAnswer, answerOf}
+use Rattle.desk.specs.Numbers.{numberOf}
+use Rattle.desk.specs.Orders.{unless, postsOf, placesOf, namesDispatchers, activateAnswer, interrogateAnswer, endAnswer, decideAnswer, sentAnswer, readAnswer, messageAnswer, identifierOk, setUpOk, admitAnswer, partyAnswer, setUpAnswer, rejectAnswer, cancelAnswer, answerOf}
 use Rattle.desk.specs.declared.Answer.{Answer}
 use Rattle.desk.specs.declared.Answer.the-variants as answer
 use Rattle.desk.specs.declared.Desk.{Desk}

@@ -10,3 +10,8 @@ pub mod Refusals
 pub mod SetUps
 pub mod Endings
 pub mod Cases
+pub mod NumberLaws
+pub mod Reuse
+pub mod LaidLaws
+pub mod Outputs
+pub mod Marked

@@ -11,7 +11,8 @@ use Rattle.records.specs.Marking.{noMarks}
 use Rattle.records.specs.declared.Record.{Record}
 use Rattle.sending.specs.Sending.{noLaid}
 use Rattle.desk.specs.Grounds.{orderOf}
-use Rattle.desk.specs.Orders.{numberOf, answerOf}
+use Rattle.desk.specs.Numbers.{numberOf}
+use Rattle.desk.specs.Orders.{answerOf}
 use Rattle.desk.specs.Steps.{keeps, postOf, usersOf, identifierOf, stepOf, areaAfter}
 use Rattle.desk.specs.declared.Answer.{Answer}
 use Rattle.desk.specs.declared.Answer.the-variants as answer

@@ -1,4 +1,6 @@
 pub mod Desks
+pub mod Numbers
 pub mod Orders
 pub mod Grounds
 pub mod Steps
+pub mod Outputs

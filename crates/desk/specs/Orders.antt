@@ -31,18 +31,6 @@ use Rattle.desk.specs.declared.ending.Ending.{Ending}
 use Rattle.desk.specs.declared.Event.{Event}
 use Rattle.desk.specs.declared.Event.the-variants as event
 
--- document 01's number for each answer; 0 for what is no refusal
-abbrev pub numberOf : Answer → ℕ
-numberOf (answer.Refused s) = s .number
-numberOf answer.Acks = 0
-numberOf (answer.State k) = 0
-numberOf answer.Free = 0
-numberOf (answer.Admitted post place) = 0
-numberOf answer.Proceed = 0
-numberOf answer.Diverted = 0
-numberOf answer.Rejected = 0
-numberOf answer.Cancelled = 0
-
 -- the number c where the ground holds, else what comes after it in the order
 abbrev pub unless : Bool → ℕ → Answer → Answer
 unless ground c after = cond ground (answer.Refused (refusal c)) after

@@ -1,3 +1,4 @@
 pub mod WaitingLaws
 pub mod RunLaws
 pub mod Sharing
+pub mod HostSharing

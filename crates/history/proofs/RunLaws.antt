@@ -1,13 +1,17 @@
 -- Along any history the desk stays one that 1 passes, and its used places are the calls that the history has waiting. Assumes nothing.
 use Prim.Native.Nat.{ℕ}
-use mathlib.Core.Path.{_≡_, refl, sym, ap, _∙_, subst}
+use mathlib.Core.Path.{_≡_, refl, ap, _∙_, subst}
 use mathlib.Core.Bool.{Bool, true, false, cond}
 use mathlib.Core.List.{List, [], _∷_, _++_}
 use lib.ListN.{length}
+use Rattle.codec.specs.Codec.{Read, got, no}
 use Rattle.codec.specs.Stops.{refusal, noStop}
 use Rattle.codec.proofs.Good.{both-right, not-both}
 use Rattle.profile.specs.Rules.{profileOk, noProfile}
 use Rattle.profile.specs.declared.Profile.{Profile}
+use Rattle.message.specs.Reading.{readOf}
+use Rattle.message.specs.Values.{plainV, noValue}
+use Rattle.message.specs.declared.Value.{Value}
 use Rattle.places.specs.Grounds.{placesOk}
 use Rattle.places.specs.Spots.{placeOf, lowestFree}
 use Rattle.places.specs.declared.Spot.{Spot}
@@ -16,14 +20,16 @@ use Rattle.places.proofs.SpotLaws.{spot-found, lowest-free-exactly}
 use Rattle.places.proofs.PlaceLaws.{take-keeps, clear-keeps, none-waiting-ok}
 use Rattle.desk.specs.Desks.{deskWith, openOf}
 use Rattle.desk.specs.Orders.{placesOf}
-use Rattle.desk.specs.Steps.{nothing, begins, ends, effectBy, effectOf, identifierOf, deskAfter}
+use Rattle.desk.specs.Steps.{nothing, begins, ends, effectBy, effectOf, valueBy, identifierOf, deskAfter}
 use Rattle.desk.specs.declared.Answer.{Answer}
 use Rattle.desk.specs.declared.Answer.the-variants as answer
 use Rattle.desk.specs.declared.Desk.{Desk}
+use Rattle.desk.specs.declared.Event.{Event}
+use Rattle.desk.specs.declared.Event.the-variants as event
 use Rattle.desk.specs.declared.Opened.{Opened}
 use Rattle.desk.proofs.SetUps.{step-desk, admitted-so}
 use Rattle.desk.proofs.Endings.{isEnding, ended-waits}
-use Rattle.history.specs.Histories.{Call, History, stepFor, runOf, leftBy, Waiting, afterwards, waitingAfter, waitingOf}
+use Rattle.history.specs.Histories.{Call, History, stepFor, runOf, leftBy, Waiting, without, namedBy, spokenOf, answered, afterwards, waitingAfter, waitingOf}
 use Rattle.history.proofs.WaitingLaws.{Same, same-none, same-take, same-clear}
 
 -- a desk along a history: 32 places that 1 passes, and the calls w wait in them
@@ -38,7 +44,7 @@ module _ (d : Desk) (w : List Waiting) (a : Along d w) (c : Call) where
   abbrev identifier : ℕ
   identifier = identifierOf (d .profile) (c .message) (c .event)
 
-  along-ends : isEnding (stepFor d c .answer) ≡ true → Along (deskAfter d (ends identifier)) (afterwards w (ends identifier))
+  along-ends : isEnding (stepFor d c .answer) ≡ true → Along (deskAfter d (ends identifier)) (without identifier w)
   unfolding deskAfter
   along-ends z =
       let at = spot-found (placeOf (placesOf d) identifier) (ended-waits d (c .rows) (c .count) (c .message) (c .area) (c .event) z) in
@@ -48,7 +54,7 @@ module _ (d : Desk) (w : List Waiting) (a : Along d w) (c : Call) where
         same = same-clear (d .profile .shares) (placesOf d) w (a .size) (a .sound) (a .same) _ identifier at;
       }
 
-  along-begins : (post place : ℕ) → stepFor d c .answer ≡ answer.Admitted post place → Along (deskAfter d (begins identifier post)) (afterwards w (begins identifier post))
+  along-begins : (post place : ℕ) → stepFor d c .answer ≡ answer.Admitted post place → Along (deskAfter d (begins identifier post)) ((identifier, post) ∷ w)
   unfolding deskAfter
   along-begins post place z =
       let k = admitted-so d (c .rows) (c .count) (c .message) (c .area) post place (c .event) z in
@@ -60,11 +66,11 @@ module _ (d : Desk) (w : List Waiting) (a : Along d w) (c : Call) where
         same = same-take (placesOf d) w (a .size) (a .same) _ identifier post (f .inside) (f .free);
       }
 
-  along-nothing : Along (deskAfter d nothing) (afterwards w nothing)
+  along-nothing : Along (deskAfter d nothing) w
   unfolding deskAfter
   along-nothing = record { size = a .size; sound = a .sound; same = a .same }
 
-  along-answer : (x : Answer) → stepFor d c .answer ≡ x → Along (deskAfter d (effectBy identifier x)) (afterwards w (effectBy identifier x))
+  along-answer : (x : Answer) → stepFor d c .answer ≡ x → Along (deskAfter d (effectBy identifier x)) (answered identifier x w)
   along-answer (answer.Refused s) z = along-nothing
   along-answer answer.Acks z = along-nothing
   along-answer (answer.State k) z = along-nothing
@@ -75,10 +81,23 @@ module _ (d : Desk) (w : List Waiting) (a : Along d w) (c : Call) where
   along-answer answer.Rejected z = along-ends (ap isEnding z)
   along-answer answer.Cancelled z = along-ends (ap isEnding z)
 
-  along-step : Along (stepFor d c .desk) (afterwards w (effectOf (d .profile) (c .message) (c .event) (stepFor d c .answer)))
-  unfolding effectOf
+  -- the event speaks of one call, to the history and to the desk
+  spoken-same : (e : Event) → spokenOf (d .profile) (c .message) e ≡ identifierOf (d .profile) (c .message) e
+  unfolding noValue plainV
+  spoken-same (event.Message post bits) = go (readOf (d .profile) (c .message) bits)
+    where
+      go : (r : Read Value) → namedBy r ≡ valueBy r .identifier
+      go (got v n) = refl
+      go (no s) = refl
+  spoken-same (event.SetUp caller called identifier) = refl
+  spoken-same (event.Reject post identifier) = refl
+  spoken-same (event.Cancel identifier) = refl
+
+  -- the desk does with its places just what the history takes the answer to mean
+  pub along-step : Along (stepFor d c .desk) (afterwards (d .profile) w c (stepFor d c .answer))
+  unfolding afterwards effectOf
   along-step =
-      subst (λ (x : Desk). Along x (afterwards w (effectBy identifier (stepFor d c .answer)))) (sym (step-desk d (c .rows) (c .count) (c .message) (c .area) (c .event)))
+      rw (spoken-same (c .event), step-desk d (c .rows) (c .count) (c .message) (c .area) (c .event))
       (along-answer (stepFor d c .answer) refl)
 
 -- a call leaves the profile as it is
@@ -99,7 +118,7 @@ along-run [] d w a = a
 along-run (c ∷ calls) d w a =
     subst
     (λ (p : Profile). Along (leftBy (stepFor d c .desk) calls)
-    (waitingAfter p (afterwards w (effectOf (d .profile) (c .message) (c .event) (stepFor d c .answer))) (runOf (stepFor d c .desk) calls)))
+    (waitingAfter p (afterwards (d .profile) w c (stepFor d c .answer)) (runOf (stepFor d c .desk) calls)))
     (step-profile d c)
     (along-run calls (stepFor d c .desk) _ (along-step d w a c))
 

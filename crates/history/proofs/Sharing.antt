@@ -24,7 +24,8 @@ use Rattle.records.specs.declared.Identity.{Identity}
 use Rattle.records.proofs.PartyLaws.{party-below}
 use Rattle.desk.specs.Desks.{deskWith, deskOk}
 use Rattle.desk.specs.Grounds.{waits, partyFor, noneOf, isNew}
-use Rattle.desk.specs.Orders.{numberOf, placesOf, setUpOk, admitAnswer, answerOf}
+use Rattle.desk.specs.Numbers.{numberOf}
+use Rattle.desk.specs.Orders.{placesOf, setUpOk, admitAnswer, answerOf}
 use Rattle.desk.specs.declared.Answer.{Answer}
 use Rattle.desk.specs.declared.Answer.the-variants as answer
 use Rattle.desk.specs.declared.Desk.{Desk}

@@ -1,24 +1,28 @@
 -- A history is what an outsider could have written down: each call with all that was lent, and its answer. No desk is in it. Which
--- calls wait, and so what each post holds and is owed, is counted from it alone.
+-- calls wait, and so what each post holds and is owed, is counted from it alone, and not as the desk counts.
 use Prim.Native.Nat.{ℕ, _+_, _-_}
 use mathlib.Core.Bool.{Bool, not, cond}
 use mathlib.Core.List.{List, [], _∷_}
 use lib.Dec.{eqb, ltb}
 use lib.ListN.{length}
-use Rattle.codec.specs.Codec.{both}
+use Rattle.codec.specs.Codec.{Read, got, no, both}
 use Rattle.profile.specs.Counting.{one, sum}
 use Rattle.profile.specs.Rules.{shareIn}
 use Rattle.profile.specs.declared.Profile.{Profile}
 use Rattle.profile.specs.declared.Shares.{Shares}
+use Rattle.message.specs.Reading.{readOf}
+use Rattle.message.specs.declared.Value.{Value}
 use Rattle.records.specs.Records.{recordsOk}
 use Rattle.records.specs.declared.Identity.{Identity}
 use Rattle.records.specs.declared.Record.{Record}
 use Rattle.desk.specs.Grounds.{partyFor}
 use Rattle.desk.specs.Orders.{setUpOk}
-use Rattle.desk.specs.Steps.{Effect, nothing, begins, ends, effectOf, stepOf}
+use Rattle.desk.specs.Steps.{stepOf}
 use Rattle.desk.specs.declared.Answer.{Answer}
+use Rattle.desk.specs.declared.Answer.the-variants as answer
 use Rattle.desk.specs.declared.Desk.{Desk}
 use Rattle.desk.specs.declared.Event.{Event}
+use Rattle.desk.specs.declared.Event.the-variants as event
 use Rattle.desk.specs.declared.Stepped.{Stepped}
 
 -- ---- histories
@@ -58,16 +62,39 @@ unfoldable pub without : ℕ → List Waiting → List Waiting
 without identifier [] = []
 without identifier (x ∷ w) = cond (eqb (x .0) identifier) (without identifier w) (x ∷ without identifier w)
 
--- an admission adds the call, an end takes the identifier out, everything else changes nothing
-abbrev pub afterwards : List Waiting → Effect → List Waiting
-afterwards w nothing = w
-afterwards w (begins identifier post) = (identifier, post) ∷ w
-afterwards w (ends identifier) = without identifier w
+-- the call that a post's message names; of one that reads as none no call is meant, and it is refused
+abbrev pub namedBy : Read Value → ℕ
+namedBy (got v n) = v .identifier
+namedBy (no s) = 0
 
--- the calls that wait after a history, where these waited before it
+-- the call that an event speaks of
+abbrev pub spokenOf : Profile → List ℕ → Event → ℕ
+spokenOf p l (event.Message post bits) = namedBy (readOf p l bits)
+spokenOf p l (event.SetUp caller called identifier) = identifier
+spokenOf p l (event.Reject post identifier) = identifier
+spokenOf p l (event.Cancel identifier) = identifier
+
+-- what an answer means for the waiting calls w, where the event spoke of this one: admitted, it begins to wait at the post that the answer
+-- names; accepted, diverted, rejected or cancelled, it waits no more; by every other answer nothing changes
+abbrev pub answered : ℕ → Answer → List Waiting → List Waiting
+answered identifier (answer.Admitted post place) w = (identifier, post) ∷ w
+answered identifier answer.Proceed w = without identifier w
+answered identifier answer.Diverted w = without identifier w
+answered identifier answer.Rejected w = without identifier w
+answered identifier answer.Cancelled w = without identifier w
+answered identifier (answer.Refused s) w = w
+answered identifier answer.Acks w = w
+answered identifier (answer.State k) w = w
+answered identifier answer.Free w = w
+
+-- the calls that wait after a call that was answered so, where these waited before it
+unfoldable pub afterwards : Profile → List Waiting → Call → Answer → List Waiting
+afterwards p w c a = answered (spokenOf p (c .message) (c .event)) a w
+
+-- and after a history
 unfoldable pub waitingAfter : Profile → List Waiting → History → List Waiting
 waitingAfter p w [] = w
-waitingAfter p w (x ∷ h) = waitingAfter p (afterwards w (effectOf p (x .0 .message) (x .0 .event) (x .1))) h
+waitingAfter p w (x ∷ h) = waitingAfter p (afterwards p w (x .0) (x .1)) h
 
 -- from an opened desk, on which none waits
 abbrev pub waitingOf : Profile → History → List Waiting

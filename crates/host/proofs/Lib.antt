@@ -3,3 +3,4 @@ pub mod Walk
 pub mod Again
 pub mod Shared
 pub mod HostLaws
+pub mod CallLaws

@@ -1,0 +1,230 @@
+-- The output area after any call: bytes that no message fills are as they stood, and each message that the call says it laid is read from
+-- its place as the value that was sent. Assumes nothing.
+use Prim.Native.Nat.{ℕ, _≤_, _<_}
+use mathlib.Core.Path.{_≡_, refl, sym, ap, _∙_, subst}
+use mathlib.Core.Bool.{Bool, true, false, not, cond}
+use mathlib.Core.List.{List, [], _∷_}
+use mathlib.Core.Logic.{⊎-elim}
+use native.Mathlib.Omega.{arith}
+use lib.Dec.{eqb, ltb}
+use lib.ListN.{length, getD, take}
+use borrow.Author.Tests.{lt-ltb, eqb-true}
+use Rattle.bits.proofs.SetLaws.{lt-or}
+use Rattle.codec.specs.Codec.{Read, got, no}
+use Rattle.codec.specs.Stops.{refusal}
+use Rattle.codec.proofs.Good.{both-left, not-both}
+use Rattle.profile.specs.Rules.{profileOk}
+use Rattle.profile.specs.declared.Profile.{Profile}
+use Rattle.message.specs.Groups.{groupC}
+use Rattle.message.specs.Reading.{readOf}
+use Rattle.message.specs.declared.Group.{Group}
+use Rattle.message.specs.declared.Value.{Value}
+use Rattle.reading.specs.Answers.{readingOf}
+use Rattle.validity.specs.Validity.{validOf}
+use Rattle.writing.proofs.RoundTrips.{read-valid}
+use Rattle.places.specs.Held.{admitsOf}
+use Rattle.places.specs.Spots.{lowestFree}
+use Rattle.records.specs.Records.{recordsOk, restrictedOf}
+use Rattle.records.specs.declared.Identity.{Identity}
+use Rattle.records.specs.declared.Party.{Party}
+use Rattle.records.specs.declared.Record.{Record}
+use Rattle.sending.specs.Sending.{layAll, laidOf}
+use Rattle.sending.specs.declared.Laid.{Laid}
+use Rattle.sending.proofs.SentLaws.{AllSend}
+use Rattle.sending.proofs.AckLaws.{acks-send, acks-few, intercepted-sends, accepted-sends, diverted-sends}
+use Rattle.desk.specs.Desks.{deskOk}
+use Rattle.desk.specs.Grounds.{waits, waitsHere}
+use Rattle.desk.specs.Orders.{unless, postsOf, placesOf, namesDispatchers, activateAnswer, interrogateAnswer, endAnswer, decideAnswer, sentAnswer, readAnswer, messageAnswer, identifierOk, setUpOk, admitAnswer, partyAnswer, setUpAnswer, rejectAnswer, cancelAnswer, eventAnswer, answerOf}
+use Rattle.desk.specs.Steps.{valueBy, usersOf, identifierOf, messagesBy, plainStep, plainArea, acksFor, acksStep, acksArea, isAcks, stepBy, areaBy, postOf, stepOf, areaAfter}
+use Rattle.desk.specs.Outputs.{messagesFor, sentBy, Unfilled, ReadBack}
+use Rattle.desk.specs.declared.Answer.{Answer}
+use Rattle.desk.specs.declared.Answer.the-variants as answer
+use Rattle.desk.specs.declared.Desk.{Desk}
+use Rattle.desk.specs.declared.Event.{Event}
+use Rattle.desk.specs.declared.Event.the-variants as event
+use Rattle.desk.proofs.ActivateLaws.{activate-users, request}
+use Rattle.desk.proofs.LaidLaws.{laid-count, unfilled-stay, all-length, all-read}
+
+-- ---- a call lays what it sends
+
+module _ (d : Desk) (rows : List Record) (n : ℕ) (l area : List ℕ) (e : Event) where
+  pub step-lays : stepOf d rows n l area e .laid ≡ laidOf (d .profile .air) (sentBy d rows n l (length area) e)
+  unfolding stepOf stepBy acksStep plainStep sentBy
+  step-lays = go (isAcks a)
+    where
+      a : Answer
+      a = answerOf d rows n l (length area) e
+
+      go : (b : Bool) → cond b (acksStep d (take n rows) (postOf e) (usersOf (d .profile) l e)) (plainStep d (identifierOf (d .profile) l e) a) .laid ≡ laidOf (d .profile .air) (cond b (acksFor d (take n rows) (postOf e) (usersOf (d .profile) l e)) (messagesBy a))
+      go true = refl
+      go false = refl
+
+  pub step-fills : areaAfter d rows n l area e ≡ layAll (d .profile .air) area (sentBy d rows n l (length area) e)
+  unfolding areaAfter areaBy acksArea plainArea sentBy
+  step-fills = go (isAcks a)
+    where
+      a : Answer
+      a = answerOf d rows n l (length area) e
+
+      go : (b : Bool) → cond b (acksArea d (take n rows) (postOf e) (usersOf (d .profile) l e) area) (plainArea d area a) ≡ layAll (d .profile .air) area (cond b (acksFor d (take n rows) (postOf e) (usersOf (d .profile) l e)) (messagesBy a))
+      go true = refl
+      go false = refl
+
+-- ---- what it sends can be sent
+
+-- at most three messages, each of which can be sent, and room for them
+pub record Fits (p : Profile) (room : ℕ) (vs : List Value) : Type 0 where
+  pub few : length vs ≤ 3
+  pub sends : AllSend p vs
+  pub room-for : 0 < length vs → 300 ≤ room
+
+nothing-fits : (p : Profile) (room : ℕ) → Fits p room []
+nothing-fits p room = record { few = omega arith; sends = tt; room-for = λ h. absurd (omega arith) }
+
+room-is : (room : ℕ) → ltb room 300 ≡ false → 300 ≤ room
+room-is room e = ⊎-elim (λ h. not-both (sym (sym (lt-ltb room 300 h) ∙ e))) (λ h. h) (lt-or room 300)
+
+module _ (d : Desk) (rows : List Record) (post : ℕ) (users : Group) (room : ℕ) where
+  abbrev Fit : Answer → Type 0
+  Fit a = Fits (d .profile) room (messagesFor d rows post users a)
+
+  unless-fits : (b : Bool) (c : ℕ) (a : Answer) → (b ≡ false → Fit a) → Fit (unless b c a)
+  unless-fits true c a h = nothing-fits (d .profile) room
+  unless-fits false c a h = h refl
+
+  plain-fits : (b : Bool) (c : ℕ) (a : Answer) → Fit a → Fit (unless b c a)
+  plain-fits b c a h = unless-fits b c a (λ e. h)
+
+  end-fits : (at identifier : ℕ) (a : Answer) → Fit a → Fit (endAnswer d at identifier a)
+  unfolding endAnswer
+  end-fits at identifier a h = plain-fits (not (waits d identifier)) 19 _ (plain-fits (not (waitsHere d at identifier)) 20 a h)
+
+  module _ (passes : profileOk (d .profile) ≡ true) where
+    decide-fits : (at identifier : ℕ) (a : Answer) → (300 ≤ room → Fit a) → Fit (decideAnswer d room at identifier a)
+    unfolding decideAnswer
+    decide-fits at identifier a h = unless-fits (ltb room 300) 14 _ (λ e. end-fits at identifier a (h (room-is room e)))
+
+    proceed-fits : 300 ≤ room → Fit answer.Proceed
+    proceed-fits h = record { few = omega arith; sends = (accepted-sends (d .profile) passes, tt); room-for = λ z. h }
+
+    diverted-fits : 300 ≤ room → Fit answer.Diverted
+    diverted-fits h = record { few = omega arith; sends = (diverted-sends (d .profile) passes, tt); room-for = λ z. h }
+
+    admitted-fits : 300 ≤ room → (at place : ℕ) → Fit (answer.Admitted at place)
+    admitted-fits h at place = record { few = omega arith; sends = (intercepted-sends (d .profile) passes, tt); room-for = λ z. h }
+
+    acks-fits : 300 ≤ room → groupC (d .profile .air) false .ok users ≡ true → Fit answer.Acks
+    unfolding acksFor
+    acks-fits h ok =
+        let r = request d rows post users ok in
+        record { few = acks-few (d .profile) passes users _ r; sends = acks-send (d .profile) passes users _ r; room-for = λ z. h }
+
+    activate-fits : (all : List Record) (n : ℕ) (v : Value) → groupC (d .profile .air) false .ok users ≡ true → Fit (activateAnswer d all n room v)
+    unfolding activateAnswer
+    activate-fits all n v ok =
+        unless-fits (ltb room 300) 14 _
+        (λ e. plain-fits (not (recordsOk all n (postsOf d))) 15 _ (plain-fits (namesDispatchers (d .profile .air) v) 21 answer.Acks (acks-fits (room-is room e) ok)))
+
+    party-fits : 300 ≤ room → (p : Party) → Fit (partyAnswer d p)
+    unfolding admitAnswer
+    party-fits h p = go (p .found)
+      where
+        go : (b : Bool) → Fit (cond b (admitAnswer d (p .post)) answer.Free)
+        go true = plain-fits (not (admitsOf (d .profile .shares) (placesOf d) (p .post))) 18 (answer.Admitted (p .post) (lowestFree (placesOf d) .place)) (admitted-fits h (p .post) (lowestFree (placesOf d) .place))
+        go false = nothing-fits (d .profile) room
+
+    setup-fits : (all : List Record) (n : ℕ) (caller called : Identity) (identifier : ℕ) → Fit (setUpAnswer d all n room caller called identifier)
+    unfolding setUpAnswer
+    setup-fits all n caller called identifier =
+        plain-fits (not (setUpOk caller called identifier)) 16 _
+        (unless-fits (ltb room 300) 14 _
+        (λ e. plain-fits (not (recordsOk all n (postsOf d))) 15 _
+        (plain-fits (waits d identifier) 17 _ (party-fits (room-is room e) (restrictedOf (take n all) (caller ∷ called ∷ []))))))
+
+    reject-fits : (at identifier : ℕ) → Fit (rejectAnswer d at identifier)
+    unfolding rejectAnswer
+    reject-fits at identifier =
+        plain-fits (not (ltb at (postsOf d))) 2 _
+        (plain-fits (not (identifierOk identifier)) 16 _ (end-fits at identifier answer.Rejected (nothing-fits (d .profile) room)))
+
+    cancel-fits : (identifier : ℕ) → Fit (cancelAnswer d identifier)
+    unfolding cancelAnswer
+    cancel-fits identifier =
+        plain-fits (not (identifierOk identifier)) 16 _ (plain-fits (not (waits d identifier)) 19 answer.Cancelled (nothing-fits (d .profile) room))
+
+-- a message that was read, by its type
+module _ (d : Desk) (rows : List Record) (n : ℕ) (room post : ℕ) (passes : profileOk (d .profile) ≡ true) where
+  sent-fits : (v : Value) → validOf (d .profile .air) v ≡ true → Fit d (take n rows) post (v .users) room (sentAnswer d rows n room post v)
+  unfolding sentAnswer interrogateAnswer
+  sent-fits v ok = go (eqb (v .pdu) 2) refl (eqb (v .pdu) 8) (eqb (v .pdu) 12) (eqb (v .pdu) 15)
+    where
+      go : (a : Bool) → eqb (v .pdu) 2 ≡ a → (b c e : Bool)
+          → Fit d (take n rows) post (v .users) room (cond a (activateAnswer d rows n room v) (cond b (interrogateAnswer d rows n post v)
+          (cond c (decideAnswer d room post (v .identifier) answer.Proceed) (cond e (decideAnswer d room post (v .identifier) answer.Diverted) (answer.Refused (refusal 8))))))
+      go true z b c e = activate-fits d (take n rows) post (v .users) room passes rows n v (activate-users (d .profile .air) v ok (eqb-true _ _ z))
+      go false z true c e = plain-fits d (take n rows) post (v .users) room (not (recordsOk rows n (postsOf d))) 15 _ (nothing-fits (d .profile) room)
+      go false z false true e = decide-fits d (take n rows) post (v .users) room passes post (v .identifier) answer.Proceed (proceed-fits d (take n rows) post (v .users) room passes)
+      go false z false false true = decide-fits d (take n rows) post (v .users) room passes post (v .identifier) answer.Diverted (diverted-fits d (take n rows) post (v .users) room passes)
+      go false z false false false = nothing-fits (d .profile) room
+
+  message-fits : (l : List ℕ) (bits : ℕ) → Fit d (take n rows) post (valueBy (readOf (d .profile) l bits) .users) room (messageAnswer d rows n l room post bits)
+  unfolding messageAnswer readingOf
+  message-fits l bits = plain-fits d (take n rows) post _ room (not (ltb post (postsOf d))) 2 _ (go (readOf (d .profile) l bits) refl)
+    where
+      go : (r : Read Value) → readOf (d .profile) l bits ≡ r → Fit d (take n rows) post (valueBy r .users) room (readAnswer r (λ v. sentAnswer d rows n room post v))
+      go (got v q) e = sent-fits v (read-valid (d .profile) l bits (readingOf (got v q)) (ap readingOf (sym e)) refl)
+      go (no s) e = nothing-fits (d .profile) room
+
+module _ (d : Desk) (rows : List Record) (n : ℕ) (l : List ℕ) (room : ℕ) where
+  event-fits : profileOk (d .profile) ≡ true → (e : Event) → Fit d (take n rows) (postOf e) (usersOf (d .profile) l e) room (eventAnswer d rows n l room e)
+  event-fits passes (event.Message post bits) = message-fits d rows n room post passes l bits
+  event-fits passes (event.SetUp caller called identifier) = setup-fits d (take n rows) 0 _ room passes rows n caller called identifier
+  event-fits passes (event.Reject post identifier) = reject-fits d (take n rows) post _ room passes post identifier
+  event-fits passes (event.Cancel identifier) = cancel-fits d (take n rows) 0 _ room passes identifier
+
+  -- what any call sends; where it sends anything, the profile passes
+  pub sent-fit : (e : Event) → Fits (d .profile) room (sentBy d rows n l room e) × (0 < length (sentBy d rows n l room e) → profileOk (d .profile) ≡ true)
+  unfolding sentBy answerOf deskOk
+  sent-fit e = go (deskOk d) refl
+    where
+      vs : Answer → List Value
+      vs a = messagesFor d (take n rows) (postOf e) (usersOf (d .profile) l e) a
+
+      go : (b : Bool) → deskOk d ≡ b
+          → Fits (d .profile) room (vs (unless (not b) 1 (eventAnswer d rows n l room e))) × (0 < length (vs (unless (not b) 1 (eventAnswer d rows n l room e))) → profileOk (d .profile) ≡ true)
+      go true z = (event-fits (both-left _ _ z) e, λ h. both-left _ _ z)
+      go false z = (nothing-fits (d .profile) room, λ h. absurd (omega arith))
+
+-- ---- of any call
+
+module _ (d : Desk) (rows : List Record) (n : ℕ) (l area : List ℕ) (e : Event) where
+  abbrev sent : List Value
+  sent = sentBy d rows n l (length area) e
+
+  few-sent : length sent ≤ 3
+  few-sent = sent-fit d rows n l (length area) e .0 .few
+
+  -- the answer tells how many messages there are
+  pub sent-count : stepOf d rows n l area e .laid .count ≡ length (sentBy d rows n l (length area) e)
+  sent-count = ap (λ (x : Laid). x .count) (step-lays d rows n l area e) ∙ laid-count (d .profile .air) sent few-sent
+
+  -- the area keeps its length
+  pub area-length : length (areaAfter d rows n l area e) ≡ length area
+  area-length = ap (λ (m : List ℕ). length m) (step-fills d rows n l area e) ∙ all-length (d .profile .air) sent area
+
+  -- bytes that no message fills are as they stood
+  pub unfilled-stays : (i : ℕ) → Unfilled (stepOf d rows n l area e .laid) i → getD (areaAfter d rows n l area e) i 0 ≡ getD area i 0
+  unfilled-stays i out =
+      ap (λ (m : List ℕ). getD m i 0) (step-fills d rows n l area e)
+      ∙ unfilled-stay (d .profile .air) sent few-sent area i (subst (λ (x : Laid). Unfilled x i) (step-lays d rows n l area e) out)
+
+  -- each message that the call says it laid is read from its place, with the length that it tells, as the value that was sent
+  pub sent-read : ReadBack (d .profile) (stepOf d rows n l area e .laid) (areaAfter d rows n l area e) 0 (sentBy d rows n l (length area) e)
+  sent-read =
+      subst (λ (x : Laid). ReadBack (d .profile) x (areaAfter d rows n l area e) 0 sent) (sym (step-lays d rows n l area e))
+      (subst (λ (m : List ℕ). ReadBack (d .profile) (laidOf (d .profile .air) sent) m 0 sent) (sym (step-fills d rows n l area e)) (go sent (sent-fit d rows n l (length area) e)))
+    where
+      go : (vs : List Value) → Fits (d .profile) (length area) vs × (0 < length vs → profileOk (d .profile) ≡ true)
+          → ReadBack (d .profile) (laidOf (d .profile .air) vs) (layAll (d .profile .air) area vs) 0 vs
+      go [] f = tt
+      go (v ∷ vs) f = all-read (d .profile) (f .1 (omega arith)) (v ∷ vs) (f .0 .few) area (f .0 .room-for (omega arith)) (f .0 .sends)
