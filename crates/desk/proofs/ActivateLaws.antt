@@ -1,6 +1,6 @@
 -- ACTIVATE: its order, ground by ground, and its ACKs. Assumes nothing.
 use Prim.Native.Nat.{ℕ, zero, suc, _≤_, _<_}
-use mathlib.Core.Path.{_≡_, refl, _∙_}
+use mathlib.Core.Path.{_≡_, refl, _∙_, subst}
 use mathlib.Core.Bool.{true, false}
 use mathlib.Core.List.{List}
 use native.Mathlib.Omega.{arith}
@@ -12,7 +12,8 @@ use Rattle.profile.specs.Rules.{profileOk}
 use Rattle.profile.specs.declared.Air.{Air}
 use Rattle.message.specs.Groups.{groupC, spanOf}
 use Rattle.message.specs.Acks.{maskC}
-use Rattle.message.specs.Messages.{activateC, bodyC}
+use Rattle.message.specs.Rows.{table, rowIn, rowOf, partsC, gets, firstParts}
+use Rattle.message.specs.Messages.{bodyC}
 use Rattle.message.proofs.GroupLaws.{few-identities}
 use Rattle.message.specs.declared.Group.{Group}
 use Rattle.message.specs.declared.Value.{Value}
@@ -56,16 +57,12 @@ module _ (d : Desk) (rows : List Record) (n room : ℕ) (v : Value) where
   activate-acks h e k = rw (le-ltb room 300 h, e, k) refl
 
 -- the users of a valid ACTIVATE
-activate-body : (air : Air) (v : Value) → v .pdu ≡ 2 → bodyC air (v .pdu) ≡ activateC air
-unfolding bodyC
-activate-body air v e = rw e
-
-body-users : (air : Air) (v : Value) → activateC air .ok v ≡ true → groupC air false .ok (v .users) ≡ true
-unfolding activateC
-body-users air v z = both-left _ _ (both-right _ _ z)
+body-users : (air : Air) (v : Value) → bodyC air 2 .ok v ≡ true → groupC air false .ok (v .users) ≡ true
+unfolding bodyC rowOf rowIn table firstParts partsC gets
+body-users air v z = both-left _ _ (both-left _ _ (both-right _ _ z))
 
 pub activate-users : (air : Air) (v : Value) → validOf air v ≡ true → v .pdu ≡ 2 → groupC air false .ok (v .users) ≡ true
-activate-users air v ok e = body-users air v (rw (activate-body air v e) at (valid-body air v ok))
+activate-users air v ok e = body-users air v (subst (λ (t : ℕ). bodyC air t .ok v ≡ true) e (valid-body air v ok))
 
 -- ---- the ACKs
 

@@ -16,8 +16,11 @@ use Rattle.profile.specs.Sample.{sample, sampleMeanings, sampleShare}
 use Rattle.message.specs.Addresses.{kindC, extensionC, addressC}
 use Rattle.message.specs.Groups.{addressesIn, allowedIn, nobodies, placesC, rangeOk, endsOk, addressesC, rangeC, groupC, noGroup, oneGroup, spanIn, spanOf}
 use Rattle.message.specs.Acks.{maskC, maskedC, resultC}
-use Rattle.message.specs.Values.{activateV, ackV, plainV}
-use Rattle.message.specs.Messages.{activateC, ackC, interrogateC, interceptedC, callC, acceptedC, bodyC, isKnown, isCarried, headerC, messageC}
+use Rattle.message.specs.Numbers.{elements, elementOf, widths, widthOf}
+use Rattle.message.specs.Values.{blank}
+use Rattle.message.specs.Rows as row
+use Rattle.message.specs.Rows.{table, rowIn, partsC, puts, gets, eachC, optionsC, putOptions, getOptions, firstParts}
+use Rattle.message.specs.Messages.{bodyC, isKnown, isCarried, headerC, messageC}
 use Rattle.message.specs.Reading.{wholeOf, lengthOk, readBits, readOf}
 use Rattle.writing.specs.Writing.{bitsOf, padded, layOf}
 use Rattle.places.specs.Held.{noPlace, placeIn, noPlaces, waitsAt, heldOf, usedOf, freeOf, owedOf, owedAll, owedOthers, loadOf, admitsOf}
@@ -30,7 +33,7 @@ use Rattle.records.specs.Outcomes.{outcomeOf, outcomesOf, has, maskOf, someOf, 
 use Rattle.records.specs.Marking.{acceptedOf, unmarked, noMarks, withMark, markAll, marksOf}
 use Rattle.records.specs.declared.Record.{Record}
 use Rattle.sending.specs.Sending.{layFrom, layAll, noLaid, laidFrom, laidOf}
-use Rattle.sending.specs.Acks.{resultOf, reasonOf, severalIn, ackOf, acksOf}
+use Rattle.sending.specs.Acks.{resultOf, reasonOf, severalIn, ackV, ackOf, acksOf}
 use Rattle.desk.specs.Desks.{deskOk}
 use Rattle.desk.specs.Orders.{namesDispatchers, activateAnswer, sentAnswer, messageAnswer, partyOk, setUpOk, admitAnswer, setUpAnswer, answerOf}
 use Rattle.desk.specs.Steps.{deskAfter, plainStep, plainArea, acksFor, acksStep, acksArea, stepBy, areaBy, stepOf, areaAfter}
@@ -113,5 +116,5 @@ cases =
     ∷ []
 
 pub cases-right : list.map gives cases ≡ list.map wants cases
-unfolding bitAt fieldAt withDigit binary setBit putBits spare both number vecRead flag every sum meaningOk meaningIn airOk shareOk shareIn sharesOk profileOk sample sampleMeanings sampleShare kindC extensionC addressC addressesIn allowedIn nobodies placesC rangeOk endsOk addressesC rangeC groupC noGroup oneGroup spanIn spanOf maskC maskedC resultC activateV ackV plainV activateC ackC interrogateC interceptedC callC acceptedC bodyC isKnown isCarried headerC messageC wholeOf lengthOk readBits readOf bitsOf padded layOf placeIn noPlaces waitsAt heldOf usedOf freeOf owedOf owedAll owedOthers loadOf admitsOf callOk apart aloneAt underCeiling placesOk lowestFrom hasCall placeOf lowestFree takeOf clearOf identityOf later identityIn identityAt countOf each identitiesOf rowOf is recordFrom recordOf recordOk allOk recordsOk stateOf restricts partyOf restrictedOf outcomeOf outcomesOf has maskOf someOf sortedOf acceptedOf unmarked noMarks withMark markAll marksOf layFrom layAll noLaid laidFrom laidOf resultOf reasonOf severalIn ackOf acksOf deskOk namesDispatchers activateAnswer sentAnswer messageAnswer partyOk setUpOk admitAnswer setUpAnswer answerOf deskAfter plainStep plainArea acksFor acksStep acksArea stepBy areaBy stepOf areaAfter
+unfolding bitAt fieldAt withDigit binary setBit putBits spare both number vecRead flag every sum meaningOk meaningIn airOk shareOk shareIn sharesOk profileOk sample sampleMeanings sampleShare kindC extensionC addressC addressesIn allowedIn nobodies placesC rangeOk endsOk addressesC rangeC groupC noGroup oneGroup spanIn spanOf maskC maskedC resultC elements elementOf widths widthOf blank ackV table rowIn row.rowOf partsC puts gets eachC optionsC putOptions getOptions firstParts bodyC isKnown isCarried headerC messageC wholeOf lengthOk readBits readOf bitsOf padded layOf placeIn noPlaces waitsAt heldOf usedOf freeOf owedOf owedAll owedOthers loadOf admitsOf callOk apart aloneAt underCeiling placesOk lowestFrom hasCall placeOf lowestFree takeOf clearOf identityOf later identityIn identityAt countOf each identitiesOf rowOf is recordFrom recordOf recordOk allOk recordsOk stateOf restricts partyOf restrictedOf outcomeOf outcomesOf has maskOf someOf sortedOf acceptedOf unmarked noMarks withMark markAll marksOf layFrom layAll noLaid laidFrom laidOf resultOf reasonOf severalIn ackOf acksOf deskOk namesDispatchers activateAnswer sentAnswer messageAnswer partyOk setUpOk admitAnswer setUpAnswer answerOf deskAfter plainStep plainArea acksFor acksStep acksArea stepBy areaBy stepOf areaAfter
 cases-right = refl

@@ -2,18 +2,22 @@
 use Prim.Native.Nat.{ℕ, _<_}
 use mathlib.Core.Path.{_≡_, refl, sym, ap, _∙_, subst}
 use mathlib.Core.Bool.{Bool, true, false, not, cond, _||_}
-use mathlib.Core.List.{List, [], _∷_}
+use mathlib.Core.List.{List, [], _∷_, _++_}
 use native.Mathlib.Omega.{arith}
 use lib.Dec.{eqb, ltb}
 use borrow.Author.Tests.{eqb-true}
 use lib.ListN.{take}
-use Rattle.codec.specs.Codec.{Read, got, no}
+use Rattle.codec.specs.Codec.{Ground, firstOf, Read, got, no, afterwards}
 use Rattle.codec.specs.Stops.{refusal}
-use Rattle.codec.proofs.Good.{both-left, both-right}
+use Rattle.codec.proofs.Good.{both-left, both-right, not-both, Told}
+use Rattle.codec.proofs.GroundLaws.{none-join, some-join}
 use Rattle.message.specs.Values.{identifierIn}
 use Rattle.message.specs.Messages.{isCarried, headerC, messageC}
-use Rattle.message.specs.Reading.{readOf}
+use Rattle.message.specs.Rows.{table, rowIn, rowOf}
+use Rattle.message.specs.Reading.{readOf, readingOrder}
+use Rattle.message.specs.declared.Row.{Row}
 use Rattle.message.specs.declared.Value.{Value}
+use Rattle.message.proofs.OrderLaws.{reading-exact}
 use Rattle.profile.specs.declared.Air.{Air}
 use Rattle.profile.specs.declared.Profile.{Profile}
 use Rattle.reading.specs.Answers.{readingOf}
@@ -25,7 +29,7 @@ use Rattle.records.specs.declared.Record.{Record}
 use Rattle.writing.proofs.RoundTrips.{read-valid}
 use Rattle.validity.specs.Validity.{validOf}
 use Rattle.desk.specs.Desks.{deskOk}
-use Rattle.desk.specs.Grounds.{Ground, notSent, waits, waitsHere, noPlaceFor, typeOrder, readOrder, messageOrder, setUpOrder, rejectOrder, cancelOrder, orderOf, firstOf}
+use Rattle.desk.specs.Grounds.{notSent, waits, waitsHere, noPlaceFor, typeOrder, messageOrder, setUpOrder, rejectOrder, cancelOrder, orderOf}
 use Rattle.desk.specs.Numbers.{numberOf}
 use Rattle.desk.specs.Orders.{unless, postsOf, placesOf, namesDispatchers, activateAnswer, interrogateAnswer, endAnswer, decideAnswer, sentAnswer, readAnswer, messageAnswer, identifierOk, setUpOk, admitAnswer, partyAnswer, setUpAnswer, rejectAnswer, cancelAnswer, answerOf}
 use Rattle.desk.specs.declared.Answer.{Answer}
@@ -48,17 +52,18 @@ unfolding firstOf
 last b c a e = before b c a [] e
 
 -- a value that was read has one of the eight types
-arm : (P : ℕ → Type 0) (t k : ℕ) (rest : Bool) → P k → (rest ≡ true → P t) → (eqb t k || rest) ≡ true → P t
-arm P t k rest here after = go (eqb t k) refl
+arm : (P : ℕ → Type 0) (t k : ℕ) (r s : Row) → P k → (s .carried ≡ true → P t) → cond (eqb t k) r s .carried ≡ true → P t
+arm P t k r s here after = go (eqb t k) refl
   where
-    go : (b : Bool) → eqb t k ≡ b → (b || rest) ≡ true → P t
+    go : (b : Bool) → eqb t k ≡ b → cond b r s .carried ≡ true → P t
     go true e h = subst P (sym (eqb-true t k e)) here
     go false e h = after h
 
 carried-cases : (P : ℕ → Type 0) (t : ℕ) → P 2 → P 3 → P 8 → P 10 → P 12 → P 13 → P 15 → P 16 → isCarried t ≡ true → P t
-unfolding isCarried
+unfolding isCarried rowOf rowIn table
 carried-cases P t a b c d e f g h =
-    arm P t 2 _ a (arm P t 3 _ b (arm P t 8 _ c (arm P t 10 _ d (arm P t 12 _ e (arm P t 13 _ f (arm P t 15 _ g (λ z. subst P (sym (eqb-true t 16 z)) h)))))))
+    arm P t 2 _ _ a
+    (arm P t 3 _ _ b (arm P t 8 _ _ c (arm P t 10 _ _ d (arm P t 12 _ _ e (arm P t 13 _ _ f (arm P t 15 _ _ g (arm P t 16 _ _ h (λ z. not-both z))))))))
 
 valid-carried : (air : Air) (v : Value) → validOf air v ≡ true → isCarried (v .pdu) ≡ true
 unfolding validOf messageC headerC
@@ -137,16 +142,16 @@ module _ (d : Desk) (rows : List Record) (n : ℕ) where
             (cond (eqb t 8) ((15, not (recordsOk rows n (postsOf d))) ∷ [])
             (cond (eqb t 12 || eqb t 15) ((14, ltb room 300) ∷ (19, not (waits d (identifierIn v))) ∷ (20, not (waitsHere d post (identifierIn v))) ∷ []) [])))
 
-  after-reading : (room post : ℕ) (r : Read Value) → ((v : Value) (p : ℕ) → r ≡ got v p → isCarried (v .pdu) ≡ true)
-      → numberOf (readAnswer r (λ v. sentAnswer d rows n room post v)) ≡ firstOf (readOrder r (λ v. notSent v ∷ typeOrder d rows n room post v))
-  unfolding firstOf
-  after-reading room post (got v p) h = sent-first room post v (h v p refl)
-  after-reading room post (no s) h = refl
+  after-reading : (room post : ℕ) (g : List Ground) (r : Read Value) → Told g r → ((v : Value) (p : ℕ) → r ≡ got v p → isCarried (v .pdu) ≡ true)
+      → numberOf (readAnswer r (λ v. sentAnswer d rows n room post v)) ≡ firstOf (g ++ afterwards r (λ v p. notSent v ∷ typeOrder d rows n room post v))
+  after-reading room post g (got v p) t h = sent-first room post v (h v p refl) ∙ sym (none-join _ g t .1)
+  after-reading room post g (no s) t h = sym (some-join [] g (t .0) .1 ∙ t .1)
 
   message-first : (l : List ℕ) (room post bits : ℕ) → numberOf (messageAnswer d rows n l room post bits) ≡ firstOf (messageOrder d rows n l room post bits)
   unfolding messageAnswer messageOrder
   message-first l room post bits =
-      before (not (ltb post (postsOf d))) 2 _ _ (after-reading room post (readOf (d .profile) l bits) (λ v p e. read-carried (d .profile) l bits v p e))
+      before (not (ltb post (postsOf d))) 2 _ _
+      (after-reading room post (readingOrder (d .profile) l bits) (readOf (d .profile) l bits) (reading-exact (d .profile) l bits) (λ v p e. read-carried (d .profile) l bits v p e))
 
   number-first : (l : List ℕ) (room : ℕ) (e : Event) → numberOf (answerOf d rows n l room e) ≡ firstOf (orderOf d rows n l room e)
   unfolding answerOf orderOf

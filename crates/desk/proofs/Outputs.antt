@@ -16,6 +16,7 @@ use Rattle.codec.proofs.Good.{both-left, not-both}
 use Rattle.profile.specs.Rules.{profileOk}
 use Rattle.profile.specs.declared.Profile.{Profile}
 use Rattle.message.specs.Groups.{groupC}
+use Rattle.message.specs.Values.{identifierIn}
 use Rattle.message.specs.Reading.{readOf}
 use Rattle.message.specs.declared.Group.{Group}
 use Rattle.message.specs.declared.Value.{Value}
@@ -160,11 +161,11 @@ module _ (d : Desk) (rows : List Record) (n : ℕ) (room post : ℕ) (passes : p
     where
       go : (a : Bool) → eqb (v .pdu) 2 ≡ a → (b c e : Bool)
           → Fit d (take n rows) post (v .users) room (cond a (activateAnswer d rows n room v) (cond b (interrogateAnswer d rows n post v)
-          (cond c (decideAnswer d room post (v .identifier) answer.Proceed) (cond e (decideAnswer d room post (v .identifier) answer.Diverted) (answer.Refused (refusal 8))))))
+          (cond c (decideAnswer d room post (identifierIn v) answer.Proceed) (cond e (decideAnswer d room post (identifierIn v) answer.Diverted) (answer.Refused (refusal 8))))))
       go true z b c e = activate-fits d (take n rows) post (v .users) room passes rows n v (activate-users (d .profile .air) v ok (eqb-true _ _ z))
       go false z true c e = plain-fits d (take n rows) post (v .users) room (not (recordsOk rows n (postsOf d))) 15 _ (nothing-fits (d .profile) room)
-      go false z false true e = decide-fits d (take n rows) post (v .users) room passes post (v .identifier) answer.Proceed (proceed-fits d (take n rows) post (v .users) room passes)
-      go false z false false true = decide-fits d (take n rows) post (v .users) room passes post (v .identifier) answer.Diverted (diverted-fits d (take n rows) post (v .users) room passes)
+      go false z false true e = decide-fits d (take n rows) post (v .users) room passes post (identifierIn v) answer.Proceed (proceed-fits d (take n rows) post (v .users) room passes)
+      go false z false false true = decide-fits d (take n rows) post (v .users) room passes post (identifierIn v) answer.Diverted (diverted-fits d (take n rows) post (v .users) room passes)
       go false z false false false = nothing-fits (d .profile) room
 
   message-fits : (l : List ℕ) (bits : ℕ) → Fit d (take n rows) post (valueBy (readOf (d .profile) l bits) .users) room (messageAnswer d rows n l room post bits)

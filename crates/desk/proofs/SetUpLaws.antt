@@ -7,7 +7,6 @@ use lib.ListN.{take}
 use borrow.Author.Tests.{lt-ltb, le-ltb, ltb-true}
 use Rattle.codec.proofs.Good.{both-left}
 use Rattle.codec.specs.Stops.{refusal}
-use Rattle.message.specs.Addresses.{nobody}
 use Rattle.message.specs.Values.{blank}
 use Rattle.places.specs.Held.{admitsOf}
 use Rattle.places.specs.Spots.{placeOf, lowestFree, takeOf}

@@ -5,7 +5,7 @@ use mathlib.Core.Bool.{Bool, true, false, not, cond}
 use mathlib.Core.List.{List, [], _∷_}
 use lib.Dec.{ltb}
 use lib.ListN.{length, take}
-use Rattle.codec.specs.Codec.{both}
+use Rattle.codec.specs.Codec.{both, Ground, noneOf}
 use Rattle.codec.proofs.Good.{both-left, both-right, not-both}
 use Rattle.message.specs.declared.Group.{Group}
 use Rattle.places.specs.Held.{admitsOf}
@@ -18,7 +18,7 @@ use Rattle.records.specs.declared.Party.{Party}
 use Rattle.records.specs.declared.Record.{Record}
 use Rattle.records.proofs.PartyLaws.{restricted-is, party-below}
 use Rattle.desk.specs.Desks.{deskOk}
-use Rattle.desk.specs.Grounds.{Ground, waits, partyFor, noneOf, setUpGrounds, isNew, isFreeCall}
+use Rattle.desk.specs.Grounds.{waits, partyFor, setUpGrounds, isNew, isFreeCall}
 use Rattle.desk.specs.Orders.{unless, postsOf, placesOf, setUpOk, admitAnswer, partyAnswer, setUpAnswer, answerOf}
 use Rattle.desk.specs.Steps.{effectBy, effectOf, deskAfter, identifierOf, plainStep, acksStep, stepBy, stepOf}
 use Rattle.desk.specs.declared.Answer.{Answer}

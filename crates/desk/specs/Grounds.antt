@@ -1,13 +1,13 @@
 -- Each call's order, as document 01 lists it: its numbers, first to last, each with whether its ground holds. A number comes exactly
--- when its ground holds and no earlier one of that call's order does (proofs/Exactly).
+-- when its ground holds and no earlier one of that call's order does (proofs/Exactly). Reading's own stand along the bits (`readingOrder`).
 use Prim.Native.Nat.{ℕ}
 use mathlib.Core.Bool.{Bool, true, false, not, cond, _||_}
-use mathlib.Core.List.{List, [], _∷_}
+use mathlib.Core.List.{List, [], _∷_, _++_}
 use lib.Dec.{eqb, ltb}
 use lib.ListN.{take}
-use Rattle.codec.specs.Codec.{Read, got, no, both}
+use Rattle.codec.specs.Codec.{Ground, both, noneOf, afterwards}
 use Rattle.message.specs.Values.{identifierIn}
-use Rattle.message.specs.Reading.{readOf}
+use Rattle.message.specs.Reading.{readOf, readingOrder}
 use Rattle.message.specs.declared.Value.{Value}
 use Rattle.places.specs.Held.{placeIn, admitsOf}
 use Rattle.places.specs.Spots.{placeOf}
@@ -20,10 +20,6 @@ use Rattle.desk.specs.Orders.{postsOf, placesOf, namesDispatchers, ident
 use Rattle.desk.specs.declared.Desk.{Desk}
 use Rattle.desk.specs.declared.Event.{Event}
 use Rattle.desk.specs.declared.Event.the-variants as event
-
--- a number, and whether its ground holds
-abbrev pub Ground : Type 0
-Ground = ℕ × Bool
 
 -- ---- the grounds, row by row of document 01's table
 
@@ -91,15 +87,11 @@ typeOrder d rows n room post v =
     (cond (eqb (v .pdu) 8) (badRecords d rows n ∷ [])
     (cond (eqb (v .pdu) 12 || eqb (v .pdu) 15) (shortArea room ∷ notWaiting d (identifierIn v) ∷ waitsElsewhere d post (identifierIn v) ∷ []) []))
 
--- a refusal of reading stands in the order by its own number
-abbrev pub readOrder : Read Value → (Value → List Ground) → List Ground
-readOrder (got v p) after = after v
-readOrder (no s) after = (s .number, true) ∷ []
-
 -- a post's message: 2, reading, 8, then by its type
 unfoldable pub messageOrder : Desk → List Record → ℕ → List ℕ → ℕ → ℕ → ℕ → List Ground
 messageOrder d rows n l room post bits =
-    noSuchPost d post ∷ readOrder (readOf (d .profile) l bits) (λ v. notSent v ∷ typeOrder d rows n room post v)
+    noSuchPost d post
+    ∷ (readingOrder (d .profile) l bits ++ afterwards (readOf (d .profile) l bits) (λ v p. notSent v ∷ typeOrder d rows n room post v))
 
 -- set-up: 16, 14, 15, 17, "free", 18
 unfoldable pub setUpOrder : Desk → List Record → ℕ → ℕ → Identity → Identity → ℕ → List Ground
@@ -124,18 +116,6 @@ eventOrder d rows n l room (event.Cancel identifier) = cancelOrder d identifier
 -- every call: 1 before all else
 unfoldable pub orderOf : Desk → List Record → ℕ → List ℕ → ℕ → Event → List Ground
 orderOf d rows n l room e = (1, not (deskOk d)) ∷ eventOrder d rows n l room e
-
--- ---- what an order comes to
-
--- the number of the first ground that holds; 0 for none
-unfoldable pub firstOf : List Ground → ℕ
-firstOf [] = 0
-firstOf ((c, holds) ∷ rest) = cond holds c (firstOf rest)
-
--- no ground holds
-unfoldable pub noneOf : List Ground → Bool
-noneOf [] = true
-noneOf ((c, holds) ∷ rest) = both (not holds) (noneOf rest)
 
 -- ---- call set-up, before the places rule
 

@@ -10,7 +10,7 @@ use Rattle.codec.proofs.Good.{both-right, not-both}
 use Rattle.profile.specs.Rules.{profileOk, noProfile}
 use Rattle.profile.specs.declared.Profile.{Profile}
 use Rattle.message.specs.Reading.{readOf}
-use Rattle.message.specs.Values.{plainV, noValue}
+use Rattle.message.specs.Values.{blank, identifierIn}
 use Rattle.message.specs.declared.Value.{Value}
 use Rattle.places.specs.Grounds.{placesOk}
 use Rattle.places.specs.Spots.{placeOf, lowestFree}
@@ -83,10 +83,10 @@ module _ (d : Desk) (w : List Waiting) (a : Along d w) (c : Call) where
 
   -- the event speaks of one call, to the history and to the desk
   spoken-same : (e : Event) → spokenOf (d .profile) (c .message) e ≡ identifierOf (d .profile) (c .message) e
-  unfolding noValue plainV
+  unfolding blank
   spoken-same (event.Message post bits) = go (readOf (d .profile) (c .message) bits)
     where
-      go : (r : Read Value) → namedBy r ≡ valueBy r .identifier
+      go : (r : Read Value) → namedBy r ≡ identifierIn (valueBy r)
       go (got v n) = refl
       go (no s) = refl
   spoken-same (event.SetUp caller called identifier) = refl

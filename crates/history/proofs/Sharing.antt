@@ -9,7 +9,7 @@ use lib.Dec.{eqb, ltb}
 use lib.ListN.{length}
 use borrow.Author.Tests.{ne-eqb, leb-true}
 use Rattle.bits.proofs.SetLaws.{lt-or}
-use Rattle.codec.specs.Codec.{both}
+use Rattle.codec.specs.Codec.{both, noneOf}
 use Rattle.codec.specs.Stops.{refusal}
 use Rattle.codec.proofs.Good.{both-left, both-right, both-true, not-both}
 use Rattle.profile.specs.Rules.{shareIn, profileOk}
@@ -23,7 +23,7 @@ use Rattle.records.specs.Records.{recordsOk}
 use Rattle.records.specs.declared.Identity.{Identity}
 use Rattle.records.proofs.PartyLaws.{party-below}
 use Rattle.desk.specs.Desks.{deskWith, deskOk}
-use Rattle.desk.specs.Grounds.{waits, partyFor, noneOf, isNew}
+use Rattle.desk.specs.Grounds.{waits, partyFor, isNew}
 use Rattle.desk.specs.Numbers.{numberOf}
 use Rattle.desk.specs.Orders.{placesOf, setUpOk, admitAnswer, answerOf}
 use Rattle.desk.specs.declared.Answer.{Answer}

@@ -10,6 +10,7 @@ use Rattle.profile.specs.Counting.{one, sum}
 use Rattle.profile.specs.Rules.{shareIn}
 use Rattle.profile.specs.declared.Profile.{Profile}
 use Rattle.profile.specs.declared.Shares.{Shares}
+use Rattle.message.specs.Values.{identifierIn}
 use Rattle.message.specs.Reading.{readOf}
 use Rattle.message.specs.declared.Value.{Value}
 use Rattle.records.specs.Records.{recordsOk}
@@ -64,7 +65,7 @@ without identifier (x ∷ w) = cond (eqb (x .0) identifier) (without identifier 
 
 -- the call that a post's message names; of one that reads as none no call is meant, and it is refused
 abbrev pub namedBy : Read Value → ℕ
-namedBy (got v n) = v .identifier
+namedBy (got v n) = identifierIn v
 namedBy (no s) = 0
 
 -- the call that an event speaks of

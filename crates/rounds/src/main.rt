@@ -150,28 +150,40 @@ fn alone(range: u8, first: Address, last: Address) -> Value {
 }
 
 fn activate(users: Group, option: bool, dispatchers: Group) -> Value {
-    let mut value = message::plain_value(2, message::NOBODY, 0, 0, option, message::NOBODY);
-    value.users = users;
-    value.dispatchers = dispatchers;
-    value
+    let value = message::with_users(message::blank(2), users);
+    given(message::with_dispatchers(value, dispatchers), option)
 }
 
 fn ack(users: Group, masked: bool, mask: u64, result: u8, reason: u8) -> Value {
-    message::ack_value(users, masked, mask, result, reason)
+    let value = message::with_users(message::blank(3), users);
+    message::with_result(
+        message::with_mask(value, masked, mask),
+        result as u32,
+        reason as u32,
+    )
 }
 
 fn interrogate(whom: Address) -> Value {
-    message::plain_value(8, whom, 0, 0, false, message::NOBODY)
+    message::with_user(message::blank(8), 0, whom)
 }
 
 // INTERCEPTED or DIVERTED.
 fn notice(pdu: u8, cause: u8, option: bool, dispatcher: Address) -> Value {
-    message::plain_value(pdu, message::NOBODY, cause, 0, option, dispatcher)
+    let value = message::with_number(message::blank(pdu), message::CAUSE_AT, cause as u32);
+    given(message::with_dispatcher(value, dispatcher), option)
 }
 
 // ACCEPT, DIVERT or ACCEPTED.
 fn call(pdu: u8, identifier: u32) -> Value {
-    message::plain_value(pdu, message::NOBODY, 0, identifier, false, message::NOBODY)
+    message::with_number(message::blank(pdu), message::IDENTIFIER_AT, identifier)
+}
+
+// With its option, or without.
+fn given(value: Value, option: bool) -> Value {
+    if option {
+        return message::with_given(value, 0);
+    }
+    value
 }
 
 fn group(range: u8, first: Address, second: Address, third: Address) -> Group {

@@ -17,8 +17,8 @@ result-of-requires c κs = search needs
 reason-of-requires : tie.Need-reason-of-requires
 reason-of-requires c κs = search needs
 
-ack-value-requires : tie.Need-ack-value-requires
-ack-value-requires c κs = search needs
+ack-with-requires : tie.Need-ack-with-requires
+ack-with-requires c κs = search needs
 
 returns : tie.Need-returns
 unfolding ackOf
@@ -28,7 +28,7 @@ returns c =
     let p3 = c .before .before .before in
     let p4 = c .before .before in
     let p5 = c .before in
-    rw (c .ack-value .ensures, p5 .reason-of .ensures, p4 .result-of .ensures, p3 .mask-at .ensures, sym (p1 .is-several .ensures) ∙ p2 .if1 .taken)
+    rw (c .ack-with .ensures, p5 .reason-of .ensures, p4 .result-of .ensures, p3 .mask-at .ensures, sym (p1 .is-several .ensures) ∙ p2 .if1 .taken)
 
 result-of-requires-2 : tie.Need-result-of-requires-2
 result-of-requires-2 c κs = search needs
@@ -36,8 +36,8 @@ result-of-requires-2 c κs = search needs
 reason-of-requires-2 : tie.Need-reason-of-requires-2
 reason-of-requires-2 c κs = search needs
 
-ack-value-requires-2 : tie.Need-ack-value-requires-2
-ack-value-requires-2 c κs = search needs
+ack-with-requires-2 : tie.Need-ack-with-requires-2
+ack-with-requires-2 c κs = search needs
 
 returns-2 : tie.Need-returns-2
 unfolding ackOf
@@ -46,7 +46,7 @@ returns-2 c =
     let p2 = c .before .before .before in
     let p3 = c .before .before in
     let p4 = c .before in
-    rw (c .ack-value2 .ensures, p4 .reason-of2 .ensures, p3 .result-of2 .ensures, sym (p1 .is-several .ensures) ∙ p2 .if1 .left)
+    rw (c .ack-with2 .ensures, p4 .reason-of2 .ensures, p3 .result-of2 .ensures, sym (p1 .is-several .ensures) ∙ p2 .if1 .left)
 
 pub ack-of-spec : {M : Type 1} → statement M
 ack-of-spec =
@@ -56,9 +56,9 @@ ack-of-spec =
     mask-at-requires
     result-of-requires
     reason-of-requires
-    ack-value-requires
+    ack-with-requires
     returns
     result-of-requires-2
     reason-of-requires-2
-    ack-value-requires-2
+    ack-with-requires-2
     returns-2)

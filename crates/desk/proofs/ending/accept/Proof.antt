@@ -20,8 +20,8 @@ returns c = refused-plain _ _ _ _ _ _ _ (c .refused .ensures) (c .before .refuse
 ending-of-requires : tie.Need-ending-of-requires
 ending-of-requires c κs = search needs
 
-plain-value-requires : tie.Need-plain-value-requires
-plain-value-requires c κs = search needs
+blank-requires : tie.Need-blank-requires
+blank-requires c κs = search needs
 
 no-laid-requires : tie.Need-no-laid-requires
 no-laid-requires c κs = search needs
@@ -42,7 +42,7 @@ returns-2 c =
     let a = c .before .before .before .before .before .before .before .before .before .before .before .before in
     let f = end-found _ _ _ _ (e .ending-of .result) (e .ending-of .ensures) (c .before .before .before .before .before .before .before .before .if2 .taken) in
     decided _ _ _ _ _ _ _ _ _ (decide-end _ _ _ _ _ (c .before .before .before .before .before .before .before .before .before .before .if1 .left) ∙ f .0) refl (f .1)
-    (one-sent _ (a .pre) _ _ _ _ _ _ (accepted-sends _ (a .pre)) (c .before .before .before .before .before .before .before .before .before .before .if1 .left) (c .before .before .before .before .before .no-laid .ensures) (c .before .before .before .before .before .before .plain-value .ensures) (s .send .ensures))
+    (one-sent _ (a .pre) _ _ _ _ _ _ (accepted-sends _ (a .pre)) (c .before .before .before .before .before .before .before .before .before .before .if1 .left) (c .before .before .before .before .before .no-laid .ensures) (c .before .before .before .before .before .before .blank .ensures) (s .send .ensures))
     (c .ended .ensures)
 
 refused-requires-2 : tie.Need-refused-requires-2
@@ -62,7 +62,7 @@ accept-spec =
     refused-requires
     returns
     ending-of-requires
-    plain-value-requires
+    blank-requires
     no-laid-requires
     send-requires
     ended-requires

@@ -19,8 +19,8 @@ refused-requires c κs = search needs
 returns : tie.Need-returns
 returns c = refused-plain _ _ [] _ _ _ _ (c .refused .ensures) (c .before .refuse .ensures) (interrogate-15 _ _ _ _ _ (sym (c .before .before .before .records-ok .ensures) ∙ c .before .before .if1 .left)) .0
 
-first-of-requires : tie.Need-first-of-requires
-first-of-requires c κs = search needs
+address-at-requires : tie.Need-address-at-requires
+address-at-requires c κs = search needs
 
 state-of-requires : tie.Need-state-of-requires
 state-of-requires c κs = search needs
@@ -31,7 +31,7 @@ keeps-requires c κs = search needs
 returns-2 : tie.Need-returns-2
 returns-2 c =
     c .keeps .ensures
-    ∙ interrogated _ _ _ _ _ _ _ (sym (c .before .before .before .before .records-ok .ensures) ∙ c .before .before .before .if1 .taken) (rw (c .before .before .first-of .ensures) at (c .before .state-of .ensures))
+    ∙ interrogated _ _ _ _ _ _ _ (sym (c .before .before .before .before .records-ok .ensures) ∙ c .before .before .before .if1 .taken) (rw (c .before .before .address-at .ensures) at (c .before .state-of .ensures))
 
 pub interrogate-spec : {M : Type 1} → statement M
 interrogate-spec =
@@ -41,7 +41,7 @@ interrogate-spec =
     refuse-requires
     refused-requires
     returns
-    first-of-requires
+    address-at-requires
     state-of-requires
     keeps-requires
     returns-2)

@@ -23,8 +23,8 @@ returns c = refused-plain _ _ _ _ _ _ _ (c .refused .ensures) (c .before .refuse
 lowest-free-requires : tie.Need-lowest-free-requires
 lowest-free-requires c κs = search needs
 
-plain-value-requires : tie.Need-plain-value-requires
-plain-value-requires c κs = search needs
+blank-requires : tie.Need-blank-requires
+blank-requires c κs = search needs
 
 no-laid-requires : tie.Need-no-laid-requires
 no-laid-requires c κs = search needs
@@ -48,7 +48,7 @@ returns-2 : tie.Need-returns-2
 returns-2 c =
     let a = c .before .before .before .before .before .before .before .before .before .before .before .before .before .before .before in
     admitted-is _ _ _ (c .before .before .before .before .before .before .before .before .lowest-free .result) _ _ _ _ _ (sym (c .before .before .before .before .before .before .before .before .before .before .admits .ensures) ∙ c .before .before .before .before .before .before .before .before .before .if1 .taken) (c .before .before .before .before .before .before .before .before .lowest-free .ensures)
-    (one-sent _ (a .pre .0) _ _ _ _ _ _ (intercepted-sends _ (a .pre .0)) (a .pre .1 .1) (c .before .before .before .before .before .before .no-laid .ensures) (c .before .before .before .before .before .before .before .plain-value .ensures) (c .before .before .before .before .send .ensures))
+    (one-sent _ (a .pre .0) _ _ _ _ _ _ (intercepted-sends _ (a .pre .0)) (a .pre .1 .1) (c .before .before .before .before .before .before .no-laid .ensures) (c .before .before .before .before .before .before .before .blank .ensures) (c .before .before .before .before .send .ensures))
     (c .before .take .ensures) (c .no-marks .ensures)
 
 pub admit-spec : {M : Type 1} → statement M
@@ -60,7 +60,7 @@ admit-spec =
     refused-requires
     returns
     lowest-free-requires
-    plain-value-requires
+    blank-requires
     no-laid-requires
     send-requires
     cast-take
