@@ -15,14 +15,17 @@ use Rattle.profile.specs.Counting.{every, sum}
 use Rattle.profile.specs.Rules.{meaningOk, meaningIn, airOk, shareOk, shareIn, sharesOk, profileOk}
 use Rattle.profile.specs.Sample.{sample, sampleMeanings, sampleShare}
 use Rattle.message.specs.Addresses.{isNobody, kindC, extensionC, addressC}
-use Rattle.message.specs.Groups.{addressesIn, allowedIn, nobodies, areNobody, placesC, rangeOk, endsOk, addressesC, rangeC, groupC, noGroup, oneGroup, isNoGroup, isOneGroup, spanIn, spanOf}
+use Rattle.message.specs.Groups.{addressesIn, allowedIn, nobodies, areNobody, placesC, rangeOk, endsOk, addressesC, rangeC, groupC, noGroup, oneGroup, spanIn, spanOf}
 use Rattle.message.specs.Acks.{maskC, maskedC, resultC}
-use Rattle.message.specs.Values.{activateV, ackV, plainV, activateFits, ackFits, plainFits, interrogateFits, interceptedFits, callFits, acceptedFits}
-use Rattle.message.specs.Messages.{activateC, ackC, interrogateC, interceptedC, callC, acceptedC, bodyC, isKnown, isCarried, headerC, messageC}
+use Rattle.message.specs.Numbers as place
+use Rattle.message.specs.Numbers.{elements, elementOf, widths, widthOf}
+use Rattle.message.specs.Values.{blank, withNumber, withDispatchers, withGiven, sameBools, sameNumbers, sameAddress, sameAddresses, sameGroup, sameValue}
+use Rattle.message.specs.Rows.{table, rowIn, rowOf, partsC, puts, gets, eachC, optionsC, putOptions, getOptions, firstParts}
+use Rattle.message.specs.Messages.{bodyC, isKnown, isCarried, headerC, messageC}
 use Rattle.message.specs.Reading.{wholeOf, lengthOk, readBits, readOf}
 use Rattle.message.specs.declared.Value.{Value}
 use Rattle.validity.specs.Validity.{validOf}
-use Rattle.validity.proofs.Cases.{home, abroad, two, four, call}
+use Rattle.validity.proofs.Cases.{home, abroad, two, four, activateV, ackV, call}
 use Rattle.writing.specs.Writing.{bitsOf, padded, layOf, layIn, writeValid, writeOf}
 use Rattle.console.specs.Bytes.{numberFrom, numberBytes, rowsFrom, rowsBytes, areZero}
 use Rattle.console.specs.Profiles.{meaningBytes, meaningOf, shareBytes, shareFrom, profileBytes, airFrom, sharesFrom, profileFrom, isProfile, passes}
@@ -71,7 +74,7 @@ rows =
     ∷ row (ackV (two 15 (abroad 64 9) (abroad 127 9)) true 0x0123456789ABCDEF 0 127)
     ((3 ∷ 15 ∷ 2 ∷ 0 ∷ 0 ∷ 64 ∷ 0 ∷ 0 ∷ 9 ∷ 2 ∷ 0 ∷ 0 ∷ 127 ∷ 0 ∷ 0 ∷ 9 ∷ []) ++ zeros 91 ++ (1 ∷ 0x01 ∷ 0x23 ∷ 0x45 ∷ 0x67 ∷ 0x89 ∷ 0xAB ∷ 0xCD ∷ 0xEF ∷ 0 ∷ 127 ∷ []) ++ zeros 110)
     -- INTERCEPTED with an option: the dispatcher's address begins at byte 123
-    ∷ row (plainV 10 (record { kind = 0; ssi = 0; extension = 0 }) 2 0 true (home 1)) ((10 ∷ []) ++ zeros 117 ++ (2 ∷ 0 ∷ 0 ∷ 1 ∷ 0 ∷ 1 ∷ 0 ∷ 0 ∷ 1 ∷ []) ++ zeros 101)
+    ∷ row (withGiven 0 true (withDispatchers (oneGroup (home 1)) (withNumber place.cause 2 (blank 10)))) ((10 ∷ []) ++ zeros 117 ++ (2 ∷ 0 ∷ 0 ∷ 1 ∷ 0 ∷ 1 ∷ 0 ∷ 0 ∷ 1 ∷ []) ++ zeros 101)
     ∷ []
 
 abbrev bytesIn : Row → List ℕ
@@ -81,11 +84,11 @@ abbrev valueIn : Row → Value
 valueIn (row v l) = v
 
 pub rows-written : list.map (λ r. valueBytes (valueIn r)) rows ≡ list.map bytesIn rows
-unfolding valueBytes groupBytes addressBytes numberBytes rowsBytes activateV ackV plainV nobodies noGroup oneGroup
+unfolding valueBytes groupBytes addressBytes numberBytes rowsBytes blank nobodies noGroup oneGroup
 rows-written = refl
 
 pub rows-taken : list.map (λ r. valueFrom (bytesIn r)) rows ≡ list.map valueIn rows
-unfolding valueFrom groupFrom addressFrom numberFrom rowsFrom activateV ackV plainV nobodies noGroup oneGroup
+unfolding valueFrom groupFrom addressFrom numberFrom rowsFrom blank nobodies noGroup oneGroup
 rows-taken = refl
 
 -- ---- answers
@@ -120,7 +123,7 @@ abbrev wants : Asked → ℕ
 wants (asked p m n k c) = c
 
 pub answers-right : list.map gives questions ≡ list.map wants questions
-unfolding bitAt fieldAt short refusal both number vecRead flag every sum meaningOk meaningIn airOk shareOk shareIn sharesOk profileOk isNobody kindC extensionC addressC addressesIn allowedIn nobodies areNobody placesC rangeOk endsOk addressesC rangeC groupC noGroup oneGroup isNoGroup isOneGroup spanIn spanOf maskC maskedC resultC activateV ackV plainV activateFits ackFits plainFits interrogateFits interceptedFits callFits acceptedFits activateC ackC interrogateC interceptedC callC acceptedC bodyC isKnown isCarried headerC messageC wholeOf lengthOk readBits readOf numberFrom rowsFrom areZero meaningOf shareFrom airFrom sharesFrom profileFrom isProfile passes roomFor cadRead readNumber cadReadOf
+unfolding bitAt fieldAt short refusal both number vecRead flag every sum meaningOk meaningIn airOk shareOk shareIn sharesOk profileOk isNobody kindC extensionC addressC addressesIn allowedIn nobodies areNobody placesC rangeOk endsOk addressesC rangeC groupC noGroup oneGroup spanIn spanOf maskC maskedC resultC elements elementOf widths widthOf blank sameBools sameNumbers sameAddress sameAddresses sameGroup sameValue rowOf rowIn table partsC puts gets eachC optionsC putOptions getOptions firstParts bodyC isKnown isCarried headerC messageC wholeOf lengthOk readBits readOf numberFrom rowsFrom areZero meaningOf shareFrom airFrom sharesFrom profileFrom isProfile passes roomFor cadRead readNumber cadReadOf
 answers-right = refl
 
 -- of a value's bytes, into a message area of so many bytes
@@ -148,5 +151,5 @@ abbrev expects : Told → ℕ
 expects (told p v k c) = c
 
 pub orders-right : list.map says orders ≡ list.map expects orders
-unfolding withDigit setBit putBits binary spare refusal both number flag every sum meaningOk meaningIn airOk shareOk shareIn sharesOk profileOk isNobody kindC extensionC addressC addressesIn allowedIn nobodies areNobody placesC rangeOk endsOk addressesC rangeC groupC noGroup oneGroup isNoGroup isOneGroup spanIn spanOf maskC maskedC resultC activateV ackV plainV activateFits ackFits plainFits interrogateFits interceptedFits callFits acceptedFits activateC ackC interrogateC interceptedC callC acceptedC bodyC isKnown isCarried headerC messageC validOf bitsOf padded layOf layIn writeValid writeOf numberFrom rowsFrom areZero meaningOf shareFrom airFrom sharesFrom profileFrom isProfile passes addressFrom groupFrom valueFrom isValue cadWrite writeNumber cadWriteOf
+unfolding withDigit setBit putBits binary spare refusal both number flag every sum meaningOk meaningIn airOk shareOk shareIn sharesOk profileOk isNobody kindC extensionC addressC addressesIn allowedIn nobodies areNobody placesC rangeOk endsOk addressesC rangeC groupC noGroup oneGroup spanIn spanOf maskC maskedC resultC elements elementOf widths widthOf blank sameBools sameNumbers sameAddress sameAddresses sameGroup sameValue rowOf rowIn table partsC puts gets eachC optionsC putOptions getOptions firstParts bodyC isKnown isCarried headerC messageC validOf bitsOf padded layOf layIn writeValid writeOf numberFrom rowsFrom areZero meaningOf shareFrom airFrom sharesFrom profileFrom isProfile passes addressFrom groupFrom valueFrom isValue cadWrite writeNumber cadWriteOf
 orders-right = refl

@@ -252,7 +252,7 @@ number-fits zero x v p e h = with-numbers v _ p (set-identifier (p .numbers) x (
 number-fits (suc zero) x v p e h = with-numbers v _ p (set-cause (p .numbers) x (omega arith))
 number-fits (suc (suc zero)) x v p e h = with-numbers v _ p (set-result (p .numbers) x (omega arith))
 number-fits (suc (suc (suc zero))) x v p e h = with-numbers v _ p (set-reason (p .numbers) x (omega arith))
-number-fits (suc (suc (suc (suc k)))) x v p e h = not-both e
+number-fits (suc (suc (suc (suc k)))) x v p e h = let z = ltb-true (suc (suc (suc (suc k)))) 4 e in absurd (omega arith)
 
 reason-most : (r w : ℕ) → resultC .ok (r, w) ≡ true → w < 256
 unfolding resultC number
@@ -260,11 +260,11 @@ reason-most r w e = go (eqb r 1) (both-right (ltb r (2 ^ 1)) _ e)
   where
     go : (b : Bool) → choose b (pure 0 isZero) (number element.reason 7) .ok w ≡ true → w < 256
     go true h = let z = zero-is w h in omega arith
-    go false h = let z = ltb-true _ _ h in omega arith
+    go false h = let z : w < 2 ^ 7 = ltb-true _ _ h in omega arith
 
 result-most : (r w : ℕ) → resultC .ok (r, w) ≡ true → r < 256
 unfolding resultC number
-result-most r w e = let h = ltb-true _ _ (both-left _ _ e) in omega arith
+result-most r w e = let h : r < 2 ^ 1 = ltb-true _ _ (both-left _ _ e) in omega arith
 
 part-fits : (air : Air) (u : Value) (p : Part) (x : Holds p) (v : Value) → Value-fits v → hasBytes p ≡ true → partC air u p .ok x ≡ true → Value-fits (put p x v)
 unfolding number
@@ -318,14 +318,14 @@ with-given v b f =
 
 option-fits : (air : Air) (u : Value) (q : Part) (x : Optional (Holds q)) (v : Value) → Value-fits v → hasBytes q ≡ true → optional element.pBit (partC air u q) .ok x ≡ true → Value-fits (putOption 0 q x v)
 option-fits air u q absent v f b e = subst (λ (w : Value). Value-fits w) (sym (option-absent 0 q v)) f
-option-fits air u q (there a) v f b e = with-given (put q a v) true (part-fits air u q a v f b (both-right (flag element.pBit .ok true) _ e))
+option-fits air u q (there a) v f b e = with-given (put q a v) true (part-fits air u q a v f b (both-right (flag element.pBit .ok true) _ (both-right true _ e)))
 
 options-fit : (air : Air) (qs : List Part) (x : Options qs) (v : Value) → Value-fits v → atMostOne qs ≡ true → optionsC air v qs .ok x ≡ true → Value-fits (putOptions 0 qs x v)
 unfolding optionsC putOptions eachC
 options-fit air [] x v f b e = f
 options-fit air (q ∷ []) (absent, y) v f b e = subst (λ (w : Value). Value-fits w) (sym (option-absent 0 q v)) f
 options-fit air (q ∷ []) (there a, y) v f b e =
-    option-fits air v q (there a) v f b (both-left _ _ (both-left _ _ (both-right (flag element.oBit .ok true) _ e)))
+    option-fits air v q (there a) v f b (both-left _ _ (both-left _ _ (both-right (flag element.oBit .ok true) _ (both-right true _ e))))
 options-fit air (q ∷ (r ∷ qs)) x v f b e = not-both b
 
 abbrev rowHasBytes : Row → Bool

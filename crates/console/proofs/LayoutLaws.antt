@@ -39,7 +39,7 @@ use Rattle.console.specs.Profiles.{byteBy, meaningBytes, meaningOf, mean
 use Rattle.console.specs.Values.{addressBytes, addressFrom, groupBytes, groupFrom, valueBytes, valueFrom, isValue}
 use Rattle.console.proofs.ByteLaws.{byte-here, length-number}
 use Rattle.console.proofs.PutLaws.{length-address, length-group}
-use Rattle.console.proofs.RowLaws.{AreBytes, bytes-drop, number-there, number-back, rows-there, rows-back, byte-front, run-front, past-byte, past-run, all-of, rows-length}
+use Rattle.console.proofs.RowLaws.{AreBytes, bytes-drop, low-byte, number-there, number-back, rows-there, rows-back, byte-front, run-front, past-byte, past-run, all-of, rows-length}
 use Rattle.console.proofs.FitLaws.{Address-fits, Group-fits, Numbers-fit, Given-fits, Value-fits, valid-fits}
 
 -- ---- addresses and groups
@@ -100,7 +100,7 @@ value-is v = simp append-assoc
 
 -- what is taken from a value's bytes is written as those bytes
 pub value-there : (l : List ℕ) → AreBytes l → isValue l ≡ true → valueBytes (valueFrom l) ≡ l
-unfolding valueFrom isValue AreBytes
+unfolding valueFrom isValue
 value-there l h e =
     let n : length l ≡ 228 = eqb-true _ _ (both-left _ _ e) in
     let flags = both-right (eqb (length l) 228) _ e in
@@ -112,12 +112,9 @@ value-there l h e =
     let d122 : groupBytes (groupFrom (drop 122 l)) ≡ drop 122 l =
     group-there (drop 122 l) (bytes-drop 122 l h) (omega (arith, length-drop 122 l)) ∙ take-all 106 (drop 122 l) (omega (arith, length-drop 122 l)) in
     let d119 = run-front l 119 2 _ _ identifier (byte-front l 121 _ _ (omega arith) option d122) in
-    let d116 = byte-front l 116 _ _ (omega arith) (low 116) (byte-front l 117 _ _ (omega arith) (low 117) (byte-front l 118 _ _ (omega arith) (low 118) d119)) in
+    let d116 = byte-front l 116 _ _ (omega arith) (low-byte l h 116) (byte-front l 117 _ _ (omega arith) (low-byte l h 117) (byte-front l 118 _ _ (omega arith) (low-byte l h 118) d119)) in
     let d107 = byte-front l 107 _ _ (omega arith) masked (run-front l 108 8 _ _ mask d116) in
     value-is (valueFrom l) ∙ byte-front l 0 _ _ (omega arith) refl (run-front l 1 106 _ _ users d107)
-  where
-    low : (i : ℕ) → getD l i 0 % 256 ≡ getD l i 0
-    low i = let k = h i in omega arith
 
 -- a value whose numbers and options are those that have bytes
 value-of : (v : Value) (n : Numbers-fit (v .numbers)) (g : Given-fits (v .given))

@@ -18,6 +18,11 @@ pub bytes-drop : (k : ℕ) (l : List ℕ) → AreBytes l → AreBytes (drop k l)
 unfolding AreBytes
 bytes-drop k l h i = rw (getD-drop k l i 0) (h (k + i))
 
+-- a byte is its own low byte
+pub low-byte : (l : List ℕ) → AreBytes l → (i : ℕ) → getD l i 0 % 256 ≡ getD l i 0
+unfolding AreBytes
+low-byte l h i = let k = h i in omega arith
+
 -- ---- numbers
 
 -- the number in n bytes is written as those bytes

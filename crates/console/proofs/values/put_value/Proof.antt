@@ -1,8 +1,8 @@
 -- `console::values::put_value` meets its contract. Assumes nothing.
-use borrow.Author.Needs.{needs}
 use denote.Ref.{now}
-use Rattle.console.specs.Values.{valueBytes}
+use borrow.Author.Needs.{needs}
 use Rattle.console.proofs.PutLaws.{same-sets, value-put}
+use Rattle.console.specs.Values.{valueBytes}
 use Rattle.console.proofs.values.put_value.Statement.{statement}
 use Rattle.console.proofs.values.put_value.Tie as tie
 
@@ -18,20 +18,35 @@ put-flag-requires c κs = search needs
 put-number-requires : tie.Need-put-number-requires
 put-number-requires c κs = search needs
 
-put-byte-requires-2 : tie.Need-put-byte-requires-2
-put-byte-requires-2 c κs = search needs
+number-at-requires : tie.Need-number-at-requires
+number-at-requires c κs = search needs
 
-put-byte-requires-3 : tie.Need-put-byte-requires-3
-put-byte-requires-3 c κs = search needs
+put-low-requires : tie.Need-put-low-requires
+put-low-requires c κs = search needs
 
-put-byte-requires-4 : tie.Need-put-byte-requires-4
-put-byte-requires-4 c κs = search needs
+number-at-requires-2 : tie.Need-number-at-requires-2
+number-at-requires-2 c κs = search needs
+
+put-low-requires-2 : tie.Need-put-low-requires-2
+put-low-requires-2 c κs = search needs
+
+number-at-requires-3 : tie.Need-number-at-requires-3
+number-at-requires-3 c κs = search needs
+
+put-low-requires-3 : tie.Need-put-low-requires-3
+put-low-requires-3 c κs = search needs
+
+number-at-requires-4 : tie.Need-number-at-requires-4
+number-at-requires-4 c κs = search needs
 
 cast-put-number : tie.Need-cast-put-number
 cast-put-number c = search needs
 
 put-number-requires-2 : tie.Need-put-number-requires-2
 put-number-requires-2 c κs = search needs
+
+given-at-requires : tie.Need-given-at-requires
+given-at-requires c κs = search needs
 
 put-flag-requires-2 : tie.Need-put-flag-requires-2
 put-flag-requires-2 c κs = search needs
@@ -41,33 +56,15 @@ put-group-requires-2 c κs = search needs
 
 same-length : tie.Need-same-length
 same-length c =
-    let e10 = c .before .before in
-    let e9 = e10 .before .before .before .before in
-    let e8 = e9 .before .before .before .before in
-    let e7 = e8 .before .before .before .before .before in
-    let e6 = e7 .before .before .before .before in
-    let e5 = e6 .before .before .before .before in
-    let e4 = e5 .before .before .before .before in
-    let e3 = e4 .before .before .before .before in
-    let e2 = e3 .before .before .before .before in
-    let e1 = e2 .before .before .before .before in
-    let s = e1 .before .before .before .before .before in
-    same-sets (now (s .args .out)) _ 0 (valueBytes (s .args .v)) (value-put (s .args .v) (e2 .put-group .ensures .1) (now (s .args .out)) _ _ _ _ _ _ _ _ _ _ (e1 .put-byte .ensures) (e2 .put-group .ensures .0) (e3 .put-flag .ensures) (e4 .put-number .ensures) (e5 .put-byte2 .ensures) (e6 .put-byte3 .ensures) (e7 .put-byte4 .ensures) (e8 .put-number2 .ensures) (e9 .put-flag2 .ensures) (e10 .put-group2 .ensures .0))
+    let s = c .before .before .before .before .before .before .before .before .before .before .before .before .before .before .before .before .before .before .before .before .before .before .before .before .before .before .before .before .before .before .before .before .before .before .before .before .before .before .before .before .before .before .before .before .before .before .before .before in
+    let e2 = c .before .before .before .before .before .before .before .before .before .before .before .before .before .before .before .before .before .before .before .before .before .before .before .before .before .before .before .before .before .before .before .before .before .before .before .before .before .before .before in
+    same-sets (now (s .args .out)) _ 0 (valueBytes (s .args .v)) (value-put (s .args .v) (e2 .put-group .ensures .1) (now (s .args .out)) _ _ _ _ _ _ _ _ _ _ _ _ _ _ _ (c .before .before .before .before .before .before .before .before .before .before .before .before .before .before .before .before .before .before .before .before .before .before .before .before .before .before .before .before .before .before .before .before .before .before .before .before .before .before .before .before .before .before .before .put-byte .ensures) (e2 .put-group .ensures .0) (c .before .before .before .before .before .before .before .before .before .before .before .before .before .before .before .before .before .before .before .before .before .before .before .before .before .before .before .before .before .before .before .before .before .before .before .put-flag .ensures) (c .before .before .before .before .before .before .before .before .before .before .before .before .before .before .before .before .before .before .before .before .before .before .before .before .before .before .before .before .before .before .before .put-number .ensures) (c .before .before .before .before .before .before .before .before .before .before .before .before .before .before .before .before .before .before .before .before .before .before .before .before .before .before .put-low .ensures) (c .before .before .before .before .before .before .before .before .before .before .before .before .before .before .before .before .before .before .before .before .before .put-low2 .ensures) (c .before .before .before .before .before .before .before .before .before .before .before .before .before .before .before .before .put-low3 .ensures) (c .before .before .before .before .before .before .before .before .before .before .before .put-number2 .ensures) (c .before .before .before .before .before .before .put-flag2 .ensures) (c .before .before .put-group2 .ensures .0) (c .before .before .before .before .before .before .before .before .before .before .before .before .before .before .before .before .before .before .before .before .before .before .before .before .before .before .before .number-at .ensures) (c .before .before .before .before .before .before .before .before .before .before .before .before .before .before .before .before .before .before .before .before .before .before .number-at2 .ensures) (c .before .before .before .before .before .before .before .before .before .before .before .before .before .before .before .before .before .number-at3 .ensures) (c .before .before .before .before .before .before .before .before .before .before .before .before .number-at4 .ensures) (c .before .before .before .before .before .before .before .given-at .ensures))
 
 returns : tie.Need-returns
 returns c =
-    let e10 = c .before .before in
-    let e9 = e10 .before .before .before .before in
-    let e8 = e9 .before .before .before .before in
-    let e7 = e8 .before .before .before .before .before in
-    let e6 = e7 .before .before .before .before in
-    let e5 = e6 .before .before .before .before in
-    let e4 = e5 .before .before .before .before in
-    let e3 = e4 .before .before .before .before in
-    let e2 = e3 .before .before .before .before in
-    let e1 = e2 .before .before .before .before in
-    let s = e1 .before .before .before .before .before in
-    value-put (s .args .v) (e2 .put-group .ensures .1) (now (s .args .out)) _ _ _ _ _ _ _ _ _ _ (e1 .put-byte .ensures) (e2 .put-group .ensures .0) (e3 .put-flag .ensures) (e4 .put-number .ensures) (e5 .put-byte2 .ensures) (e6 .put-byte3 .ensures) (e7 .put-byte4 .ensures) (e8 .put-number2 .ensures) (e9 .put-flag2 .ensures) (e10 .put-group2 .ensures .0)
+    let s = c .before .before .before .before .before .before .before .before .before .before .before .before .before .before .before .before .before .before .before .before .before .before .before .before .before .before .before .before .before .before .before .before .before .before .before .before .before .before .before .before .before .before .before .before .before .before .before .before in
+    let e2 = c .before .before .before .before .before .before .before .before .before .before .before .before .before .before .before .before .before .before .before .before .before .before .before .before .before .before .before .before .before .before .before .before .before .before .before .before .before .before .before in
+    value-put (s .args .v) (e2 .put-group .ensures .1) (now (s .args .out)) _ _ _ _ _ _ _ _ _ _ _ _ _ _ _ (c .before .before .before .before .before .before .before .before .before .before .before .before .before .before .before .before .before .before .before .before .before .before .before .before .before .before .before .before .before .before .before .before .before .before .before .before .before .before .before .before .before .before .before .put-byte .ensures) (e2 .put-group .ensures .0) (c .before .before .before .before .before .before .before .before .before .before .before .before .before .before .before .before .before .before .before .before .before .before .before .before .before .before .before .before .before .before .before .before .before .before .before .put-flag .ensures) (c .before .before .before .before .before .before .before .before .before .before .before .before .before .before .before .before .before .before .before .before .before .before .before .before .before .before .before .before .before .before .before .put-number .ensures) (c .before .before .before .before .before .before .before .before .before .before .before .before .before .before .before .before .before .before .before .before .before .before .before .before .before .before .put-low .ensures) (c .before .before .before .before .before .before .before .before .before .before .before .before .before .before .before .before .before .before .before .before .before .put-low2 .ensures) (c .before .before .before .before .before .before .before .before .before .before .before .before .before .before .before .before .put-low3 .ensures) (c .before .before .before .before .before .before .before .before .before .before .before .put-number2 .ensures) (c .before .before .before .before .before .before .put-flag2 .ensures) (c .before .before .put-group2 .ensures .0) (c .before .before .before .before .before .before .before .before .before .before .before .before .before .before .before .before .before .before .before .before .before .before .before .before .before .before .before .number-at .ensures) (c .before .before .before .before .before .before .before .before .before .before .before .before .before .before .before .before .before .before .before .before .before .before .number-at2 .ensures) (c .before .before .before .before .before .before .before .before .before .before .before .before .before .before .before .before .before .number-at3 .ensures) (c .before .before .before .before .before .before .before .before .before .before .before .before .number-at4 .ensures) (c .before .before .before .before .before .before .before .given-at .ensures)
 
 pub put-value-spec : {M : Type 1} → statement M
 put-value-spec =
@@ -77,11 +74,16 @@ put-value-spec =
     put-group-requires
     put-flag-requires
     put-number-requires
-    put-byte-requires-2
-    put-byte-requires-3
-    put-byte-requires-4
+    number-at-requires
+    put-low-requires
+    number-at-requires-2
+    put-low-requires-2
+    number-at-requires-3
+    put-low-requires-3
+    number-at-requires-4
     cast-put-number
     put-number-requires-2
+    given-at-requires
     put-flag-requires-2
     put-group-requires-2
     same-length

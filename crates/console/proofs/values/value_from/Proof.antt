@@ -10,17 +10,26 @@ group-at-requires c κs = search needs
 group-at-requires-2 : tie.Need-group-at-requires-2
 group-at-requires-2 c κs = search needs
 
+two-at-requires : tie.Need-two-at-requires
+two-at-requires c κs = search needs
+
 byte-at-requires : tie.Need-byte-at-requires
 byte-at-requires c κs = search needs
+
+cast-cause : tie.Need-cast-cause
+cast-cause c = search needs
 
 byte-at-requires-2 : tie.Need-byte-at-requires-2
 byte-at-requires-2 c κs = search needs
 
-number-at-requires : tie.Need-number-at-requires
-number-at-requires c κs = search needs
+cast-result : tie.Need-cast-result
+cast-result c = search needs
 
 byte-at-requires-3 : tie.Need-byte-at-requires-3
 byte-at-requires-3 c κs = search needs
+
+cast-reason : tie.Need-cast-reason
+cast-reason c = search needs
 
 byte-at-requires-4 : tie.Need-byte-at-requires-4
 byte-at-requires-4 c κs = search needs
@@ -28,25 +37,15 @@ byte-at-requires-4 c κs = search needs
 byte-at-requires-5 : tie.Need-byte-at-requires-5
 byte-at-requires-5 c κs = search needs
 
-two-at-requires : tie.Need-two-at-requires
-two-at-requires c κs = search needs
-
 byte-at-requires-6 : tie.Need-byte-at-requires-6
 byte-at-requires-6 c κs = search needs
 
+number-at-requires : tie.Need-number-at-requires
+number-at-requires c κs = search needs
+
 returns : tie.Need-returns
 unfolding valueFrom
-returns c =
-    let p1 = c .before in
-    let p2 = p1 .before in
-    let p3 = p2 .before in
-    let p4 = p3 .before in
-    let p5 = p4 .before in
-    let p6 = p5 .before in
-    let p7 = p6 .before in
-    let p8 = p7 .before in
-    let p9 = p8 .before in
-    rw (c .byte-at6 .ensures, p1 .two-at .ensures, p2 .byte-at5 .ensures, p3 .byte-at4 .ensures, p4 .byte-at3 .ensures, p5 .number-at .ensures .0, p6 .byte-at2 .ensures, p7 .byte-at .ensures, p8 .group-at2 .ensures, p9 .group-at .ensures)
+returns c = rw (c .number-at .ensures .0, c .before .byte-at6 .ensures, c .before .before .byte-at5 .ensures, c .before .before .before .byte-at4 .ensures, c .before .before .before .before .byte-at3 .ensures, c .before .before .before .before .before .byte-at2 .ensures, c .before .before .before .before .before .before .byte-at .ensures, c .before .before .before .before .before .before .before .two-at .ensures, c .before .before .before .before .before .before .before .before .group-at2 .ensures, c .before .before .before .before .before .before .before .before .before .group-at .ensures)
 
 pub value-from-spec : {M : Type 1} → statement M
 value-from-spec =
@@ -54,12 +53,15 @@ value-from-spec =
     (tie.spec
     group-at-requires
     group-at-requires-2
+    two-at-requires
     byte-at-requires
+    cast-cause
     byte-at-requires-2
-    number-at-requires
+    cast-result
     byte-at-requires-3
+    cast-reason
     byte-at-requires-4
     byte-at-requires-5
-    two-at-requires
     byte-at-requires-6
+    number-at-requires
     returns)
