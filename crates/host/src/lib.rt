@@ -64,9 +64,22 @@ pub fn call(
 {
     let rows = load(records);
     let s = desk::step(*desk, rows, records.len(), message, out, event);
-    *desk = s.desk;
-    set_marks(records, s.marks);
+    *desk = desk_of(s);
+    set_marks(records, marks_of(s));
     told_of(s)
+}
+
+// The parts of a step, each taken out by a function of its own: so `call` asks nothing of where they lie in it.
+fn desk_of(s: Stepped) -> Desk
+    ensures { λ r. ⌜ r ≡ s .desk ⌝ }
+{
+    s.desk
+}
+
+fn marks_of(s: Stepped) -> Marks
+    ensures { λ r. ⌜ r ≡ s .marks ⌝ }
+{
+    s.marks
 }
 
 fn told_of(s: Stepped) -> Told
