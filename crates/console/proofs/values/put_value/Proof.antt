@@ -1,8 +1,8 @@
--- `console::values::put_value` meets its contract. Assumes nothing.
-use borrow.Author.Needs.{needs}
+-- Written by tools/proofs from tools/console.conf. `console::values::put_value` meets its contract. Assumes nothing.
 use denote.Ref.{now}
-use Rattle.console.specs.Values.{valueBytes}
+use borrow.Author.Needs.{needs}
 use Rattle.console.proofs.PutLaws.{same-sets, value-put}
+use Rattle.console.specs.Values.{valueBytes}
 use Rattle.console.proofs.values.put_value.Statement.{statement}
 use Rattle.console.proofs.values.put_value.Tie as tie
 

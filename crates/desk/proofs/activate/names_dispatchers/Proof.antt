@@ -1,4 +1,4 @@
--- `desk::activate::names_dispatchers` meets its contract. Assumes nothing.
+-- Written by tools/proofs from tools/desk.conf. `desk::activate::names_dispatchers` meets its contract. Assumes nothing.
 use borrow.Author.Needs.{needs}
 use Rattle.codec.specs.Codec.{both}
 use Rattle.desk.specs.Orders.{namesDispatchers}

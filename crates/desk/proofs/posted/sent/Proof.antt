@@ -1,4 +1,4 @@
--- `desk::posted::sent` meets its contract. Assumes nothing.
+-- Written by tools/proofs from tools/desk.conf. `desk::posted::sent` meets its contract. Assumes nothing.
 use mathlib.Core.Path.{refl}
 use borrow.Author.Needs.{needs}
 use borrow.Author.Tests.{eq-eqb, ne-eqb}
@@ -8,7 +8,9 @@ use Rattle.desk.proofs.posted.sent.Statement.{statement}
 use Rattle.desk.proofs.posted.sent.Tie as tie
 
 activate-requires : tie.Need-activate-requires
-activate-requires c κs = search needs
+activate-requires c κs =
+    let a = c .before .before .before in
+    (a .pre .0, (a .pre .1, c .before .if1 .taken))
 
 same-length : tie.Need-same-length
 same-length c = search needs
@@ -27,7 +29,7 @@ returns-2 c =
     (plain-by _ _ _ _ _ _ _ _ _ (interrogate-plain _ _ _ _ _) (c .interrogate .ensures, interrogate-area _ _ _ _ _ _))
 
 accept-requires : tie.Need-accept-requires
-accept-requires c κs = search needs
+accept-requires c κs = c .before .before .before .before .before .pre .0
 
 same-length-2 : tie.Need-same-length-2
 same-length-2 c = search needs
@@ -39,7 +41,7 @@ returns-3 c =
     (plain-by _ _ _ _ _ _ _ _ _ (decide-plain _ _ _ _ _ refl) (c .before .before .accept .ensures))
 
 divert-requires : tie.Need-divert-requires
-divert-requires c κs = search needs
+divert-requires c κs = c .before .before .before .before .before .before .pre .0
 
 same-length-3 : tie.Need-same-length-3
 same-length-3 c = search needs
