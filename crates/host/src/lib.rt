@@ -22,14 +22,6 @@ pub struct Told {
     pub laid: Laid,
 }
 
-const NO_RECORD: Record = Record {
-    in_use: false,
-    ssi: 0,
-    extension: 0,
-    post: 0,
-    active: false,
-};
-
 // The mark of one record. Nothing else writes to a record. A number past the last record changes nothing.
 pub fn set_mark(records: &mut [Record], at: usize, mark: bool)
     ensures { λ _. ⌜ now (records .exit) ≡ setMark (now (records .entry)) at mark ⌝ }
@@ -64,9 +56,22 @@ pub fn call(
 {
     let rows = load(records);
     let s = desk::step(*desk, rows, records.len(), message, out, event);
-    *desk = s.desk;
-    set_marks(records, s.marks);
+    *desk = desk_of(s);
+    set_marks(records, marks_of(s));
     told_of(s)
+}
+
+// The parts of a step, each taken out by a function of its own: so `call` asks nothing of where they lie in it.
+fn desk_of(s: Stepped) -> Desk
+    ensures { λ r. ⌜ r ≡ s .desk ⌝ }
+{
+    s.desk
+}
+
+fn marks_of(s: Stepped) -> Marks
+    ensures { λ r. ⌜ r ≡ s .marks ⌝ }
+{
+    s.marks
 }
 
 fn told_of(s: Stepped) -> Told
@@ -110,7 +115,14 @@ fn said(at: [bool; 128], i: usize) -> bool
 fn no_records() -> [Record; 128]
     ensures { λ r. ⌜ r ≡ replicate 128 noRecord ⌝ }
 {
-    [NO_RECORD; 128]
+    let none = Record {
+        in_use: false,
+        ssi: 0,
+        extension: 0,
+        post: 0,
+        active: false,
+    };
+    [none; 128]
 }
 
 // Record i is set, where there is room for it.

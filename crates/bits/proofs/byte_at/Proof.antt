@@ -1,4 +1,4 @@
--- `bits::byte_at` meets its contract: past the end `getD` gives 0. Assumes nothing.
+-- Written by tools/proofs from tools/bits.conf. `bits::byte_at` meets its contract: past the end `getD` gives 0. Assumes nothing.
 use mathlib.Core.Path.{sym}
 use denote.Ref.{now}
 use lib.ListN.{List·getD-eq-default}

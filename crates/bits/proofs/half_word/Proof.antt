@@ -1,11 +1,11 @@
--- `bits::half_word` meets its contract. The loop's invariant: the number is the field of the k bytes passed. Assumes nothing.
-use Prim.Native.Nat.{_≤_, _-_, _*_}
+-- Written by tools/proofs from tools/bits.conf. `bits::half_word` meets its contract. The loop's invariant: the number is the field of the k bytes passed. Assumes nothing.
+use Prim.Native.Nat.{_-_, _*_, _≤_}
 use mathlib.Core.Path.{_≡_, refl, _∙_}
 use native.Mathlib.Omega.{arith}
 use denote.Ref.{now}
 use borrow.Author.Needs.{needs}
-use Rattle.bits.specs.Fields.{bitAt, fieldAt}
 use Rattle.bits.proofs.WordLaws.{bytes-lt, byte-more}
+use Rattle.bits.specs.Fields.{bitAt, fieldAt}
 use Rattle.bits.proofs.half_word.Statement.{statement}
 use Rattle.bits.proofs.half_word.Tie as tie
 

@@ -1,6 +1,6 @@
--- `bits::pad` meets its contract. Assumes nothing.
+-- Written by tools/proofs from tools/bits.conf. `bits::pad` meets its contract. Assumes nothing.
 use borrow.Author.Needs.{needs}
-use Rattle.bits.specs.Puts.{padOf, spare}
+use Rattle.bits.specs.Puts.{spare, padOf}
 use Rattle.bits.proofs.pad.Statement.{statement}
 use Rattle.bits.proofs.pad.Tie as tie
 

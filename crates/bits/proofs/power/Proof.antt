@@ -1,5 +1,5 @@
--- `bits::power` meets its contract: 2 ^ k is below 2 ^ 64, so the shift loses nothing. Assumes nothing.
-use native.Mathlib.Nat.{mod-eq-of-lt, one-mul}
+-- Written by tools/proofs from tools/bits.conf. `bits::power` meets its contract: 2 ^ k is below 2 ^ 64, so the shift loses nothing. Assumes nothing.
+use native.Mathlib.Nat.{one-mul, mod-eq-of-lt}
 use lib.Pow.{pow-lt}
 use borrow.Author.Needs.{needs}
 use Rattle.bits.proofs.power.Statement.{statement}

@@ -1,4 +1,4 @@
--- `bits::put` meets its contract: what its tests refuse can't be put, and what they let pass lies in the bytes. Assumes nothing.
+-- Written by tools/proofs from tools/bits.conf. `bits::put` meets its contract: what its tests refuse can't be put, and what they let pass lies in the bytes. Assumes nothing.
 use mathlib.Core.Path.{sym, _∙_}
 use native.Mathlib.Omega.{arith}
 use borrow.Author.Needs.{needs}

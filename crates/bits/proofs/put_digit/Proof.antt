@@ -1,10 +1,10 @@
--- `bits::put_digit` meets its contract: the byte with one digit replaced is a byte again, and stands in its place. Assumes nothing.
+-- Written by tools/proofs from tools/bits.conf. `bits::put_digit` meets its contract: the byte with one digit replaced is a byte again, and stands in its place. Assumes nothing.
 use native.Mathlib.Nat.{div-le-self}
 use native.Mathlib.Omega.{arith}
 use lib.Pow.{pow-pos}
 use borrow.Author.Needs.{needs}
-use Rattle.bits.specs.Puts.{withDigit}
 use Rattle.bits.proofs.PutLaws.{byte-digit-lt}
+use Rattle.bits.specs.Puts.{withDigit}
 use Rattle.bits.proofs.put_digit.Statement.{statement}
 use Rattle.bits.proofs.put_digit.Tie as tie
 

@@ -1,19 +1,18 @@
--- `bits::put_inside` meets its contract. The loop's invariant: the first k bits stand. Assumes nothing.
-use Prim.Native.Nat.{ℕ, _≤_, _-_, _/_, _^_}
+-- Written by tools/proofs from tools/bits.conf. `bits::put_inside` meets its contract. The loop's invariant: the first k bits stand. Assumes nothing.
+use Prim.Native.Nat.{ℕ, _-_, _/_, _^_, _≤_}
 use mathlib.Core.List.{List}
-use mathlib.Core.Path.{_≡_, refl, _∙_, ap}
+use mathlib.Core.Path.{_≡_, refl, ap, _∙_}
 use native.Mathlib.Omega.{arith}
 use denote.Ref.{now}
 use lib.ListN.{length}
 use borrow.Author.Needs.{needs}
-use Rattle.bits.specs.Puts.{putBits, binary}
 use Rattle.bits.proofs.PutLaws.{put-more, binary-end}
+use Rattle.bits.specs.Puts.{putBits, binary}
 use Rattle.bits.proofs.put_inside.Statement.{statement}
 use Rattle.bits.proofs.put_inside.Tie as tie
 
 abbrev Inv-loop : tie.InvT-loop
-Inv-loop out₀ at width value k₀ out k =
-    (k ≤ width) × ((length out ≡ length out₀) × (out ≡ putBits out₀ at (binary k (value / 2 ^ (width - k)))))
+Inv-loop out₀ at width value k₀ out k = (k ≤ width) × ((length out ≡ length out₀) × (out ≡ putBits out₀ at (binary k (value / 2 ^ (width - k)))))
 
 abbrev μ-loop : tie.MeasureT-loop
 μ-loop out₀ at width value k₀ out k = width - k

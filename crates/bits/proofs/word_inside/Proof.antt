@@ -1,4 +1,4 @@
--- `bits::word_inside` meets its contract: eight bytes are four and four. Assumes nothing.
+-- Written by tools/proofs from tools/bits.conf. `bits::word_inside` meets its contract: eight bytes are four and four. Assumes nothing.
 use Prim.Native.Nat.{_*_}
 use native.Mathlib.Omega.{arith}
 use denote.Ref.{now}

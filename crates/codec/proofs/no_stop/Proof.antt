@@ -1,4 +1,4 @@
--- `codec::no_stop` meets its contract. Assumes nothing.
+-- Written by tools/proofs from tools/codec.conf. `codec::no_stop` meets its contract. Assumes nothing.
 use mathlib.Core.Path.{refl}
 use Rattle.codec.specs.Stops.{noStop}
 use Rattle.codec.proofs.no_stop.Statement.{statement}

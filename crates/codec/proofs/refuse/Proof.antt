@@ -1,4 +1,4 @@
--- `codec::refuse` meets its contract. Assumes nothing.
+-- Written by tools/proofs from tools/codec.conf. `codec::refuse` meets its contract. Assumes nothing.
 use mathlib.Core.Path.{refl}
 use Rattle.codec.specs.Stops.{refusal}
 use Rattle.codec.proofs.refuse.Statement.{statement}

@@ -1,4 +1,4 @@
--- `codec::short_at` meets its contract. Assumes nothing.
+-- Written by tools/proofs from tools/codec.conf. `codec::short_at` meets its contract. Assumes nothing.
 use mathlib.Core.Path.{refl}
 use Rattle.codec.specs.Stops.{short}
 use Rattle.codec.proofs.short_at.Statement.{statement}

@@ -1,8 +1,8 @@
--- `codec::take` meets its contract: a law of `takeOf` at each return. Assumes nothing.
+-- Written by tools/proofs from tools/codec.conf. `codec::take` meets its contract: a law of `takeOf` at each return. Assumes nothing.
 use mathlib.Core.Path.{sym}
 use native.Mathlib.Omega.{arith}
-use Rattle.codec.proofs.TakeLaws.{take-wide, take-past, take-there}
 use borrow.Author.Needs.{needs}
+use Rattle.codec.proofs.TakeLaws.{take-wide, take-past, take-there}
 use Rattle.codec.proofs.take.Statement.{statement}
 use Rattle.codec.proofs.take.Tie as tie
 

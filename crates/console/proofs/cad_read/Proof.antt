@@ -1,4 +1,4 @@
--- `console::cad_read` meets its contract. Assumes nothing.
+-- Written by tools/proofs from tools/console.conf. `console::cad_read` meets its contract. Assumes nothing.
 use mathlib.Core.Path.{sym, _∙_}
 use borrow.Author.Needs.{needs}
 use borrow.Author.Tests.{not-true, not-false}

@@ -1,4 +1,4 @@
--- `console::cad_write` meets its contract. Assumes nothing.
+-- Written by tools/proofs from tools/console.conf. `console::cad_write` meets its contract. Assumes nothing.
 use mathlib.Core.Path.{sym, _∙_}
 use borrow.Author.Needs.{needs}
 use Rattle.console.proofs.CallLaws.{write-1, write-22, write-0, write-no}

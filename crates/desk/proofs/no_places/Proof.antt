@@ -1,4 +1,4 @@
--- `desk::no_places` meets its contract. Assumes nothing.
+-- Written by tools/proofs from tools/desk.conf. `desk::no_places` meets its contract. Assumes nothing.
 use mathlib.Core.Path.{refl}
 use Rattle.places.specs.Held.{noPlaces}
 use Rattle.desk.proofs.no_places.Statement.{statement}

@@ -1,4 +1,4 @@
--- `desk::step` meets its contract. Assumes nothing.
+-- Written by tools/proofs from tools/desk.conf. `desk::step` meets its contract. Assumes nothing.
 use mathlib.Core.Path.{refl, sym, _∙_}
 use borrow.Author.Needs.{needs}
 use Rattle.desk.proofs.PostLaws.{plain-by, refused-by, reject-plain, reject-silent, cancel-plain, cancel-silent, setup-plain, desk-passes}

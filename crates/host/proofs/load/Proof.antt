@@ -1,4 +1,5 @@
--- `host::load` meets its contract: a walk of its MIR, by hand, with a loop. Each turn looks into the slice's fractured borrow, reads record i, and calls `with_record`, of which the proof knows only that it meets its contract.
+-- Written by tools/walk from tools/host/load.walk: change that, and run tools/proofs.
+-- `host::load` meets its contract: a walk of its MIR, with a loop. Each turn looks into the slice's fractured borrow, reads record i, and calls `with_record`, of which the proof knows only that it meets its contract.
 -- Assumes nothing.
 use mathlib.Core.Path.{_≡_, refl, sym, _∙_}
 use Prim.Native.Nat.{ℕ, _<_, _≤_, _^_, _*_, _+_, _-_, zero-le}
@@ -28,7 +29,7 @@ use types.Share.{arr-parts}
 use sound.WpLaws.{fmOf, WpFn-mono}
 use denote.RattleType.{RattleType, owns}
 use denote.Laws.{Is, shows}
-use denote.Memory.{pointee, shares}
+use denote.Memory.{pointee, shares, mem as row-mem}
 use denote.Array.{Array, array-vals, array-tells, array-lawful}
 use denote.Plain.{uint-makes}
 use denote.Builtin.{usize}
@@ -170,8 +171,7 @@ module _ {M : Type 1} (𝓤 : URA M) (H : Heap 𝓤) (A : Atoms 𝓤) (W : Given
     -- the invariant: rows holds the first i records
     abbrev At : Upto → List (Item 𝓤)
     At i = ‵ (Arr .own (loadedOf (take (i .0) ys)) (rows-vals (loadedOf (take (i .0) ys)))) ∷ ‵ (flft κ q) ∷ ‵ (fshr-bor κ (λ q′. arr-parts (shares T.the-row) n .part q′ ys b o)) ∷ ‵ (at-slice T.the-row x (at .0)) ∷ ‵ (fres γ (codedHoleys T.the-row .code (heres T.the-row ys)))
-        ∷ ‵ (froom T′.mir l₇ 0) ∷ ‵ (fdies T′.mir l₇) ∷ ‵ (froom tyPtr l₆ 0) ∷ ‵ (fdies tyPtr l₆) ∷ ‵ (froom tyBool l₅ 0) ∷ ‵ (fdies tyBool l₅) ∷ ‵ (froom word l₄ 0) ∷ ‵ (fdies word l₄)
-        ∷ ‵ (fat fullShare word l₃ 0 (vint w64 (i .0))) ∷ ‵ (fdies word l₃) ∷ ‵ (fat fullShare arr l₂ 0 (rows-val (loadedOf (take (i .0) ys)))) ∷ ‵ (fdies arr l₂) ∷ ‵ (fat fullShare slice l₁ 0 s) ∷ ‵ (fdies slice l₁) ∷ ‵ (froom arr l₀ 0) ∷ ‵ (fdies arr l₀) ∷ []
+        ∷ ‵ (froom T′.mir l₇ 0) ∷ ‵ (fdies T′.mir l₇) ∷ ‵ (froom tyPtr l₆ 0) ∷ ‵ (fdies tyPtr l₆) ∷ ‵ (froom tyBool l₅ 0) ∷ ‵ (fdies tyBool l₅) ∷ ‵ (froom word l₄ 0) ∷ ‵ (fdies word l₄) ∷ ‵ (fat fullShare word l₃ 0 (vint w64 (i .0))) ∷ ‵ (fdies word l₃) ∷ ‵ (fat fullShare arr l₂ 0 (rows-val (loadedOf (take (i .0) ys)))) ∷ ‵ (fdies arr l₂) ∷ ‵ (fat fullShare slice l₁ 0 s) ∷ ‵ (fdies slice l₁) ∷ ‵ (froom arr l₀ 0) ∷ ‵ (fdies arr l₀) ∷ []
 
     abbrev Turned : Upto → Out → SProp 𝓤
     Turned i = afterTurn 𝓤 H (Below 𝓤 H A Nearer At i) (afterBlock 𝓤 H (afterSeq 𝓤 H (Wp 𝓤 H C Λ En body.t-4 (atReturn 𝓤 H En Post)) (atReturn 𝓤 H En Post)))
@@ -185,10 +185,9 @@ module _ {M : Type 1} (𝓤 : URA M) (H : Heap 𝓤) (A : Atoms 𝓤) (W : Given
         (λ less. skips ! $ exec ! C Λ En (rest-of (rest-of (rest-of body.turn-1))) (anyQ (Turned i)) $
         assigns ! (bin ! (load ! (from ! (stop !)) (look ! 13 refl)) (lit ! tt) (record { fits = far less })) (from ! (stop !)) (store ! 11 refl (tt, record { fits = far less })) $
         assigns ! (bin ! (load ! (from ! (fld ! refl (stop !))) (look-in ! 17 (sub ! 0 refl (whole !)))) (load ! (from ! (stop !)) (look ! 11 refl)) tt) (from ! (stop !)) (init ! 7 refl (tt, tt)) $
-        rewrite ! 7 (λ (p : ℕ). ‵ (fat fullShare tyPtr l₆ 0 (vptr b p))) (sym (place-is 16 o (i .0))) refl $
+        rewrite ! 7 (λ (p : ℕ). ‵ (fat fullShare tyPtr l₆ 0 (vptr b p))) (sym (place-is (row-mem T.the-row .size) o (i .0))) refl $
         move ! (2 ∷ 1 ∷ []) $
         looks-slice ! tt T.the-row (Is T.the-row) (shows 𝓤 H A T.the-row) vals (LL.tells T.the-type T′.the-laws) (LL.copy T.the-type T′.the-copy 𝓤 H A W) ys b o (λ q′. elem-out ! T.the-row (Is T.the-row) (shows 𝓤 H A T.the-row) vals (LL.tells T.the-type T′.the-laws) q′ ys (i .0) noRecord b o (ltb→lt (i .0) n less) (λ was.
-        -- [records[i]; what it owns; the others; what shuts; the fractured borrow; rows'; its fact; res; _7; …; _6; …; _5; …; _4; …; _3; …; _2; …; _1; …; _0; …]
         assigns ! (of-opd ! (load ! (from ! (hop ! (look ! 10 refl) (stop !))) (look-raw ! 0 refl))) (from ! (stop !)) (init ! 8 refl (LL.lawful T.the-type T′.the-laws 𝓤 H A W .typed h (vals h) was .0)) $
         elem-back ! T.the-row q′ ys (i .0) noRecord (vals h) b o (ltb→lt (i .0) n less) $ shuts-slice ! tt T.the-row q′ ys b o $
         move ! (2 ∷ []) $ use1 W (raw (Put 𝓤 H A mem run .pre (to-put (loadedOf (take (i .0) ys)) (i .0) h))) (goes-put (loadedOf (take (i .0) ys)) (i .0) h (fits less) was) $
@@ -205,14 +204,13 @@ module _ {M : Type 1} (𝓤 : URA M) (H : Heap 𝓤) (A : Atoms 𝓤) (W : Given
         (λ over. jumps ! $ exec ! C Λ En body.t-4 (atRet En Post) $
         peeks ! Arr (Is Arr) (shows 𝓤 H A Arr) (loadedOf (take (i .0) ys)) (rows-vals (loadedOf (take (i .0) ys))) (λ is.
         assigns ! (of-opd ! (load ! (from ! (stop !)) (look ! 15 refl))) (from ! (stop !)) (init ! 19 refl (array-lawful 𝓤 H A W T.the-row (LL.lawful T.the-type T′.the-laws 𝓤 H A W) 128 .typed (loadedOf (take (i .0) ys)) (rows-vals (loadedOf (take (i .0) ys))) is .0)) $
-        returns ! (look ! 19 refl) $ forget ! 9 refl $ forget ! 11 refl $ forget ! 13 refl $ forget ! 15 refl $ forget ! 17 refl $ forget ! 19 refl $
-        move ! (19 ∷ 20 ∷ []) $ free1 ! $ move ! (17 ∷ 18 ∷ []) $ free1 ! $ move ! (15 ∷ 16 ∷ []) $ free1 ! $ move ! (13 ∷ 14 ∷ []) $ free1 ! $ move ! (11 ∷ 12 ∷ []) $ free1 ! $ move ! (9 ∷ 10 ∷ []) $ free1 ! $ move ! (7 ∷ 8 ∷ []) $ free1 ! $ move ! (5 ∷ 6 ∷ []) $ free1 ! $ free0 ! $
+        returns ! (look ! 19 refl) $ forget ! 9 refl $ forget ! 11 refl $ forget ! 13 refl $ forget ! 15 refl $ forget ! 17 refl $ forget ! 19 refl $ move ! (19 ∷ 20 ∷ []) $ free1 ! $ move ! (17 ∷ 18 ∷ []) $ free1 ! $ move ! (15 ∷ 16 ∷ []) $ free1 ! $ move ! (13 ∷ 14 ∷ []) $ free1 ! $ move ! (11 ∷ 12 ∷ []) $ free1 ! $ move ! (9 ∷ 10 ∷ []) $ free1 ! $ move ! (7 ∷ 8 ∷ []) $ free1 ! $ move ! (5 ∷ 6 ∷ []) $ free1 ! $ free0 ! $
         move ! (4 ∷ 2 ∷ []) $ fjoin ! $ move ! (3 ∷ 0 ∷ []) $ fjoin ! $ keep ! (2 ∷ 0 ∷ 1 ∷ []) $ by ! (exits (i .0) (le-antisymm (i .1) (nltb→le (i .0) n over)))))
       where
         h : Record
         h = getD ys (i .0) noRecord
 
-        far : T (ltb (i .0) n) → i .0 * 16 < 2 ^ 64
+        far : T (ltb (i .0) n) → i .0 * row-mem T.the-row .size < 2 ^ 64
         far less = let l = ltb→lt (i .0) n less in omega (arith, room .1)
 
         fits : T (ltb (i .0) n) → i .0 < 2 ^ 64
@@ -243,9 +241,7 @@ module _ {M : Type 1} (𝓤 : URA M) (H : Heap 𝓤) (A : Atoms 𝓤) (W : Given
       rewrite ! 11 (λ (us : List Val). ‵ (fat fullShare arr l₂ 0 (only us))) (array-tells T.the-row vals (LL.tells T.the-type T′.the-laws) 128 (loadedOf (take 0 ys)) (w ∷ []) is) refl $
       rewrite ! 0 (λ (us : List Val). ‵ (Arr .own (loadedOf (take 0 ys)) us)) (array-tells T.the-row vals (LL.tells T.the-type T′.the-laws) 128 (loadedOf (take 0 ys)) (w ∷ []) is) refl $
       assigns ! (of-opd ! (lit ! tt)) (from ! (stop !)) (init ! 9 refl (tt, record { fits = lit< tt })) $
-      -- [rows'; _7; …; _0; …; the token; what records owns]
       move ! (18 ∷ []) $ fsplit ! $ fsplit ! $ move ! (1 ∷ []) $ fsplit ! $ move ! (21 ∷ []) $ split ! $
-      -- [the token; true; res; the fractured borrow; its fact; true; rows'; _7; …; _0; …]
       keep ! (6 ∷ 0 ∷ 3 ∷ 4 ∷ 2 ∷ 7 ∷ 8 ∷ 9 ∷ 10 ∷ 11 ∷ 12 ∷ 13 ∷ 14 ∷ 15 ∷ 16 ∷ 17 ∷ 18 ∷ 19 ∷ 20 ∷ 21 ∷ 22 ∷ []) $ first ! $ blocks ! $
       loops ! 𝓣 Nearer Nearer-wf (At 𝓣 known-put room l₀ l₁ l₂ l₃ l₄ l₅ l₆ l₇) (turns 𝓣 known-put room l₀ l₁ l₂ l₃ l₄ l₅ l₆ l₇) (0, zero-le)))))))))))))
 

@@ -1,5 +1,6 @@
-use mathlib.Core.Path.{_≡_, sym}
+-- Written by tools/proofs from tools/host.conf. `host::said` meets its contract: past the end `getD` gives false. Assumes nothing.
 use mathlib.Core.Bool.{false}
+use mathlib.Core.Path.{_≡_, sym}
 use native.Mathlib.Omega.{arith}
 use lib.ListN.{length, List·getD-eq-default}
 use borrow.Author.Needs.{needs}

@@ -1,4 +1,5 @@
--- `host::set_mark` meets its contract: a walk of its MIR, by hand. Where there is such a record, the borrow is opened, the record is taken out of the row, its mark is stored to, and the borrow is closed at the list with that record; else nothing is done.
+-- Written by tools/walk from tools/host/set_mark.walk: change that, and run tools/proofs.
+-- `host::set_mark` meets its contract: a walk of its MIR. Where there is such a record, the borrow is opened, the record is taken out of the row, its mark is stored to, and the borrow is closed at the list with that record; else nothing is done.
 -- Assumes nothing.
 use mathlib.Core.Path.{_≡_, refl, sym, ap, subst}
 use mathlib.Core.Bool.{Bool}
@@ -27,7 +28,7 @@ use sound.WpLaws.{WpFn-mono}
 use denote.RattleType.{owns}
 use denote.Shadow.{pureI}
 use denote.Laws.{Is, shows}
-use denote.Memory.{pointee}
+use denote.Memory.{pointee, mem as row-mem}
 use denote.Plain.{Boolean, bool-vals, bool-tells, bool-makes, uint-vals, uint-tells, uint-makes}
 use denote.Builtin.{usize}
 use denote.Ref.{RefT}
@@ -114,45 +115,36 @@ module _ {M : Type 1} (𝓤 : URA M) (H : Heap 𝓤) (A : Atoms 𝓤) (W : Given
         pass1 ! (init ! 12 refl (tt, (tt, (record { fits = room .0 }, tt)))) $ pass1 ! (init ! 10 refl (tt, record { fits = gi })) $ pass1 ! (init ! 8 refl (tt, tt)) $ pass0 ! $
         move ! (17 ∷ []) $
         fsplit ! $
+        fsplit ! $ drop ! $
         fsplit ! $
-        drop ! $
-        fsplit ! $
-        move ! (2 ∷ []) $
-        drop ! $
+        move ! (2 ∷ []) $ drop ! $
         move ! (18 ∷ []) $
-        split ! $
-        move ! (1 ∷ []) $
-        drop ! $
+        split ! $ move ! (1 ∷ []) $ drop ! $
         move ! (1 ∷ 2 ∷ 0 ∷ []) $
         assigns ! (of-opd ! (load ! (from ! (fld ! refl (stop !))) (look-in ! 15 (sub ! 1 refl (whole !))))) (from ! (stop !)) (init ! 9 refl (tt, record { fits = room .0 })) $
         assigns ! (bin ! (load ! (from ! (stop !)) (look ! 13 refl)) (load ! (from ! (stop !)) (look ! 9 refl)) tt) (from ! (stop !)) (init ! 7 refl (tt, tt)) $
-        -- [obs; the borrow; the token; _7; …; _0; …]
         first ! $ branches ! (load ! (from ! (stop !)) (look ! 7 refl))
         (λ less.
         assigns ! (bin ! (load ! (from ! (stop !)) (look ! 13 refl)) (lit ! tt) (record { fits = far less })) (from ! (stop !)) (init ! 5 refl (tt, record { fits = far less })) $
         assigns ! (bin ! (load ! (from ! (fld ! refl (stop !))) (look-in ! 15 (sub ! 0 refl (whole !)))) (load ! (from ! (stop !)) (look ! 5 refl)) tt) (from ! (stop !)) (init ! 3 refl (tt, tt)) $
-        rewrite ! 3 (λ (p : ℕ). ‵ (fat fullShare tyPtr l₇ 0 (vptr b p))) (sym (place-is 16 o i)) refl $
+        rewrite ! 3 (λ (p : ℕ). ‵ (fat fullShare tyPtr l₇ 0 (vptr b p))) (sym (place-is (row-mem T.the-row .size) o i)) refl $
         opens-slice ! tt T.the-row ys b o $ elem-out ! T.the-row (Is T.the-row) (shows 𝓤 H A T.the-row) vals (LL.tells T.the-type T′.the-laws) fullShare ys i noRecord b o (ltb→lt i n less) (λ was.
-        -- [records[at]; what it owns; the others; the open borrow; obs; auth; _7; …; _0; …]
         assigns-last ! (of-opd ! (load ! (from ! (stop !)) (look ! 14 refl))) (from ! (hop ! (look ! 6 refl) (fld ! refl (stop !)))) (store-in ! 0 (sub ! 4 refl (whole !)) (tt, tt)) $
         exec ! C Λ ((tyUnit, l₀) ∷ (slice, l₁) ∷ (word, l₂) ∷ (tyBool, l₃) ∷ (word, l₄) ∷ (tyBool, l₅) ∷ (word, l₆) ∷ (tyPtr, l₇) ∷ []) body.t-4 (atRet ((tyUnit, l₀) ∷ (slice, l₁) ∷ (word, l₂) ∷ (tyBool, l₃) ∷ (word, l₄) ∷ (tyBool, l₅) ∷ (word, l₆) ∷ (tyPtr, l₇) ∷ []) Post) $
-        move ! (1 ∷ []) $
-        drop ! $
+        move ! (1 ∷ []) $ drop ! $
         owned ! T.the-row (Is T.the-row) (LL.makes T.the-type T′.the-plain 𝓤 H A) (markAs m h) _ (made m h was) $
         move ! (1 ∷ 0 ∷ []) $
         elem-put ! T.the-row fullShare ys i (markAs m h) (vals (markAs m h)) b o (ltb→lt i n less) $
         closes-slice ! tt T.the-row ys (set ys i (markAs m h)) (length-set ys i (markAs m h)) b o $
         assigns ! (of-opd ! (unit-lit !)) (from ! (stop !)) (init ! 17 refl (tt, tt)) $
-        returns ! (look ! 17 refl) $ forget ! 3 refl $ forget ! 5 refl $ forget ! 7 refl $ forget ! 9 refl $ forget ! 11 refl $ forget ! 13 refl $ forget ! 15 refl $ forget ! 17 refl $
-        move ! (17 ∷ 18 ∷ []) $ free1 ! $ move ! (15 ∷ 16 ∷ []) $ free1 ! $ move ! (13 ∷ 14 ∷ []) $ free1 ! $ move ! (11 ∷ 12 ∷ []) $ free1 ! $ move ! (9 ∷ 10 ∷ []) $ free1 ! $ move ! (7 ∷ 8 ∷ []) $ free1 ! $ move ! (5 ∷ 6 ∷ []) $ free1 ! $ move ! (3 ∷ 4 ∷ []) $ free1 ! $ free0 ! $
+        returns ! (look ! 17 refl) $ forget ! 3 refl $ forget ! 5 refl $ forget ! 7 refl $ forget ! 9 refl $ forget ! 11 refl $ forget ! 13 refl $ forget ! 15 refl $ forget ! 17 refl $ move ! (17 ∷ 18 ∷ []) $ free1 ! $ move ! (15 ∷ 16 ∷ []) $ free1 ! $ move ! (13 ∷ 14 ∷ []) $ free1 ! $ move ! (11 ∷ 12 ∷ []) $ free1 ! $ move ! (9 ∷ 10 ∷ []) $ free1 ! $ move ! (7 ∷ 8 ∷ []) $ free1 ! $ move ! (5 ∷ 6 ∷ []) $ free1 ! $ move ! (3 ∷ 4 ∷ []) $ free1 ! $ free0 ! $
         keep ! (0 ∷ 1 ∷ 2 ∷ []) $ by ! (exits room gi (set ys i (markAs m h)) (length-set ys i (markAs m h)) (set-mark-in ys i m))))
         (λ over. skips ! $ exec ! C Λ ((tyUnit, l₀) ∷ (slice, l₁) ∷ (word, l₂) ∷ (tyBool, l₃) ∷ (word, l₄) ∷ (tyBool, l₅) ∷ (word, l₆) ∷ (tyPtr, l₇) ∷ []) body.t-4 (atRet ((tyUnit, l₀) ∷ (slice, l₁) ∷ (word, l₂) ∷ (tyBool, l₃) ∷ (word, l₄) ∷ (tyBool, l₅) ∷ (word, l₆) ∷ (tyPtr, l₇) ∷ []) Post) $
         assigns ! (of-opd ! (unit-lit !)) (from ! (stop !)) (init ! 17 refl (tt, tt)) $
-        returns ! (look ! 17 refl) $ forget ! 7 refl $ forget ! 9 refl $ forget ! 11 refl $ forget ! 13 refl $ forget ! 15 refl $ forget ! 17 refl $
-        move ! (17 ∷ 18 ∷ []) $ free1 ! $ move ! (15 ∷ 16 ∷ []) $ free1 ! $ move ! (13 ∷ 14 ∷ []) $ free1 ! $ move ! (11 ∷ 12 ∷ []) $ free1 ! $ move ! (9 ∷ 10 ∷ []) $ free1 ! $ move ! (7 ∷ 8 ∷ []) $ free1 ! $ move ! (5 ∷ 6 ∷ []) $ free1 ! $ move ! (3 ∷ 4 ∷ []) $ free1 ! $ free0 ! $
+        returns ! (look ! 17 refl) $ forget ! 7 refl $ forget ! 9 refl $ forget ! 11 refl $ forget ! 13 refl $ forget ! 15 refl $ forget ! 17 refl $ move ! (17 ∷ 18 ∷ []) $ free1 ! $ move ! (15 ∷ 16 ∷ []) $ free1 ! $ move ! (13 ∷ 14 ∷ []) $ free1 ! $ move ! (11 ∷ 12 ∷ []) $ free1 ! $ move ! (9 ∷ 10 ∷ []) $ free1 ! $ move ! (7 ∷ 8 ∷ []) $ free1 ! $ move ! (5 ∷ 6 ∷ []) $ free1 ! $ move ! (3 ∷ 4 ∷ []) $ free1 ! $ free0 ! $
         keep ! (0 ∷ 1 ∷ 2 ∷ []) $ by ! (exits room gi ys refl (sym (set-out ys i (markAs m (rowOf ys i)) (nltb→le i n over)))))))))))))
       where
-        far : T (ltb i n) → i * 16 < 2 ^ 64
+        far : T (ltb i n) → i * row-mem T.the-row .size < 2 ^ 64
         far less = let l = ltb→lt i n less in omega (arith, room .1)
 
 module _ {M : Type 1} (𝓤 : URA M) (H : Heap 𝓤) (A : Atoms 𝓤) (W : Given 𝓤 H A) (mem : Memory → SProp 𝓤) (run : Routine → Fun 𝓤) where

@@ -1,4 +1,5 @@
--- `host::set_marks` meets its contract: a walk of its MIR, by hand, with a loop and a branch in it. Each turn calls `says` and, where it says yes, `set_mark`, to which the slice is lent again for the call (`Again.antt`). Of both the proof knows only that they meet their contracts.
+-- Written by tools/walk from tools/host/set_marks.walk: change that, and run tools/proofs.
+-- `host::set_marks` meets its contract: a walk of its MIR, with a loop and a branch in it. Each turn calls `says` and, where it says yes, `set_mark`, to which the slice is lent again for the call (`Again.antt`). Of both the proof knows only that they meet their contracts.
 -- Assumes nothing.
 use mathlib.Core.Path.{_≡_, refl, sym, ap, subst, _∙_}
 use mathlib.Core.Bool.{Bool, true, false}
@@ -190,7 +191,7 @@ module _ {M : Type 1} (𝓤 : URA M) (H : Heap 𝓤) (A : Atoms 𝓤) (W : Given
     En = (tyUnit, l₀) ∷ (slice, l₁) ∷ (marks-ty, l₂) ∷ (word, l₃) ∷ (tyBool, l₄) ∷ (tyBool, l₅) ∷ (tyUnit, l₆) ∷ (again-ref, l₇) ∷ (again-slice, l₈) ∷ []
 
     abbrev Cells : List Record → ℕ → List (Item 𝓤)
-    Cells l i = ‵ (MutSlice (named 0) κ T.the-row .own (x γ l) (s ∷ [])) ∷ ‵ (flft κ q) ∷ ‵ (froom again-slice l₈ 0) ∷ ‵ (fdies again-slice l₈) ∷ ‵ (froom again-ref l₇ 0) ∷ ‵ (fdies again-ref l₇) ∷ ‵ (froom tyUnit l₆ 0) ∷ ‵ (fdies tyUnit l₆) ∷ ‵ (froom tyBool l₅ 0) ∷ ‵ (fdies tyBool l₅) ∷ ‵ (froom tyBool l₄ 0) ∷ ‵ (fdies tyBool l₄) ∷ ‵ (fat fullShare word l₃ 0 (vint w64 i)) ∷ ‵ (fdies word l₃) ∷ ‵ (fat fullShare marks-ty l₂ 0 (mv)) ∷ ‵ (fdies marks-ty l₂) ∷ ‵ (fat fullShare slice l₁ 0 (s)) ∷ ‵ (fdies slice l₁) ∷ ‵ (froom tyUnit l₀ 0) ∷ ‵ (fdies tyUnit l₀) ∷ []
+    Cells l i = ‵ (MutSlice (named 0) κ T.the-row .own (x γ l) (s ∷ [])) ∷ ‵ (flft κ q) ∷ ‵ (froom again-slice l₈ 0) ∷ ‵ (fdies again-slice l₈) ∷ ‵ (froom again-ref l₇ 0) ∷ ‵ (fdies again-ref l₇) ∷ ‵ (froom tyUnit l₆ 0) ∷ ‵ (fdies tyUnit l₆) ∷ ‵ (froom tyBool l₅ 0) ∷ ‵ (fdies tyBool l₅) ∷ ‵ (froom tyBool l₄ 0) ∷ ‵ (fdies tyBool l₄) ∷ ‵ (fat fullShare word l₃ 0 (vint w64 i)) ∷ ‵ (fdies word l₃) ∷ ‵ (fat fullShare marks-ty l₂ 0 mv) ∷ ‵ (fdies marks-ty l₂) ∷ ‵ (fat fullShare slice l₁ 0 s) ∷ ‵ (fdies slice l₁) ∷ ‵ (froom tyUnit l₀ 0) ∷ ‵ (fdies tyUnit l₀) ∷ []
 
     -- the invariant: the borrow is at the list after i turns
     abbrev At : Upto → List (Item 𝓤)
@@ -208,11 +209,9 @@ module _ {M : Type 1} (𝓤 : URA M) (H : Heap 𝓤) (A : Atoms 𝓤) (W : Given
         use0 W (raw (Says 𝓤 H A mem run .pre (to-says (i .0)))) (goes-says (i .0) (fits less)) $
         calls-at ! (fmOf 𝓤 H (W .laws) 𝓣) (Says 𝓤 H A mem run) known-says (to-says (i .0)) (and-then ! (load ! (from ! (stop !)) (look ! 15 refl)) (and-then ! (load ! (from ! (stop !)) (look ! 13 refl)) (no-more !))) (λ w.
         use1 W (later (some (λ (r : Bool). (‵ ftrue ⊛ ‵ (Boolean .own r (w ∷ []))) ⊛ raw (ensured 𝓤 H A says′.ended (says′.clauses 𝓤 H A mem run) tt (mk, (i .0, tt)) tt r)))) (id⊢ 𝓤 _) $ await ! tt $ pick ! (λ r.
-        split ! $
-        move ! (1 ∷ []) $
+        split ! $ move ! (1 ∷ []) $
         use1 W (raw (fact 𝓤 (r ≡ getD ms (i .0) false))) (says-of 𝓤 H A mem run mk (i .0) r) $ heard ! (r ≡ getD ms (i .0) false) (λ e.
-        split ! $
-        drop ! $
+        split ! $ drop ! $
         facts ! Boolean (Is Boolean) (shows 𝓤 H A Boolean) r (w ∷ []) (λ is.
         land ! (from ! (stop !)) (init ! 8 refl (subst (λ (u : Val). T (hasTy tyBool u) × WT u) (sym (ap only is)) (tt, tt))) $
         rewrite ! 8 (λ (u : Val). ‵ (fat fullShare tyBool l₅ 0 u)) (ap only is) refl $
@@ -231,18 +230,15 @@ module _ {M : Type 1} (𝓤 : URA M) (H : Heap 𝓤) (A : Atoms 𝓤) (W : Given
         use2 W (raw (Sets 𝓤 H A mem run .pre (to-sets ν δ (zs (i .0)) (i .0)))) (goes-sets ν δ (zs (i .0)) (i .0) (fits less)) $
         calls-at-last ! (fmOf 𝓤 H (W .laws) 𝓣) (Sets 𝓤 H A mem run) known-sets (to-sets ν δ (zs (i .0)) (i .0)) (and-then ! (load ! (from ! (stop !)) (look ! 2 refl)) (and-then ! (load ! (from ! (stop !)) (look ! 12 refl)) (and-then ! (true-lit !) (no-more !)))) (λ w′.
         use1 W (later (some (λ (u : Unit {0}). ((‵ (flft (ν ∷ []) fullShare) ⊛ ‵ ftrue) ⊛ ‵ (Nothing .own u (w′ ∷ []))) ⊛ raw (ensured 𝓤 H A sets′.ended (sets′.clauses 𝓤 H A mem run) (ν ∷ [], tt) (to-args δ (zs (i .0)) (i .0)) tt u)))) (id⊢ 𝓤 _) $ await ! tt $ pick ! (λ u.
-        split ! $
-        move ! (1 ∷ []) $
+        split ! $ move ! (1 ∷ []) $
         use1 W (some (λ (vs : List Record × (Unit {0} × (Unit {0} × Unit {0}))). ‵ (lasts sets′.ended (ν ∷ [], tt) (to-args δ (zs (i .0)) (i .0)) vs) ⊛ raw (fact 𝓤 (vs .0 ≡ one-more (zs (i .0)) (i .0))))) (id⊢ 𝓤 _) $ pick ! (λ vs.
-        split ! $
-        move ! (1 ∷ []) $
+        split ! $ move ! (1 ∷ []) $
         heard ! (vs .0 ≡ one-more (zs (i .0)) (i .0)) (λ e₂.
         fsplit ! $
         fsplit ! $
         move ! (1 ∷ []) $
         feqL ! (λ l.
-        move ! (1 ∷ []) $
-        drop ! $
+        move ! (1 ∷ []) $ drop ! $
         move ! (1 ∷ []) $
         split ! $
         move ! (1 ∷ []) $
@@ -257,8 +253,7 @@ module _ {M : Type 1} (𝓤 : URA M) (H : Heap 𝓤) (A : Atoms 𝓤) (W : Given
         split ! $
         rewrite ! 0 (λ (k : ℕ). ‵ (MutSlice (named 0) κ T.the-row .own (x γ (vs .0)) (sliceVal (b, o) k ∷ []))) (long (i .0)) refl $
         rewrite ! 0 (λ (l : List Record). ‵ (MutSlice (named 0) κ T.the-row .own (x γ l) (s ∷ []))) (e₂ ∙ mark-yes ys ms (i .0) (sym e ∙ holds r on)) refl $
-        move ! (2 ∷ []) $
-        drop ! $
+        move ! (2 ∷ []) $ drop ! $
         assigns-last ! (bin ! (load ! (from ! (stop !)) (look ! 12 refl)) (lit ! tt) (record { fits = next-fits less })) (from ! (stop !)) (store ! 12 refl (tt, record { fits = next-fits less })) $
         forget ! 2 refl $ forget ! 4 refl $ forget ! 6 refl $ forget ! 8 refl $ forget ! 10 refl $ again ! Nearer At i (next less) (nearer less))))))))))
         (λ off. skips ! $ exec ! C Λ En (rest-of (rest-of (rest-of (rest-of body.turn-1)))) (anyQ (Turned i)) $
@@ -267,8 +262,7 @@ module _ {M : Type 1} (𝓤 : URA M) (H : Heap 𝓤) (A : Atoms 𝓤) (W : Given
         forget ! 8 refl $ forget ! 10 refl $ again ! Nearer At i (next less) (nearer less)))))))
         (λ over. jumps ! $ exec ! C Λ En body.t-3 (atRet En Post) $
         assigns ! (of-opd ! (unit-lit !)) (from ! (stop !)) (init ! 18 refl (tt, tt)) $
-        returns ! (look ! 18 refl) $ forget ! 10 refl $ forget ! 12 refl $ forget ! 14 refl $ forget ! 16 refl $ forget ! 18 refl $
-        move ! (18 ∷ 19 ∷ []) $ free1 ! $ move ! (16 ∷ 17 ∷ []) $ free1 ! $ move ! (14 ∷ 15 ∷ []) $ free1 ! $ move ! (12 ∷ 13 ∷ []) $ free1 ! $ move ! (10 ∷ 11 ∷ []) $ free1 ! $ move ! (8 ∷ 9 ∷ []) $ free1 ! $ move ! (6 ∷ 7 ∷ []) $ free1 ! $ move ! (4 ∷ 5 ∷ []) $ free1 ! $ move ! (2 ∷ 3 ∷ []) $ free1 ! $ free0 ! $
+        returns ! (look ! 18 refl) $ forget ! 10 refl $ forget ! 12 refl $ forget ! 14 refl $ forget ! 16 refl $ forget ! 18 refl $ move ! (18 ∷ 19 ∷ []) $ free1 ! $ move ! (16 ∷ 17 ∷ []) $ free1 ! $ move ! (14 ∷ 15 ∷ []) $ free1 ! $ move ! (12 ∷ 13 ∷ []) $ free1 ! $ move ! (10 ∷ 11 ∷ []) $ free1 ! $ move ! (8 ∷ 9 ∷ []) $ free1 ! $ move ! (6 ∷ 7 ∷ []) $ free1 ! $ move ! (4 ∷ 5 ∷ []) $ free1 ! $ move ! (2 ∷ 3 ∷ []) $ free1 ! $ free0 ! $
         keep ! (0 ∷ 1 ∷ []) $ by ! (exits (i .0) (le-antisymm (i .1) (nltb→le (i .0) 128 over))))
       where
         fits : T (ltb (i .0) 128) → i .0 < 2 ^ 64

@@ -1,6 +1,5 @@
--- `host::with_record` meets its contract: past the end `set` changes nothing.
--- Assumes nothing.
-use mathlib.Core.Path.{sym, _≡_}
+-- Written by tools/proofs from tools/host.conf. `host::with_record` meets its contract: past the end `set` changes nothing. Assumes nothing.
+use mathlib.Core.Path.{_≡_, sym}
 use native.Mathlib.Omega.{arith}
 use lib.ListN.{length}
 use lib.Seq.{set-out}

@@ -1,4 +1,4 @@
--- `lines::after_digits` meets its contract. Assumes nothing.
+-- Written by tools/proofs from tools/lines.conf. `lines::after_digits` meets its contract. Assumes nothing.
 use borrow.Author.Needs.{needs}
 use borrow.Author.Tests.{eq-eqb, ne-eqb, le-leb, lt-leb}
 use Rattle.lines.proofs.ShapeLaws.{parses-as}

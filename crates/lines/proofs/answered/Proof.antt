@@ -1,4 +1,4 @@
--- `lines::answered` meets its contract. Assumes nothing.
+-- Written by tools/proofs from tools/lines.conf. `lines::answered` meets its contract. Assumes nothing.
 use mathlib.Core.Path.{sym, ap, _∙_}
 use borrow.Author.Needs.{needs}
 use Rattle.lines.proofs.SayLaws.{said-found, said-refused}

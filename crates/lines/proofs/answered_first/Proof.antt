@@ -1,4 +1,4 @@
--- `lines::answered_first` meets its contract. Assumes nothing.
+-- Written by tools/proofs from tools/lines.conf. `lines::answered_first` meets its contract. Assumes nothing.
 use mathlib.Core.Path.{sym}
 use lib.Seq.{length-take-le}
 use borrow.Author.Needs.{needs}
@@ -15,7 +15,7 @@ answered-requires : tie.Need-answered-requires
 answered-requires c κs = search needs
 
 returns : tie.Need-returns
-returns c = search needs
+returns c = c .answered .ensures
 
 pub answered-first-spec : {M : Type 1} → statement M
 answered-first-spec =

@@ -1,4 +1,4 @@
--- `lines::hex_digit` meets its contract. Assumes nothing.
+-- Written by tools/proofs from tools/lines.conf. `lines::hex_digit` meets its contract. Assumes nothing.
 use native.Mathlib.Omega.{arith}
 use borrow.Author.Needs.{needs}
 use borrow.Author.Tests.{le-leb, lt-leb}

@@ -1,4 +1,4 @@
--- `lines::is_digit` meets its contract. Assumes nothing.
+-- Written by tools/proofs from tools/lines.conf. `lines::is_digit` meets its contract. Assumes nothing.
 use borrow.Author.Tests.{le-leb, lt-leb}
 use Rattle.codec.specs.Codec.{both}
 use Rattle.lines.specs.Shape.{isDigit}

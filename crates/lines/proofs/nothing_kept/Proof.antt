@@ -1,4 +1,4 @@
--- `lines::nothing_kept` meets its contract. Assumes nothing.
+-- Written by tools/proofs from tools/lines.conf. `lines::nothing_kept` meets its contract. Assumes nothing.
 use mathlib.Core.Path.{refl}
 use Rattle.lines.specs.Keeping.{nothingKept}
 use Rattle.lines.proofs.nothing_kept.Statement.{statement}

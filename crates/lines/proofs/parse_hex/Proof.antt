@@ -1,4 +1,4 @@
--- `lines::parse_hex` meets its contract. Assumes nothing.
+-- Written by tools/proofs from tools/lines.conf. `lines::parse_hex` meets its contract. Assumes nothing.
 use Prim.Native.Nat.{_+_, _-_, _≤_}
 use mathlib.Core.List.{[]}
 use mathlib.Core.Path.{_≡_, refl, sym, _∙_}

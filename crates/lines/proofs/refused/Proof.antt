@@ -1,4 +1,4 @@
--- `lines::refused` meets its contract. Assumes nothing.
+-- Written by tools/proofs from tools/lines.conf. `lines::refused` meets its contract. Assumes nothing.
 use borrow.Author.Needs.{needs}
 use borrow.Author.Tests.{lt-ltb, le-ltb}
 use Rattle.lines.specs.Saying.{refusedOf, textOf}

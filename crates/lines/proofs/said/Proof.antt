@@ -1,4 +1,4 @@
--- `lines::said` meets its contract. Assumes nothing.
+-- Written by tools/proofs from tools/lines.conf. `lines::said` meets its contract. Assumes nothing.
 use borrow.Author.Needs.{needs}
 use Rattle.lines.specs.Saying.{saidOf}
 use Rattle.lines.proofs.said.Statement.{statement}
@@ -8,7 +8,7 @@ parse-requires : tie.Need-parse-requires
 parse-requires c κs = search needs
 
 answered-first-requires : tie.Need-answered-first-requires
-answered-first-requires c κs = search needs
+answered-first-requires c κs = c .before .before .parse .ensures .few
 
 returns : tie.Need-returns
 unfolding saidOf

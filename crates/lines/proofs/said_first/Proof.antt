@@ -1,4 +1,4 @@
--- `lines::said_first` meets its contract. Assumes nothing.
+-- Written by tools/proofs from tools/lines.conf. `lines::said_first` meets its contract. Assumes nothing.
 use Prim.Native.Nat.{ℕ, _≤_}
 use mathlib.Core.List.{List}
 use mathlib.Core.Path.{sym, ap, _∙_}
@@ -29,7 +29,7 @@ said-requires-2 : tie.Need-said-requires-2
 said-requires-2 c κs = search needs
 
 returns-2 : tie.Need-returns-2
-returns-2 c = search needs
+returns-2 c = c .said2 .ensures
 
 pub said-first-spec : {M : Type 1} → statement M
 said-first-spec =

@@ -1,4 +1,4 @@
--- `places::admits` meets its contract. Assumes nothing.
+-- Written by tools/proofs from tools/places.conf. `places::admits` meets its contract. Assumes nothing.
 use borrow.Author.Needs.{needs}
 use borrow.Author.Tests.{lt-ltb, le-ltb}
 use Rattle.codec.specs.Codec.{both}

@@ -1,4 +1,4 @@
--- `places::clear` meets its contract. Assumes nothing.
+-- Written by tools/proofs from tools/places.conf. `places::clear` meets its contract. Assumes nothing.
 use borrow.Author.Needs.{needs}
 use Rattle.places.specs.Spots.{clearOf}
 use Rattle.places.proofs.clear.Statement.{statement}

@@ -1,4 +1,4 @@
--- `places::lowest_free` meets its contract. Assumes nothing.
+-- Written by tools/proofs from tools/places.conf. `places::lowest_free` meets its contract. Assumes nothing.
 use borrow.Author.Needs.{needs}
 use Rattle.places.proofs.SpotLaws.{spot-back}
 use Rattle.places.specs.Spots.{lowestFree}

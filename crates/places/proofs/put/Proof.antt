@@ -1,4 +1,4 @@
--- `places::put` meets its contract. Assumes nothing.
+-- Written by tools/proofs from tools/places.conf. `places::put` meets its contract. Assumes nothing.
 use mathlib.Core.Path.{_≡_}
 use lib.ListN.{length}
 use borrow.Author.Needs.{needs}

@@ -1,4 +1,4 @@
--- `places::take` meets its contract. Assumes nothing.
+-- Written by tools/proofs from tools/places.conf. `places::take` meets its contract. Assumes nothing.
 use borrow.Author.Needs.{needs}
 use Rattle.places.specs.Spots.{takeOf}
 use Rattle.places.proofs.take.Statement.{statement}

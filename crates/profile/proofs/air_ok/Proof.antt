@@ -1,8 +1,8 @@
--- `profile::air_ok` meets its contract: a test at each return. Assumes nothing.
+-- Written by tools/proofs from tools/profile.conf. `profile::air_ok` meets its contract: a test at each return. Assumes nothing.
+use borrow.Author.Needs.{needs}
 use borrow.Author.Tests.{le-leb, lt-leb}
 use Rattle.codec.specs.Codec.{both}
 use Rattle.profile.specs.Rules.{airOk}
-use borrow.Author.Needs.{needs}
 use Rattle.profile.proofs.air_ok.Statement.{statement}
 use Rattle.profile.proofs.air_ok.Tie as tie
 

@@ -1,12 +1,12 @@
--- `profile::all_reserved` meets its contract: the loop's invariant: the total is over the posts passed, each at most 255. Assumes nothing.
-use Prim.Native.Nat.{_≤_, _-_, _*_}
+-- Written by tools/proofs from tools/profile.conf. `profile::all_reserved` meets its contract: the loop's invariant: the total is over the posts passed, each at most 255. Assumes nothing.
+use Prim.Native.Nat.{_-_, _*_, _≤_}
 use mathlib.Core.Path.{_≡_, sym, _∙_}
 use native.Mathlib.Omega.{arith}
-use Rattle.profile.specs.Counting.{sum}
-use Rattle.profile.specs.Rules.{shareIn}
-use Rattle.profile.proofs.CountLaws.{sum-none, sum-more}
 use lib.ListN.{length}
 use borrow.Author.Needs.{needs}
+use Rattle.profile.proofs.CountLaws.{sum-none, sum-more}
+use Rattle.profile.specs.Counting.{sum}
+use Rattle.profile.specs.Rules.{shareIn}
 use Rattle.profile.proofs.all_reserved.Statement.{statement}
 use Rattle.profile.proofs.all_reserved.Tie as tie
 

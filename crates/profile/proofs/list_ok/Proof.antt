@@ -1,4 +1,4 @@
--- `profile::list_ok` meets its contract. Assumes nothing.
+-- Written by tools/proofs from tools/profile.conf. `profile::list_ok` meets its contract. Assumes nothing.
 use borrow.Author.Tests.{le-leb, lt-leb}
 use Rattle.codec.specs.Codec.{both}
 use Rattle.profile.proofs.list_ok.Statement.{statement}

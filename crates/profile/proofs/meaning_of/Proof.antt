@@ -1,10 +1,10 @@
--- `profile::meaning_of` meets its contract: past the sixteen `getD` gives the reserved one. Assumes nothing.
-use mathlib.Core.Path.{refl, sym}
+-- Written by tools/proofs from tools/profile.conf. `profile::meaning_of` meets its contract: past the sixteen `getD` gives the reserved one. Assumes nothing.
 use Prim.Native.Nat.{_≤_}
-use lib.ListN.{length, List·getD-eq-default}
+use mathlib.Core.Path.{refl, sym}
 use native.Mathlib.Omega.{arith}
-use Rattle.profile.specs.Rules.{reserved, meaningIn}
+use lib.ListN.{length, List·getD-eq-default}
 use borrow.Author.Needs.{needs}
+use Rattle.profile.specs.Rules.{reserved, meaningIn}
 use Rattle.profile.proofs.meaning_of.Statement.{statement}
 use Rattle.profile.proofs.meaning_of.Tie as tie
 
@@ -20,7 +20,8 @@ returns c = refl
 
 returns-2 : tie.Need-returns-2
 unfolding meaningIn
-returns-2 c = let past : length (c .before .args .t1) ≤ c .before .args .range = omega arith in
+returns-2 c =
+    let past : length (c .before .args .t1) ≤ c .before .args .range = omega arith in
     sym (List·getD-eq-default (c .before .args .t1) reserved past)
 
 pub meaning-of-spec : {M : Type 1} → statement M

@@ -1,6 +1,6 @@
--- `profile::meaning_ok` meets its contract: a case of the kind each. Assumes nothing.
-use Rattle.profile.specs.Rules.{meaningOk}
+-- Written by tools/proofs from tools/profile.conf. `profile::meaning_ok` meets its contract: a case of the kind each. Assumes nothing.
 use borrow.Author.Needs.{needs}
+use Rattle.profile.specs.Rules.{meaningOk}
 use Rattle.profile.proofs.meaning_ok.Statement.{statement}
 use Rattle.profile.proofs.meaning_ok.Tie as tie
 

@@ -1,13 +1,13 @@
--- `profile::meanings_ok` meets its contract: the loop's invariant: every meaning passed is good. Assumes nothing.
-use Prim.Native.Nat.{_≤_, _-_}
+-- Written by tools/proofs from tools/profile.conf. `profile::meanings_ok` meets its contract: the loop's invariant: every meaning passed is good. Assumes nothing.
+use Prim.Native.Nat.{_-_, _≤_}
+use mathlib.Core.Bool.{true}
 use mathlib.Core.Path.{_≡_, sym, _∙_}
 use native.Mathlib.Omega.{arith}
-use mathlib.Core.Bool.{true}
 use lib.ListN.{length}
+use borrow.Author.Needs.{needs}
+use Rattle.profile.proofs.CountLaws.{every-none, every-more, every-not, every-end}
 use Rattle.profile.specs.Counting.{every}
 use Rattle.profile.specs.Rules.{meaningOk, meaningIn}
-use Rattle.profile.proofs.CountLaws.{every-none, every-more, every-not, every-end}
-use borrow.Author.Needs.{needs}
 use Rattle.profile.proofs.meanings_ok.Statement.{statement}
 use Rattle.profile.proofs.meanings_ok.Tie as tie
 

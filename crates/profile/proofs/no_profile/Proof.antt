@@ -1,4 +1,4 @@
--- `profile::no_profile` meets its contract. Assumes nothing.
+-- Written by tools/proofs from tools/profile.conf. `profile::no_profile` meets its contract. Assumes nothing.
 use mathlib.Core.Path.{refl}
 use Rattle.profile.specs.Rules.{noProfile}
 use Rattle.profile.proofs.no_profile.Statement.{statement}

@@ -1,8 +1,8 @@
--- `profile::profile_ok` meets its contract: a test at each return. Assumes nothing.
+-- Written by tools/proofs from tools/profile.conf. `profile::profile_ok` meets its contract: a test at each return. Assumes nothing.
 use mathlib.Core.Path.{sym, _∙_}
+use borrow.Author.Needs.{needs}
 use Rattle.codec.specs.Codec.{both}
 use Rattle.profile.specs.Rules.{profileOk}
-use borrow.Author.Needs.{needs}
 use Rattle.profile.proofs.profile_ok.Statement.{statement}
 use Rattle.profile.proofs.profile_ok.Tie as tie
 

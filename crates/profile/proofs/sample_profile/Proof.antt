@@ -1,6 +1,6 @@
--- `profile::sample_profile` meets its contract. Assumes nothing.
+-- Written by tools/proofs from tools/profile.conf. `profile::sample_profile` meets its contract. Assumes nothing.
 use mathlib.Core.Path.{refl}
-use Rattle.profile.specs.Sample.{sample, sampleMeanings, sampleShare}
+use Rattle.profile.specs.Sample.{sampleMeanings, sampleShare, sample}
 use Rattle.profile.proofs.sample_profile.Statement.{statement}
 use Rattle.profile.proofs.sample_profile.Tie as tie
 

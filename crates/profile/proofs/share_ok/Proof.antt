@@ -1,8 +1,8 @@
--- `profile::share_ok` meets its contract. Assumes nothing.
+-- Written by tools/proofs from tools/profile.conf. `profile::share_ok` meets its contract. Assumes nothing.
+use borrow.Author.Needs.{needs}
 use borrow.Author.Tests.{le-leb, lt-leb}
 use Rattle.codec.specs.Codec.{both}
 use Rattle.profile.specs.Rules.{shareOk}
-use borrow.Author.Needs.{needs}
 use Rattle.profile.proofs.share_ok.Statement.{statement}
 use Rattle.profile.proofs.share_ok.Tie as tie
 
@@ -15,11 +15,16 @@ cast-if2 c = search needs
 
 returns-2 : tie.Need-returns-2
 unfolding shareOk both
-returns-2 c = rw (le-leb _ _ (c .before .before .if1 .left), lt-leb _ _ (c .if2 .taken))
+returns-2 c =
+    let p1 = c .before .before in
+    rw (le-leb _ _ (p1 .if1 .left), lt-leb _ _ (c .if2 .taken))
 
 returns-3 : tie.Need-returns-3
 unfolding shareOk both
-returns-3 c = rw (le-leb _ _ (c .before .before .before .if1 .left), le-leb _ _ (c .before .if2 .left))
+returns-3 c =
+    let p1 = c .before .before .before in
+    let p2 = c .before in
+    rw (le-leb _ _ (p1 .if1 .left), le-leb _ _ (p2 .if2 .left))
 
 pub share-ok-spec : {M : Type 1} → statement M
 share-ok-spec = tie.close (tie.spec returns cast-if2 returns-2 returns-3)

@@ -1,9 +1,9 @@
--- `profile::shares_ok` meets its contract: a test at each return. Assumes nothing.
+-- Written by tools/proofs from tools/profile.conf. `profile::shares_ok` meets its contract: a test at each return. Assumes nothing.
 use mathlib.Core.Path.{sym, _∙_}
+use borrow.Author.Needs.{needs}
 use borrow.Author.Tests.{le-leb, lt-leb}
 use Rattle.codec.specs.Codec.{both}
 use Rattle.profile.specs.Rules.{sharesOk}
-use borrow.Author.Needs.{needs}
 use Rattle.profile.proofs.shares_ok.Statement.{statement}
 use Rattle.profile.proofs.shares_ok.Tie as tie
 

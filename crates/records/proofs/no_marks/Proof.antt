@@ -1,4 +1,4 @@
--- `records::no_marks` meets its contract. Assumes nothing.
+-- Written by tools/proofs from tools/records.conf. `records::no_marks` meets its contract. Assumes nothing.
 use borrow.Author.Needs.{needs}
 use Rattle.records.specs.Marking.{unmarked, noMarks}
 use Rattle.records.proofs.no_marks.Statement.{statement}

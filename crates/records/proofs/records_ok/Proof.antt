@@ -1,4 +1,4 @@
--- `records::records_ok` meets its contract. Assumes nothing.
+-- Written by tools/proofs from tools/records.conf. `records::records_ok` meets its contract. Assumes nothing.
 use mathlib.Core.Path.{_∙_}
 use borrow.Author.Needs.{needs}
 use Rattle.records.proofs.RecordLaws.{ok-over, ok-lent}

@@ -1,4 +1,4 @@
--- `records::restricted` meets its contract. Assumes nothing.
+-- Written by tools/proofs from tools/records.conf. `records::restricted` meets its contract. Assumes nothing.
 use borrow.Author.Needs.{needs}
 use Rattle.records.proofs.restricted.Statement.{statement}
 use Rattle.records.proofs.restricted.Tie as tie

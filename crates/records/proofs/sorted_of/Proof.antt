@@ -1,4 +1,4 @@
--- `records::sorted_of` meets its contract. Assumes nothing.
+-- Written by tools/proofs from tools/records.conf. `records::sorted_of` meets its contract. Assumes nothing.
 use mathlib.Core.Path.{_∙_}
 use borrow.Author.Needs.{needs}
 use Rattle.records.proofs.OutcomeLaws.{outcomes-le, sorted-kept}

@@ -1,4 +1,4 @@
--- `records::state_of` meets its contract. Assumes nothing.
+-- Written by tools/proofs from tools/records.conf. `records::state_of` meets its contract. Assumes nothing.
 use borrow.Author.Needs.{needs}
 use Rattle.records.proofs.state_of.Statement.{statement}
 use Rattle.records.proofs.state_of.Tie as tie

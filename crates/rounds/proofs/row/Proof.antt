@@ -1,4 +1,4 @@
--- `rounds::row` meets its contract. Assumes nothing.
+-- Written by tools/proofs from tools/rounds.conf. `rounds::row` meets its contract. Assumes nothing.
 use mathlib.Core.Path.{sym}
 use native.Mathlib.Omega.{arith}
 use lib.Seq.{length-take-le}

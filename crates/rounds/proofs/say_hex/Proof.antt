@@ -1,4 +1,4 @@
--- `rounds::say_hex` meets its contract. Assumes nothing.
+-- Written by tools/proofs from tools/rounds.conf. `rounds::say_hex` meets its contract. Assumes nothing.
 use Prim.Native.Nat.{_-_, _≤_}
 use lib.ListN.{length}
 use borrow.Author.Needs.{needs}

@@ -1,4 +1,4 @@
--- `script::message_line` meets its contract. Assumes nothing.
+-- Written by tools/proofs from tools/script.conf. `script::message_line` meets its contract. Assumes nothing.
 use borrow.Author.Needs.{needs}
 use Rattle.script.specs.Lines.{messageLine}
 use Rattle.script.proofs.message_line.Statement.{statement}

@@ -1,4 +1,4 @@
--- `script::order_of` meets its contract. Assumes nothing.
+-- Written by tools/proofs from tools/script.conf. `script::order_of` meets its contract. Assumes nothing.
 use mathlib.Core.Path.{sym, _∙_}
 use borrow.Author.Needs.{needs}
 use Rattle.script.specs.Lines.{orderOf}

@@ -1,4 +1,4 @@
--- `script::parse_first` meets its contract. Assumes nothing.
+-- Written by tools/proofs from tools/script.conf. `script::parse_first` meets its contract. Assumes nothing.
 use Prim.Native.Nat.{ℕ, _≤_}
 use mathlib.Core.List.{List}
 use mathlib.Core.Path.{sym, ap, _∙_}
@@ -29,7 +29,7 @@ parse-requires-2 : tie.Need-parse-requires-2
 parse-requires-2 c κs = search needs
 
 returns-2 : tie.Need-returns-2
-returns-2 c = search needs
+returns-2 c = c .parse2 .ensures
 
 pub parse-first-spec : {M : Type 1} → statement M
 parse-first-spec =

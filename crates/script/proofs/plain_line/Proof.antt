@@ -1,4 +1,4 @@
--- `script::plain_line` meets its contract. Assumes nothing.
+-- Written by tools/proofs from tools/script.conf. `script::plain_line` meets its contract. Assumes nothing.
 use borrow.Author.Needs.{needs}
 use Rattle.script.specs.Lines.{plainLine}
 use Rattle.script.specs.Shape.{noBytes}

@@ -1,4 +1,4 @@
--- `sending::ack_of` meets its contract. Assumes nothing.
+-- Written by tools/proofs from tools/sending.conf. `sending::ack_of` meets its contract. Assumes nothing.
 use mathlib.Core.Path.{sym, _∙_}
 use borrow.Author.Needs.{needs}
 use Rattle.sending.specs.Acks.{ackOf}

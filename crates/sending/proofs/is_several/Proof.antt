@@ -1,4 +1,4 @@
--- `sending::is_several` meets its contract. Assumes nothing.
+-- Written by tools/proofs from tools/sending.conf. `sending::is_several` meets its contract. Assumes nothing.
 use borrow.Author.Needs.{needs}
 use Rattle.sending.specs.Acks.{severalIn}
 use Rattle.sending.proofs.is_several.Statement.{statement}

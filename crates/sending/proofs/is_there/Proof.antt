@@ -1,4 +1,4 @@
--- `sending::is_there` meets its contract. Assumes nothing.
+-- Written by tools/proofs from tools/sending.conf. `sending::is_there` meets its contract. Assumes nothing.
 use Prim.Native.Nat.{_≤_}
 use mathlib.Core.Bool.{false}
 use mathlib.Core.Path.{sym}

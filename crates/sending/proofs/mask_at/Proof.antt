@@ -1,4 +1,4 @@
--- `sending::mask_at` meets its contract. Assumes nothing.
+-- Written by tools/proofs from tools/sending.conf. `sending::mask_at` meets its contract. Assumes nothing.
 use Prim.Native.Nat.{_≤_}
 use mathlib.Core.Path.{sym}
 use native.Mathlib.Omega.{arith}

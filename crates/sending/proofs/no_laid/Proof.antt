@@ -1,4 +1,4 @@
--- `sending::no_laid` meets its contract. Assumes nothing.
+-- Written by tools/proofs from tools/sending.conf. `sending::no_laid` meets its contract. Assumes nothing.
 use mathlib.Core.Path.{refl}
 use Rattle.sending.specs.Sending.{noLaid}
 use Rattle.sending.proofs.no_laid.Statement.{statement}

@@ -1,4 +1,4 @@
--- `sending::reason_of` meets its contract. Assumes nothing.
+-- Written by tools/proofs from tools/sending.conf. `sending::reason_of` meets its contract. Assumes nothing.
 use borrow.Author.Tests.{eq-eqb, ne-eqb}
 use Rattle.sending.specs.Acks.{reasonOf}
 use Rattle.sending.proofs.reason_of.Statement.{statement}

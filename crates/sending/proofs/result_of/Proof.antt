@@ -1,4 +1,4 @@
--- `sending::result_of` meets its contract. Assumes nothing.
+-- Written by tools/proofs from tools/sending.conf. `sending::result_of` meets its contract. Assumes nothing.
 use borrow.Author.Tests.{eq-eqb, ne-eqb}
 use Rattle.sending.specs.Acks.{resultOf}
 use Rattle.sending.proofs.result_of.Statement.{statement}

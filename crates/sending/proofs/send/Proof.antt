@@ -1,4 +1,4 @@
--- `sending::send` meets its contract. Assumes nothing.
+-- Written by tools/proofs from tools/sending.conf. `sending::send` meets its contract. Assumes nothing.
 use borrow.Author.Needs.{needs}
 use Rattle.sending.proofs.SendLaws.{send-done, send-not, send-full, written-small}
 use Rattle.sending.proofs.send.Statement.{statement}

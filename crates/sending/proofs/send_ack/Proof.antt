@@ -1,4 +1,4 @@
--- `sending::send_ack` meets its contract. Assumes nothing.
+-- Written by tools/proofs from tools/sending.conf. `sending::send_ack` meets its contract. Assumes nothing.
 use mathlib.Core.Path.{refl, sym, _∙_}
 use borrow.Author.Needs.{needs}
 use Rattle.sending.specs.Sending.{allLaid, allArea}

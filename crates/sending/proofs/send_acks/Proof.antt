@@ -1,4 +1,4 @@
--- `sending::send_acks` meets its contract. Assumes nothing.
+-- Written by tools/proofs from tools/sending.conf. `sending::send_acks` meets its contract. Assumes nothing.
 use borrow.Author.Needs.{needs}
 use Rattle.sending.proofs.SendLaws.{join-three}
 use Rattle.sending.specs.Acks.{acksOf}

@@ -1,4 +1,4 @@
--- `words::said_record` meets its contract. Assumes nothing.
+-- Written by tools/proofs from tools/words.conf. `words::said_record` meets its contract. Assumes nothing.
 use borrow.Author.Needs.{needs}
 use Rattle.words.proofs.TextLaws.{wrote-first}
 use Rattle.words.proofs.said_record.Statement.{statement}

@@ -1,4 +1,4 @@
--- `console::number::put_flag` meets its contract. Assumes nothing.
+-- Written by tools/proofs from tools/console.conf. `console::number::put_flag` meets its contract. Assumes nothing.
 use borrow.Author.Needs.{needs}
 use Rattle.console.proofs.number.put_flag.Statement.{statement}
 use Rattle.console.proofs.number.put_flag.Tie as tie

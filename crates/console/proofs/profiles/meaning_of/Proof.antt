@@ -1,4 +1,4 @@
--- `console::profiles::meaning_of` meets its contract. Assumes nothing.
+-- Written by tools/proofs from tools/console.conf. `console::profiles::meaning_of` meets its contract. Assumes nothing.
 use borrow.Author.Tests.{eq-eqb, ne-eqb, le-leb, lt-leb}
 use Rattle.console.specs.Profiles.{meaningOf}
 use Rattle.console.proofs.profiles.meaning_of.Statement.{statement}

@@ -1,4 +1,4 @@
--- `console::profiles::meanings_known` meets its contract. Assumes nothing.
+-- Written by tools/proofs from tools/console.conf. `console::profiles::meanings_known` meets its contract. Assumes nothing.
 use Prim.Native.Nat.{_+_, _-_, _≤_}
 use mathlib.Core.Bool.{true}
 use mathlib.Core.Path.{_≡_, sym}

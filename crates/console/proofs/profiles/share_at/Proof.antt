@@ -1,4 +1,4 @@
--- `console::profiles::share_at` meets its contract. Assumes nothing.
+-- Written by tools/proofs from tools/console.conf. `console::profiles::share_at` meets its contract. Assumes nothing.
 use lib.Seq.{getD-drop}
 use borrow.Author.Needs.{needs}
 use Rattle.console.proofs.ByteLaws.{byte-here}

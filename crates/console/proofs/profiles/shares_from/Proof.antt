@@ -1,4 +1,4 @@
--- `console::profiles::shares_from` meets its contract. Assumes nothing.
+-- Written by tools/proofs from tools/console.conf. `console::profiles::shares_from` meets its contract. Assumes nothing.
 use Prim.Native.Nat.{_+_, _-_, _*_, _≤_}
 use mathlib.Core.Path.{_≡_, refl}
 use lib.ListN.{length, drop}

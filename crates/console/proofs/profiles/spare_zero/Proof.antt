@@ -1,4 +1,4 @@
--- `console::profiles::spare_zero` meets its contract. Assumes nothing.
+-- Written by tools/proofs from tools/console.conf. `console::profiles::spare_zero` meets its contract. Assumes nothing.
 use Prim.Native.Nat.{_+_, _-_, _*_}
 use mathlib.Core.Path.{_≡_}
 use denote.Ref.{now}

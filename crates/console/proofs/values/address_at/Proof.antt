@@ -1,4 +1,4 @@
--- `console::values::address_at` meets its contract. Assumes nothing.
+-- Written by tools/proofs from tools/console.conf. `console::values::address_at` meets its contract. Assumes nothing.
 use lib.Seq.{drop-drop}
 use borrow.Author.Needs.{needs}
 use Rattle.console.proofs.ByteLaws.{byte-here}

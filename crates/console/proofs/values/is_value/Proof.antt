@@ -1,4 +1,4 @@
--- `console::values::is_value` meets its contract. Assumes nothing.
+-- Written by tools/proofs from tools/console.conf. `console::values::is_value` meets its contract. Assumes nothing.
 use borrow.Author.Needs.{needs}
 use borrow.Author.Tests.{eq-eqb, ne-eqb, le-leb, lt-leb}
 use Rattle.codec.specs.Codec.{both}

@@ -1,4 +1,4 @@
--- `console::values::put_address` meets its contract. Assumes nothing.
+-- Written by tools/proofs from tools/console.conf. `console::values::put_address` meets its contract. Assumes nothing.
 use borrow.Author.Needs.{needs}
 use Rattle.console.proofs.PutLaws.{address-put}
 use Rattle.console.proofs.values.put_address.Statement.{statement}

@@ -1,4 +1,4 @@
--- `console::values::value_from` meets its contract. Assumes nothing.
+-- Written by tools/proofs from tools/console.conf. `console::values::value_from` meets its contract. Assumes nothing.
 use borrow.Author.Needs.{needs}
 use Rattle.console.specs.Values.{valueFrom}
 use Rattle.console.proofs.values.value_from.Statement.{statement}

@@ -1,4 +1,4 @@
--- `desk::Desk::open` meets its contract. Assumes nothing.
+-- Written by tools/proofs from tools/desk.conf. `desk::Desk::open` meets its contract. Assumes nothing.
 use borrow.Author.Needs.{needs}
 use Rattle.desk.proofs.DeskLaws.{open-is}
 use Rattle.desk.proofs.Desk.open.Statement.{statement}

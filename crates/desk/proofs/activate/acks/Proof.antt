@@ -1,4 +1,4 @@
--- `desk::activate::acks` meets its contract. Assumes nothing.
+-- Written by tools/proofs from tools/desk.conf. `desk::activate::acks` meets its contract. Assumes nothing.
 use borrow.Author.Needs.{needs}
 use Rattle.desk.proofs.ActivateLaws.{acks-are}
 use Rattle.desk.proofs.activate.acks.Statement.{statement}

@@ -1,4 +1,4 @@
--- `desk::activate::activate` meets its contract. Assumes nothing.
+-- Written by tools/proofs from tools/desk.conf. `desk::activate::activate` meets its contract. Assumes nothing.
 use mathlib.Core.Path.{sym, _∙_}
 use borrow.Author.Needs.{needs}
 use Rattle.desk.proofs.ActivateLaws.{activate-14, activate-15, activate-21, activate-acks, activate-users}

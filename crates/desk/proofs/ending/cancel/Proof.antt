@@ -1,4 +1,4 @@
--- `desk::ending::cancel` meets its contract. Assumes nothing.
+-- Written by tools/proofs from tools/desk.conf. `desk::ending::cancel` meets its contract. Assumes nothing.
 use mathlib.Core.List.{[]}
 use mathlib.Core.Path.{refl}
 use borrow.Author.Needs.{needs}

@@ -1,4 +1,4 @@
--- `desk::ending::divert` meets its contract. Assumes nothing.
+-- Written by tools/proofs from tools/desk.conf. `desk::ending::divert` meets its contract. Assumes nothing.
 use mathlib.Core.Path.{refl, _∙_}
 use borrow.Author.Needs.{needs}
 use Rattle.desk.proofs.EndLaws.{end-found, end-not, decide-14, decide-end, decided}

@@ -1,4 +1,4 @@
--- `desk::ending::ended` meets its contract. Assumes nothing.
+-- Written by tools/proofs from tools/desk.conf. `desk::ending::ended` meets its contract. Assumes nothing.
 use borrow.Author.Needs.{needs}
 use Rattle.desk.specs.Steps.{endedStep}
 use Rattle.desk.proofs.ending.ended.Statement.{statement}

@@ -1,4 +1,4 @@
--- `desk::ending::ending_of` meets its contract. Assumes nothing.
+-- Written by tools/proofs from tools/desk.conf. `desk::ending::ending_of` meets its contract. Assumes nothing.
 use borrow.Author.Needs.{needs}
 use Rattle.desk.proofs.EndLaws.{ending-here, ending-20, ending-19}
 use Rattle.desk.proofs.ending.ending_of.Statement.{statement}

@@ -1,4 +1,4 @@
--- `desk::ending::post_at` meets its contract. Assumes nothing.
+-- Written by tools/proofs from tools/desk.conf. `desk::ending::post_at` meets its contract. Assumes nothing.
 use mathlib.Core.Path.{refl}
 use native.Mathlib.Omega.{arith}
 use borrow.Author.Needs.{needs}

@@ -1,4 +1,4 @@
--- `desk::ending::reject` meets its contract. Assumes nothing.
+-- Written by tools/proofs from tools/desk.conf. `desk::ending::reject` meets its contract. Assumes nothing.
 use mathlib.Core.List.{[]}
 use mathlib.Core.Path.{refl, _∙_}
 use borrow.Author.Needs.{needs}

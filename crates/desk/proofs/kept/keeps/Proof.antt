@@ -1,4 +1,4 @@
--- `desk::kept::keeps` meets its contract. Assumes nothing.
+-- Written by tools/proofs from tools/desk.conf. `desk::kept::keeps` meets its contract. Assumes nothing.
 use borrow.Author.Needs.{needs}
 use Rattle.desk.specs.Steps.{keeps}
 use Rattle.desk.proofs.kept.keeps.Statement.{statement}

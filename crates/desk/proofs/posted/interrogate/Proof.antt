@@ -1,4 +1,4 @@
--- `desk::posted::interrogate` meets its contract. Assumes nothing.
+-- Written by tools/proofs from tools/desk.conf. `desk::posted::interrogate` meets its contract. Assumes nothing.
 use mathlib.Core.List.{[]}
 use mathlib.Core.Path.{sym, _∙_}
 use borrow.Author.Needs.{needs}

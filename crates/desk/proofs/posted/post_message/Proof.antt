@@ -1,4 +1,4 @@
--- `desk::posted::post_message` meets its contract. Assumes nothing.
+-- Written by tools/proofs from tools/desk.conf. `desk::posted::post_message` meets its contract. Assumes nothing.
 use mathlib.Core.Path.{refl}
 use denote.Ref.{now}
 use lib.ListN.{length}

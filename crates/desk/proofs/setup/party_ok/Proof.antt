@@ -1,4 +1,4 @@
--- `desk::setup::party_ok` meets its contract. Assumes nothing.
+-- Written by tools/proofs from tools/desk.conf. `desk::setup::party_ok` meets its contract. Assumes nothing.
 use mathlib.Core.Path.{refl}
 use borrow.Author.Tests.{lt-ltb, le-ltb}
 use Rattle.codec.specs.Codec.{both}

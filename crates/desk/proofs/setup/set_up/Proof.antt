@@ -1,4 +1,4 @@
--- `desk::setup::set_up` meets its contract. Assumes nothing.
+-- Written by tools/proofs from tools/desk.conf. `desk::setup::set_up` meets its contract. Assumes nothing.
 use mathlib.Core.Path.{sym, _∙_}
 use borrow.Author.Needs.{needs}
 use Rattle.desk.proofs.KeepLaws.{refused-plain, free-plain, same-plain}

@@ -1,4 +1,4 @@
--- `desk::setup::set_up_ok` meets its contract. Assumes nothing.
+-- Written by tools/proofs from tools/desk.conf. `desk::setup::set_up_ok` meets its contract. Assumes nothing.
 use mathlib.Core.Path.{refl, sym, _∙_}
 use borrow.Author.Needs.{needs}
 use borrow.Author.Tests.{lt-ltb, le-ltb}

@@ -1,4 +1,4 @@
--- `places::count::free` meets its contract. Assumes nothing.
+-- Written by tools/proofs from tools/places.conf. `places::count::free` meets its contract. Assumes nothing.
 use native.Mathlib.Omega.{arith}
 use borrow.Author.Needs.{needs}
 use Rattle.places.proofs.HeldLaws.{used-few}

@@ -1,4 +1,4 @@
--- `places::count::held` meets its contract. Assumes nothing.
+-- Written by tools/proofs from tools/places.conf. `places::count::held` meets its contract. Assumes nothing.
 use Prim.Native.Nat.{_-_, _≤_}
 use mathlib.Core.Path.{_≡_, sym}
 use native.Mathlib.Omega.{arith}

@@ -1,4 +1,4 @@
--- `places::count::load` meets its contract. Assumes nothing.
+-- Written by tools/proofs from tools/places.conf. `places::count::load` meets its contract. Assumes nothing.
 use borrow.Author.Needs.{needs}
 use Rattle.places.specs.Held.{loadOf}
 use Rattle.places.proofs.count.load.Statement.{statement}

@@ -1,4 +1,4 @@
--- `places::count::owed` meets its contract. Assumes nothing.
+-- Written by tools/proofs from tools/places.conf. `places::count::owed` meets its contract. Assumes nothing.
 use borrow.Author.Needs.{needs}
 use Rattle.places.specs.Held.{owedOf}
 use Rattle.places.proofs.count.owed.Statement.{statement}

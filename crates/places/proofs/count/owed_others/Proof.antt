@@ -1,4 +1,4 @@
--- `places::count::owed_others` meets its contract. Assumes nothing.
+-- Written by tools/proofs from tools/places.conf. `places::count::owed_others` meets its contract. Assumes nothing.
 use Prim.Native.Nat.{_-_, _*_, _≤_}
 use mathlib.Core.Bool.{cond}
 use mathlib.Core.Path.{_≡_, sym}

@@ -1,4 +1,4 @@
--- `places::count::share_of` meets its contract. Assumes nothing.
+-- Written by tools/proofs from tools/places.conf. `places::count::share_of` meets its contract. Assumes nothing.
 use Prim.Native.Nat.{_≤_}
 use mathlib.Core.Path.{refl, sym}
 use native.Mathlib.Omega.{arith}

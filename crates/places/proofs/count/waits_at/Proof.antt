@@ -1,4 +1,4 @@
--- `places::count::waits_at` meets its contract. Assumes nothing.
+-- Written by tools/proofs from tools/places.conf. `places::count::waits_at` meets its contract. Assumes nothing.
 use Rattle.codec.specs.Codec.{both}
 use Rattle.places.specs.Held.{waitsAt}
 use Rattle.places.proofs.count.waits_at.Statement.{statement}

@@ -1,4 +1,4 @@
--- `places::ground::apart` meets its contract. Assumes nothing.
+-- Written by tools/proofs from tools/places.conf. `places::ground::apart` meets its contract. Assumes nothing.
 use Rattle.codec.specs.Codec.{both}
 use Rattle.places.specs.Grounds.{apart}
 use Rattle.places.proofs.ground.apart.Statement.{statement}

@@ -1,4 +1,4 @@
--- `places::ground::call_ok` meets its contract. Assumes nothing.
+-- Written by tools/proofs from tools/places.conf. `places::ground::call_ok` meets its contract. Assumes nothing.
 use borrow.Author.Tests.{lt-ltb, le-ltb}
 use Rattle.codec.specs.Codec.{both}
 use Rattle.places.specs.Grounds.{callOk}

@@ -1,4 +1,4 @@
--- `places::ground::calls_ok` meets its contract. Assumes nothing.
+-- Written by tools/proofs from tools/places.conf. `places::ground::calls_ok` meets its contract. Assumes nothing.
 use Prim.Native.Nat.{_-_, _≤_}
 use mathlib.Core.Bool.{true}
 use mathlib.Core.Path.{_≡_, sym, _∙_}

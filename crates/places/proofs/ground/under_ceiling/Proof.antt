@@ -1,4 +1,4 @@
--- `places::ground::under_ceiling` meets its contract. Assumes nothing.
+-- Written by tools/proofs from tools/places.conf. `places::ground::under_ceiling` meets its contract. Assumes nothing.
 use borrow.Author.Needs.{needs}
 use Rattle.places.specs.Grounds.{underCeiling}
 use Rattle.places.proofs.ground.under_ceiling.Statement.{statement}

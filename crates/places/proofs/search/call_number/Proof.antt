@@ -1,4 +1,4 @@
--- `places::search::call_number` meets its contract. Assumes nothing.
+-- Written by tools/proofs from tools/places.conf. `places::search::call_number` meets its contract. Assumes nothing.
 use Prim.Native.Nat.{_-_, _≤_}
 use mathlib.Core.Path.{_≡_, sym, _∙_}
 use native.Mathlib.Omega.{arith}

@@ -1,4 +1,4 @@
--- `places::search::free_number` meets its contract. Assumes nothing.
+-- Written by tools/proofs from tools/places.conf. `places::search::free_number` meets its contract. Assumes nothing.
 use Prim.Native.Nat.{_-_, _≤_}
 use mathlib.Core.Bool.{not}
 use mathlib.Core.Path.{_≡_}

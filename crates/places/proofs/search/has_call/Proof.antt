@@ -1,4 +1,4 @@
--- `places::search::has_call` meets its contract. Assumes nothing.
+-- Written by tools/proofs from tools/places.conf. `places::search::has_call` meets its contract. Assumes nothing.
 use borrow.Author.Needs.{needs}
 use Rattle.codec.specs.Codec.{both}
 use Rattle.places.specs.Spots.{hasCall}

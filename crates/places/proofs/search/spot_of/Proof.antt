@@ -1,4 +1,4 @@
--- `places::search::spot_of` meets its contract. Assumes nothing.
+-- Written by tools/proofs from tools/places.conf. `places::search::spot_of` meets its contract. Assumes nothing.
 use borrow.Author.Needs.{needs}
 use borrow.Author.Tests.{lt-ltb, le-ltb}
 use Rattle.places.specs.Spots.{spotOf}

@@ -1,7 +1,7 @@
--- `profile::Profile::new` meets its contract. Assumes nothing.
+-- Written by tools/proofs from tools/profile.conf. `profile::Profile::new` meets its contract. Assumes nothing.
 use mathlib.Core.Path.{sym, _∙_}
-use Rattle.profile.specs.Rules.{newOf}
 use borrow.Author.Needs.{needs}
+use Rattle.profile.specs.Rules.{newOf}
 use Rattle.profile.proofs.Profile.new.Statement.{statement}
 use Rattle.profile.proofs.Profile.new.Tie as tie
 

@@ -1,4 +1,4 @@
--- `records::identities::count_of` meets its contract. Assumes nothing.
+-- Written by tools/proofs from tools/records.conf. `records::identities::count_of` meets its contract. Assumes nothing.
 use native.Mathlib.Omega.{arith}
 use borrow.Author.Needs.{needs}
 use Rattle.records.specs.Identities.{countOf}

@@ -1,4 +1,4 @@
--- `records::identities::identity_after` meets its contract. Assumes nothing.
+-- Written by tools/proofs from tools/records.conf. `records::identities::identity_after` meets its contract. Assumes nothing.
 use mathlib.Core.Path.{refl}
 use borrow.Author.Needs.{needs}
 use Rattle.records.specs.Identities.{later}

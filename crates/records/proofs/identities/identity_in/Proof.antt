@@ -1,4 +1,4 @@
--- `records::identities::identity_in` meets its contract. Assumes nothing.
+-- Written by tools/proofs from tools/records.conf. `records::identities::identity_in` meets its contract. Assumes nothing.
 use borrow.Author.Needs.{needs}
 use Rattle.records.proofs.IdentityLaws.{range-in}
 use Rattle.records.specs.Identities.{identityIn}

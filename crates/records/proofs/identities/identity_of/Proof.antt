@@ -1,4 +1,4 @@
--- `records::identities::identity_of` meets its contract. Assumes nothing.
+-- Written by tools/proofs from tools/records.conf. `records::identities::identity_of` meets its contract. Assumes nothing.
 use borrow.Author.Tests.{eq-eqb, ne-eqb}
 use Rattle.records.specs.Identities.{identityOf}
 use Rattle.records.proofs.identities.identity_of.Statement.{statement}

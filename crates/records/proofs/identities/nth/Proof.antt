@@ -1,4 +1,4 @@
--- `records::identities::nth` meets its contract. Assumes nothing.
+-- Written by tools/proofs from tools/records.conf. `records::identities::nth` meets its contract. Assumes nothing.
 use mathlib.Core.Path.{_≡_, sym}
 use native.Mathlib.Omega.{arith}
 use lib.ListN.{length, List·getD-eq-default}

@@ -1,4 +1,4 @@
--- `records::mark::accepted` meets its contract. Assumes nothing.
+-- Written by tools/proofs from tools/records.conf. `records::mark::accepted` meets its contract. Assumes nothing.
 use borrow.Author.Needs.{needs}
 use Rattle.records.proofs.MarkLaws.{acc-none, acc-yes, acc-no}
 use Rattle.records.proofs.mark.accepted.Statement.{statement}

@@ -1,4 +1,4 @@
--- `records::mark::with_mark` meets its contract. Assumes nothing.
+-- Written by tools/proofs from tools/records.conf. `records::mark::with_mark` meets its contract. Assumes nothing.
 use borrow.Author.Needs.{needs}
 use Rattle.records.proofs.MarkLaws.{with-none, with-at}
 use Rattle.records.proofs.mark.with_mark.Statement.{statement}

@@ -1,4 +1,4 @@
--- `records::outcome::has_outcome` meets its contract. Assumes nothing.
+-- Written by tools/proofs from tools/records.conf. `records::outcome::has_outcome` meets its contract. Assumes nothing.
 use mathlib.Core.Path.{_≡_}
 use native.Mathlib.Omega.{arith}
 use lib.ListN.{length}

@@ -1,4 +1,4 @@
--- `records::outcome::mask_of` meets its contract. Assumes nothing.
+-- Written by tools/proofs from tools/records.conf. `records::outcome::mask_of` meets its contract. Assumes nothing.
 use Prim.Native.Nat.{_-_, _≤_}
 use mathlib.Core.Bool.{false}
 use mathlib.Core.Path.{_≡_, refl}

@@ -1,4 +1,4 @@
--- `records::outcome::outcome_of` meets its contract. Assumes nothing.
+-- Written by tools/proofs from tools/records.conf. `records::outcome::outcome_of` meets its contract. Assumes nothing.
 use borrow.Author.Needs.{needs}
 use Rattle.records.proofs.OutcomeLaws.{out-none, out-yes, out-same, out-other}
 use Rattle.records.proofs.outcome.outcome_of.Statement.{statement}

@@ -1,4 +1,4 @@
--- `records::outcome::some_of` meets its contract. Assumes nothing.
+-- Written by tools/proofs from tools/records.conf. `records::outcome::some_of` meets its contract. Assumes nothing.
 use Prim.Native.Nat.{_-_, _≤_}
 use mathlib.Core.Path.{_≡_}
 use native.Mathlib.Omega.{arith}

@@ -1,4 +1,4 @@
--- `records::outcome::sort` meets its contract. Assumes nothing.
+-- Written by tools/proofs from tools/records.conf. `records::outcome::sort` meets its contract. Assumes nothing.
 use borrow.Author.Needs.{needs}
 use Rattle.records.specs.Outcomes.{sortedOf}
 use Rattle.records.proofs.outcome.sort.Statement.{statement}

@@ -1,4 +1,4 @@
--- `records::search::is_of` meets its contract. Assumes nothing.
+-- Written by tools/proofs from tools/records.conf. `records::search::is_of` meets its contract. Assumes nothing.
 use borrow.Author.Tests.{eq-eqb, ne-eqb}
 use Rattle.codec.specs.Codec.{both}
 use Rattle.records.specs.Records.{is}

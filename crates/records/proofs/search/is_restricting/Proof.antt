@@ -1,4 +1,4 @@
--- `records::search::is_restricting` meets its contract. Assumes nothing.
+-- Written by tools/proofs from tools/records.conf. `records::search::is_restricting` meets its contract. Assumes nothing.
 use mathlib.Core.Path.{refl}
 use Rattle.records.specs.Records.{restricts}
 use Rattle.records.proofs.search.is_restricting.Statement.{statement}

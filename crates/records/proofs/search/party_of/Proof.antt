@@ -1,4 +1,4 @@
--- `records::search::party_of` meets its contract. Assumes nothing.
+-- Written by tools/proofs from tools/records.conf. `records::search::party_of` meets its contract. Assumes nothing.
 use mathlib.Core.Path.{refl}
 use Rattle.records.specs.Records.{partyOf}
 use Rattle.records.proofs.search.party_of.Statement.{statement}

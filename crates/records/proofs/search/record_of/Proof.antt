@@ -1,4 +1,4 @@
--- `records::search::record_of` meets its contract. Assumes nothing.
+-- Written by tools/proofs from tools/records.conf. `records::search::record_of` meets its contract. Assumes nothing.
 use Prim.Native.Nat.{_-_, _≤_}
 use mathlib.Core.Path.{_≡_}
 use lib.ListN.{length, take}

@@ -1,4 +1,4 @@
--- `records::search::record_ok` meets its contract. Assumes nothing.
+-- Written by tools/proofs from tools/records.conf. `records::search::record_ok` meets its contract. Assumes nothing.
 use borrow.Author.Tests.{le-leb, lt-leb, lt-ltb, le-ltb}
 use Rattle.codec.specs.Codec.{both}
 use Rattle.records.specs.Records.{recordOk}

@@ -1,4 +1,4 @@
--- `records::search::state` meets its contract. Assumes nothing.
+-- Written by tools/proofs from tools/records.conf. `records::search::state` meets its contract. Assumes nothing.
 use borrow.Author.Needs.{needs}
 use Rattle.records.proofs.RecordLaws.{state-none, state-other, state-active, state-not}
 use Rattle.records.proofs.search.state.Statement.{statement}

@@ -1,4 +1,4 @@
--- `script::orders::dump` meets its contract. Assumes nothing.
+-- Written by tools/proofs from tools/script.conf. `script::orders::dump` meets its contract. Assumes nothing.
 use borrow.Author.Tests.{eq-eqb, ne-eqb}
 use Rattle.script.proofs.orders.dump.Statement.{statement}
 use Rattle.script.proofs.orders.dump.Tie as tie

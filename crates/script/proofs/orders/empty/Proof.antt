@@ -1,4 +1,4 @@
--- `script::orders::empty` meets its contract. Assumes nothing.
+-- Written by tools/proofs from tools/script.conf. `script::orders::empty` meets its contract. Assumes nothing.
 use borrow.Author.Needs.{needs}
 use borrow.Author.Tests.{eq-eqb, ne-eqb, le-leb, lt-leb}
 use Rattle.script.specs.Lines.{unplaceOrder}

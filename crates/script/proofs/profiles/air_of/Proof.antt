@@ -1,4 +1,4 @@
--- `script::profiles::air_of` meets its contract. Assumes nothing.
+-- Written by tools/proofs from tools/script.conf. `script::profiles::air_of` meets its contract. Assumes nothing.
 use borrow.Author.Needs.{needs}
 use Rattle.script.specs.Profiles.{airOf}
 use Rattle.script.proofs.profiles.air_of.Statement.{statement}

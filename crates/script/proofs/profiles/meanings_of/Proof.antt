@@ -1,4 +1,4 @@
--- `script::profiles::meanings_of` meets its contract. Assumes nothing.
+-- Written by tools/proofs from tools/script.conf. `script::profiles::meanings_of` meets its contract. Assumes nothing.
 use borrow.Author.Needs.{needs}
 use Rattle.script.proofs.TableLaws.{sixteen}
 use Rattle.script.specs.Profiles.{meaningsOf}

@@ -1,4 +1,4 @@
--- `script::profiles::no_profile` meets its contract. Assumes nothing.
+-- Written by tools/proofs from tools/script.conf. `script::profiles::no_profile` meets its contract. Assumes nothing.
 use mathlib.Core.Path.{refl}
 use Rattle.profile.specs.Rules.{noProfile}
 use Rattle.script.proofs.profiles.no_profile.Statement.{statement}

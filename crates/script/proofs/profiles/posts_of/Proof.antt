@@ -1,4 +1,4 @@
--- `script::profiles::posts_of` meets its contract. Assumes nothing.
+-- Written by tools/proofs from tools/script.conf. `script::profiles::posts_of` meets its contract. Assumes nothing.
 use borrow.Author.Tests.{eq-eqb, ne-eqb}
 use Rattle.script.specs.Profiles.{postsOf}
 use Rattle.script.proofs.profiles.posts_of.Statement.{statement}

@@ -1,4 +1,4 @@
--- `script::profiles::profile_of` meets its contract. Assumes nothing.
+-- Written by tools/proofs from tools/script.conf. `script::profiles::profile_of` meets its contract. Assumes nothing.
 use borrow.Author.Needs.{needs}
 use Rattle.script.specs.Profiles.{profileOf}
 use Rattle.script.proofs.profiles.profile_of.Statement.{statement}

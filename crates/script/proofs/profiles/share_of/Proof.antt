@@ -1,4 +1,4 @@
--- `script::profiles::share_of` meets its contract. Assumes nothing.
+-- Written by tools/proofs from tools/script.conf. `script::profiles::share_of` meets its contract. Assumes nothing.
 use borrow.Author.Needs.{needs}
 use Rattle.script.specs.Profiles.{shareOf}
 use Rattle.script.proofs.profiles.share_of.Statement.{statement}

@@ -1,4 +1,4 @@
--- `script::profiles::shares_of` meets its contract. Assumes nothing.
+-- Written by tools/proofs from tools/script.conf. `script::profiles::shares_of` meets its contract. Assumes nothing.
 use borrow.Author.Needs.{needs}
 use Rattle.script.specs.Profiles.{shareRow, sharesOf}
 use Rattle.script.proofs.profiles.shares_of.Statement.{statement}

@@ -1,4 +1,4 @@
--- `script::shape::no_hex` meets its contract. Assumes nothing.
+-- Written by tools/proofs from tools/script.conf. `script::shape::no_hex` meets its contract. Assumes nothing.
 use mathlib.Core.Path.{refl}
 use Rattle.script.specs.Shape.{noBytes, noHex}
 use Rattle.script.proofs.shape.no_hex.Statement.{statement}

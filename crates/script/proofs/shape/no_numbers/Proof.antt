@@ -1,4 +1,4 @@
--- `script::shape::no_numbers` meets its contract. Assumes nothing.
+-- Written by tools/proofs from tools/script.conf. `script::shape::no_numbers` meets its contract. Assumes nothing.
 use mathlib.Core.Path.{refl}
 use Rattle.script.specs.Shape.{noRow, noNumbers}
 use Rattle.script.proofs.shape.no_numbers.Statement.{statement}

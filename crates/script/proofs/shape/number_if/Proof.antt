@@ -1,4 +1,4 @@
--- `script::shape::number_if` meets its contract. Assumes nothing.
+-- Written by tools/proofs from tools/script.conf. `script::shape::number_if` meets its contract. Assumes nothing.
 use borrow.Author.Needs.{needs}
 use borrow.Author.Tests.{le-leb, lt-leb}
 use Rattle.script.specs.Shape.{numberIf}

@@ -1,6 +1,6 @@
--- `script::shape::numbers_at` meets its contract. Assumes nothing.
+-- Written by tools/proofs from tools/script.conf. `script::shape::numbers_at` meets its contract. Assumes nothing.
 use Prim.Native.Nat.{_-_, _≤_}
-use mathlib.Core.Path.{_≡_, refl, sym, _∙_}
+use mathlib.Core.Path.{_≡_, sym, _∙_}
 use native.Mathlib.Nat.{sub-zero}
 use native.Mathlib.Omega.{arith}
 use denote.Ref.{now}

@@ -1,4 +1,4 @@
--- `script::shape::starts` meets its contract. Assumes nothing.
+-- Written by tools/proofs from tools/script.conf. `script::shape::starts` meets its contract. Assumes nothing.
 use Prim.Native.Nat.{_-_, _≤_}
 use mathlib.Core.Path.{_≡_, refl, sym, _∙_}
 use denote.Ref.{now}

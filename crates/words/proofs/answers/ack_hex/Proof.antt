@@ -1,4 +1,4 @@
--- `words::answers::ack_hex` meets its contract. Assumes nothing.
+-- Written by tools/proofs from tools/words.conf. `words::answers::ack_hex` meets its contract. Assumes nothing.
 use borrow.Author.Needs.{needs}
 use borrow.Author.Tests.{lt-ltb, le-ltb}
 use Rattle.words.proofs.TextLaws.{wrote-none, wrote-join}

@@ -1,4 +1,4 @@
--- `words::answers::bits_in` meets its contract. Assumes nothing.
+-- Written by tools/proofs from tools/words.conf. `words::answers::bits_in` meets its contract. Assumes nothing.
 use borrow.Author.Needs.{needs}
 use Rattle.words.specs.Words.{bitsIn}
 use Rattle.words.proofs.answers.bits_in.Statement.{statement}

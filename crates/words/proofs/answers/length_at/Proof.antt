@@ -1,4 +1,4 @@
--- `words::answers::length_at` meets its contract. Assumes nothing.
+-- Written by tools/proofs from tools/words.conf. `words::answers::length_at` meets its contract. Assumes nothing.
 use Prim.Native.Nat.{_≤_}
 use mathlib.Core.Path.{sym}
 use native.Mathlib.Omega.{arith}

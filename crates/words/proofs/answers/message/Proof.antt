@@ -1,4 +1,4 @@
--- `words::answers::message` meets its contract. Assumes nothing.
+-- Written by tools/proofs from tools/words.conf. `words::answers::message` meets its contract. Assumes nothing.
 use borrow.Author.Needs.{needs}
 use Rattle.words.proofs.answers.message.Statement.{statement}
 use Rattle.words.proofs.answers.message.Tie as tie

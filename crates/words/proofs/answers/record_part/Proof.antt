@@ -1,4 +1,4 @@
--- `words::answers::record_part` meets its contract. Assumes nothing.
+-- Written by tools/proofs from tools/words.conf. `words::answers::record_part` meets its contract. Assumes nothing.
 use borrow.Author.Needs.{needs}
 use Rattle.words.proofs.TextLaws.{wrote-none, wrote-join}
 use Rattle.words.specs.Words.{recordWords}

@@ -1,4 +1,4 @@
--- `words::answers::state` meets its contract. Assumes nothing.
+-- Written by tools/proofs from tools/words.conf. `words::answers::state` meets its contract. Assumes nothing.
 use borrow.Author.Needs.{needs}
 use borrow.Author.Tests.{eq-eqb, ne-eqb}
 use Rattle.words.specs.Words.{stateWord}

@@ -1,4 +1,4 @@
--- `words::texts::add` meets its contract. Assumes nothing.
+-- Written by tools/proofs from tools/words.conf. `words::texts::add` meets its contract. Assumes nothing.
 use borrow.Author.Needs.{needs}
 use Rattle.words.proofs.TextLaws.{wrote-kept}
 use Rattle.words.proofs.texts.add.Statement.{statement}

@@ -1,4 +1,4 @@
--- `words::texts::add_byte` meets its contract. Assumes nothing.
+-- Written by tools/proofs from tools/words.conf. `words::texts::add_byte` meets its contract. Assumes nothing.
 use borrow.Author.Needs.{needs}
 use Rattle.words.specs.Words.{hexPair}
 use Rattle.words.proofs.texts.add_byte.Statement.{statement}

@@ -1,4 +1,4 @@
--- `words::texts::add_field` meets its contract. Assumes nothing.
+-- Written by tools/proofs from tools/words.conf. `words::texts::add_field` meets its contract. Assumes nothing.
 use borrow.Author.Needs.{needs}
 use Rattle.words.proofs.TextLaws.{wrote-join}
 use Rattle.words.specs.Words.{fieldOf}

@@ -1,4 +1,4 @@
--- `words::texts::add_number` meets its contract. Assumes nothing.
+-- Written by tools/proofs from tools/words.conf. `words::texts::add_number` meets its contract. Assumes nothing.
 use Prim.Native.Nat.{suc, _-_, _^_, _≤_}
 use mathlib.Core.Path.{_≡_, refl}
 use native.Mathlib.Omega.{arith}

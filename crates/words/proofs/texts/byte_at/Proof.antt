@@ -1,4 +1,4 @@
--- `words::texts::byte_at` meets its contract. Assumes nothing.
+-- Written by tools/proofs from tools/words.conf. `words::texts::byte_at` meets its contract. Assumes nothing.
 use mathlib.Core.Path.{sym}
 use denote.Ref.{now}
 use lib.ListN.{List·getD-eq-default}

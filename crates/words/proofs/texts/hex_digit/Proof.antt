@@ -1,4 +1,4 @@
--- `words::texts::hex_digit` meets its contract. Assumes nothing.
+-- Written by tools/proofs from tools/words.conf. `words::texts::hex_digit` meets its contract. Assumes nothing.
 use borrow.Author.Needs.{needs}
 use borrow.Author.Tests.{lt-ltb, le-ltb}
 use Rattle.words.specs.Words.{hexDigit}

@@ -1,4 +1,4 @@
--- `words::texts::is_shown` meets its contract. Assumes nothing.
+-- Written by tools/proofs from tools/words.conf. `words::texts::is_shown` meets its contract. Assumes nothing.
 use borrow.Author.Tests.{eq-eqb, ne-eqb}
 use Rattle.words.specs.Words.{shown}
 use Rattle.words.proofs.texts.is_shown.Statement.{statement}

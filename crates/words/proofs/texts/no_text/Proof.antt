@@ -1,4 +1,4 @@
--- `words::texts::no_text` meets its contract. Assumes nothing.
+-- Written by tools/proofs from tools/words.conf. `words::texts::no_text` meets its contract. Assumes nothing.
 use mathlib.Core.Path.{refl}
 use Rattle.words.specs.Texts.{noRoom, noText}
 use Rattle.words.proofs.texts.no_text.Statement.{statement}
