@@ -28,8 +28,7 @@ console: build/console
 build/libcad.a: FORCE
 	@mkdir -p build
 ifeq ($(ARCHIVE),)
-	@[ -f target/staticlib/libconsole.a ] || echo 'proving console and the crates below it; the first time takes some minutes' >&2
-	@rt staticlib console >build/staticlib.log 2>&1 </dev/null || { tail -n 5 build/staticlib.log >&2; exit 1; }
+	@tools/proving console build/staticlib.log rt staticlib console
 	@cmp -s target/staticlib/libconsole.a $@ || cp target/staticlib/libconsole.a $@
 else
 	@cmp -s $(ARCHIVE) $@ || cp $(ARCHIVE) $@

@@ -7,13 +7,10 @@ use Rattle.replay.proofs.put.Statement.{statement}
 use Rattle.replay.proofs.put.Tie as tie
 
 abbrev Inv-loop : tie.InvT-loop
-Inv-loop output₀ filled text at n i₀ output i = (i ≤ n) × (length output ≡ length output₀)
+Inv-loop output₀ at text n i₀ output i = (i ≤ n) × (length output ≡ length output₀)
 
 abbrev μ-loop : tie.MeasureT-loop
-μ-loop output₀ filled text at n i₀ output i = n - i
-
-with-room-requires : tie.Need-with-room-requires Inv-loop μ-loop
-with-room-requires c κs = search needs
+μ-loop output₀ at text n i₀ output i = n - i
 
 sub-least : tie.Need-sub-least Inv-loop μ-loop
 sub-least c = search needs
@@ -57,7 +54,6 @@ put-spec =
     (tie.spec
     Inv-loop
     μ-loop
-    with-room-requires
     sub-least
     least-requires
     loop-holds
