@@ -81,6 +81,9 @@ check-c:
 clean:
 	rm -rf build
 
+# two rt at once would write the same target/
+.NOTPARALLEL:
+
 FORCE:
 
 .PHONY: all console programs install uninstall check-c clean FORCE
