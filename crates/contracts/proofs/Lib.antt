@@ -11,6 +11,7 @@ pub mod Places
 pub mod Records
 pub mod Sending
 pub mod Desk
+pub mod Blocks
 pub mod Lines
 pub mod Words
 pub mod Script

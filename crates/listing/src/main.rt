@@ -88,7 +88,7 @@ fn feed(block: &[u8], output: &mut [u8], seen: SoFar) -> SoFar
     let mut kept = seen.kept;
     let mut from: usize = 0;
     while from < block.len() {
-        let end = line_end(block, from);
+        let end = blocks::line_end(block, from);
         if end < block.len() {
             let text = whole(kept, &block[from..end]);
             out = print(output, out, number, text);
@@ -105,21 +105,6 @@ fn feed(block: &[u8], output: &mut [u8], seen: SoFar) -> SoFar
         out: out,
         kept: kept,
     }
-}
-
-// Where the line ends that stands at an index: at the next LF, or at the block's end.
-fn line_end(block: &[u8], from: usize) -> usize
-    requires { ⌜ from ≤ length (now block) ⌝ }
-    ensures { λ r. ⌜ (from ≤ r) × (r ≤ length (now (block .entry))) ⌝ }
-{
-    let mut i = from;
-    while i < block.len() {
-        if block[i] == 10 {
-            return i;
-        }
-        i += 1;
-    }
-    i
 }
 
 // What a line says of which a start may have come before.
@@ -176,18 +161,32 @@ fn print(output: &mut [u8], out: Out, before: u64, text: Text) -> Out
     requires { ⌜ (length (now output) ≡ 65536) × ((out .filled ≤ 65536) × (before ≤ 2 ^ 62)) ⌝ }
     ensures { λ r. ⌜ r .filled ≤ 65536 ⌝ }
 {
-    let bytes = text.bytes;
     let room = with_room(output, out, before);
-    let mut digits = [0u8; 20];
-    let count = io::decimal(before + 1, &mut digits);
-    let after_number = put(output, room.filled, &digits[..count]);
-    let after_space = put(output, after_number, b" ");
-    let after_text = put_first(output, after_space, bytes, text.len);
     Out {
-        filled: put(output, after_text, b"\n"),
+        filled: put_line(output, room.filled, before + 1, text),
         written: room.written,
         failed: room.failed,
     }
+}
+
+fn put_line(output: &mut [u8], filled: usize, number: u64, text: Text) -> usize
+    requires { ⌜ (length (now output) ≡ 65536) × (filled ≤ 65536) ⌝ }
+    ensures { λ r. ⌜ r ≤ 65536 ⌝ }
+{
+    let bytes = text.bytes;
+    let after_number = put_number(output, filled, number);
+    let after_text = blocks::put_first(output, after_number, &bytes, text.len);
+    blocks::put(output, after_text, b"\n")
+}
+
+fn put_number(output: &mut [u8], filled: usize, number: u64) -> usize
+    requires { ⌜ (length (now output) ≡ 65536) × (filled ≤ 65536) ⌝ }
+    ensures { λ r. ⌜ r ≤ 65536 ⌝ }
+{
+    let mut digits = [0u8; 20];
+    let count = io::decimal(number, &mut digits);
+    let after_digits = blocks::put(output, filled, &digits[..count]);
+    blocks::put(output, after_digits, b" ")
 }
 
 // The block is written first where it might not hold one line more.
@@ -227,38 +226,4 @@ fn written(output: &[u8], out: Out, number: u64) -> Out
         written: out.written,
         failed: true,
     }
-}
-
-fn put_first(output: &mut [u8], at: usize, bytes: [u8; 12], len: usize) -> usize
-    requires { ⌜ at ≤ length (now output) ⌝ }
-    ensures { λ r. ⌜ r ≤ length (now (output .entry)) ⌝ }
-{
-    let text: &[u8] = &bytes;
-    if len > 12 {
-        return at;
-    }
-    put(output, at, &text[..len])
-}
-
-// Bytes one after the other, as far as there is room, and the index after them.
-fn put(output: &mut [u8], at: usize, text: &[u8]) -> usize
-    requires { ⌜ at ≤ length (now output) ⌝ }
-    ensures { λ r. ⌜ r ≤ length (now (output .entry)) ⌝ }
-{
-    let n = least(output.len() - at, text.len());
-    let mut i: usize = 0;
-    while i < n {
-        output[at + i] = text[i];
-        i += 1;
-    }
-    at + n
-}
-
-fn least(a: usize, b: usize) -> usize
-    ensures { λ r. ⌜ (r ≤ a) × (r ≤ b) ⌝ }
-{
-    if a < b {
-        return a;
-    }
-    b
 }

@@ -157,7 +157,7 @@ fn feed(block: &[u8], output: &mut [u8], seen: SoFar) -> SoFar
     let mut kept = seen.kept;
     let mut from: usize = 0;
     while from < block.len() {
-        let end = line_end(block, from);
+        let end = blocks::line_end(block, from);
         if end < block.len() {
             let line = whole(kept, &block[from..end]);
             let before = number;
@@ -175,21 +175,6 @@ fn feed(block: &[u8], output: &mut [u8], seen: SoFar) -> SoFar
         done: done,
         kept: kept,
     }
-}
-
-// Where the line ends that stands at an index: at the next LF, or at the block's end.
-fn line_end(block: &[u8], from: usize) -> usize
-    requires { ⌜ from ≤ length (now block) ⌝ }
-    ensures { λ r. ⌜ (from ≤ r) × (r ≤ length (now (block .entry))) ⌝ }
-{
-    let mut i = from;
-    while i < block.len() {
-        if block[i] == 10 {
-            return i;
-        }
-        i += 1;
-    }
-    i
 }
 
 // What a line asks for of which a start may have come before.
@@ -543,7 +528,7 @@ fn dump_places(output: &mut [u8], filled: usize, number: u64, list: [Place; 32])
     ensures { λ r. ⌜ r ≤ 65536 ⌝ }
 {
     let numbered = print_number(output, filled, number);
-    let named = put(output, numbered, b" dump");
+    let named = blocks::put(output, numbered, b" dump");
     print_places(output, named, list)
 }
 
@@ -551,10 +536,10 @@ fn dump_rows(output: &mut [u8], filled: usize, lower: [Record; 128], higher: [Re
     requires { ⌜ (length (now output) ≡ 65536) × (filled ≤ 65536) ⌝ }
     ensures { λ r. ⌜ r ≤ 65536 ⌝ }
 {
-    let parted = put(output, filled, b" |");
+    let parted = blocks::put(output, filled, b" |");
     let some = print_rows(output, parted, lower, 0);
     let all = print_rows(output, some, higher, 128);
-    put(output, all, b"\n")
+    blocks::put(output, all, b"\n")
 }
 
 fn print_places(output: &mut [u8], filled: usize, list: [Place; 32]) -> usize
@@ -593,9 +578,9 @@ fn print(output: &mut [u8], filled: usize, number: u64, text: Text) -> usize
     ensures { λ r. ⌜ r ≤ 65536 ⌝ }
 {
     let after_number = print_number(output, filled, number);
-    let after_space = put(output, after_number, b" ");
+    let after_space = blocks::put(output, after_number, b" ");
     let after_text = print_text(output, after_space, text);
-    put(output, after_text, b"\n")
+    blocks::put(output, after_text, b"\n")
 }
 
 fn print_number(output: &mut [u8], filled: usize, number: u64) -> usize
@@ -604,7 +589,7 @@ fn print_number(output: &mut [u8], filled: usize, number: u64) -> usize
 {
     let mut digits = [0u8; 20];
     let count = io::decimal(number, &mut digits);
-    put(output, filled, &digits[..count])
+    blocks::put(output, filled, &digits[..count])
 }
 
 fn print_text(output: &mut [u8], filled: usize, text: Text) -> usize
@@ -612,32 +597,7 @@ fn print_text(output: &mut [u8], filled: usize, text: Text) -> usize
     ensures { λ r. ⌜ r ≤ 65536 ⌝ }
 {
     let bytes = text.bytes;
-    put_first(output, filled, bytes, text.len)
-}
-
-fn put_first(output: &mut [u8], at: usize, bytes: [u8; 640], len: usize) -> usize
-    requires { ⌜ (length (now output) ≡ 65536) × (at ≤ 65536) ⌝ }
-    ensures { λ r. ⌜ r ≤ 65536 ⌝ }
-{
-    let text: &[u8] = &bytes;
-    if len > 640 {
-        return at;
-    }
-    put(output, at, &text[..len])
-}
-
-// Bytes one after the other, as far as there is room, and the index after them.
-fn put(output: &mut [u8], at: usize, text: &[u8]) -> usize
-    requires { ⌜ (length (now output) ≡ 65536) × (at ≤ 65536) ⌝ }
-    ensures { λ r. ⌜ r ≤ 65536 ⌝ }
-{
-    let n = least(output.len() - at, text.len());
-    let mut i: usize = 0;
-    while i < n {
-        output[at + i] = text[i];
-        i += 1;
-    }
-    at + n
+    blocks::put_first(output, filled, &bytes, text.len)
 }
 
 // The block is written first where it might not hold one answer more.
@@ -677,15 +637,6 @@ fn written(output: &[u8], out: Out, number: u64) -> Out
         written: out.written,
         failed: true,
     }
-}
-
-fn least(a: usize, b: usize) -> usize
-    ensures { λ r. ⌜ (r ≤ a) × (r ≤ b) ⌝ }
-{
-    if a < b {
-        return a;
-    }
-    b
 }
 
 fn most(a: usize, b: usize) -> usize {
