@@ -1,5 +1,6 @@
 pub mod Law
 pub mod Bits
+pub mod Blocks
 pub mod Codec
 pub mod Profile
 pub mod Message
@@ -11,7 +12,6 @@ pub mod Places
 pub mod Records
 pub mod Sending
 pub mod Desk
-pub mod Blocks
 pub mod Lines
 pub mod Words
 pub mod Script

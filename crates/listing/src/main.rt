@@ -4,7 +4,6 @@
 ghost use mathlib.Core.Path.{_≡_};
 ghost use Prim.Native.Nat.{_+_, _^_, _≤_};
 ghost use lib.ListN.{length};
-use lines::Kept;
 use lines::Text;
 
 // What became of the answers: how much of the output block they fill, up to which line all are known to be written, and whether a write
@@ -19,7 +18,7 @@ struct Out {
 struct SoFar {
     number: u64,
     out: Out,
-    kept: Kept,
+    kept: blocks::Text,
 }
 
 // The longest line printed: a number of 20 digits, a space, 12 bytes and LF.
@@ -63,7 +62,7 @@ fn start() -> SoFar
             written: 0,
             failed: false,
         },
-        kept: lines::nothing_kept(),
+        kept: blocks::nothing_kept(),
     }
 }
 
@@ -93,10 +92,10 @@ fn feed(block: &[u8], output: &mut [u8], seen: SoFar) -> SoFar
             let text = whole(kept, &block[from..end]);
             out = print(output, out, number, text);
             number += 1;
-            kept = lines::nothing_kept();
+            kept = blocks::nothing_kept();
             from = end + 1;
         } else {
-            kept = lines::keep(kept, &block[from..]);
+            kept = blocks::keep(kept, &block[from..]);
             from = end;
         }
     }
@@ -108,11 +107,11 @@ fn feed(block: &[u8], output: &mut [u8], seen: SoFar) -> SoFar
 }
 
 // What a line says of which a start may have come before.
-fn whole(kept: Kept, rest: &[u8]) -> Text {
+fn whole(kept: blocks::Text, rest: &[u8]) -> Text {
     if kept.len == 0 {
         return lines::said(rest);
     }
-    lines::said_kept(lines::keep(kept, rest))
+    lines::said_kept(blocks::keep(kept, rest))
 }
 
 // What is left to answer and to write, and what is to be said of a failure.

@@ -5,6 +5,7 @@
 ghost use mathlib.Core.Path.{_≡_};
 ghost use Prim.Native.Nat.{_+_, _^_, _≤_};
 ghost use lib.ListN.{length};
+use blocks::Text;
 use desk::Desk;
 use desk::Event;
 use desk::Stepped;
@@ -15,7 +16,6 @@ use records::Marks;
 use records::Record;
 use script::Line;
 use script::Order;
-use words::Text;
 
 struct Rows {
     row: [Record; 128],
@@ -94,7 +94,7 @@ fn start() -> SoFar
     ensures { λ r. ⌜ (r .number ≡ 0) × (r .done .out .filled ≡ 0) ⌝ }
 {
     let state = first_state();
-    let kept = words::nothing_kept();
+    let kept = blocks::nothing_kept();
     SoFar {
         number: 0,
         done: Done {
@@ -163,10 +163,10 @@ fn feed(block: &[u8], output: &mut [u8], seen: SoFar) -> SoFar
             let before = number;
             from = end + 1;
             number += 1;
-            kept = words::nothing_kept();
+            kept = blocks::nothing_kept();
             done = carry_out(output, done, before, line);
         } else {
-            kept = words::keep(kept, &block[from..]);
+            kept = blocks::keep(kept, &block[from..]);
             from = end;
         }
     }
@@ -182,7 +182,7 @@ fn whole(kept: Text, rest: &[u8]) -> Line {
     if kept.len == 0 {
         return script::parse(rest);
     }
-    script::parse_kept(words::keep(kept, rest))
+    script::parse_kept(blocks::keep(kept, rest))
 }
 
 // What is left to answer and to write, and what is to be said of a failure.
@@ -293,7 +293,7 @@ fn not_understood(output: &mut [u8], filled: usize, number: u64, state: State) -
     requires { ⌜ (length (now output) ≡ 65536) × (filled ≤ 65536) ⌝ }
     ensures { λ r. ⌜ r .filled ≤ 65536 ⌝ }
 {
-    let text = words::keep(words::nothing_kept(), b"not understood");
+    let text = blocks::keep(blocks::nothing_kept(), b"not understood");
     silent(print(output, filled, number, text), state)
 }
 

@@ -1,27 +1,16 @@
 -- Texts: what is kept of pieces is kept of the whole, however many and however long. Assumes nothing.
-use Prim.Native.Nat.{ℕ, suc, _+_, _-_, _≤_, _<_, min}
+use Prim.Native.Nat.{ℕ, _+_, _-_, _≤_, _<_, min}
 use mathlib.Core.Path.{_≡_, refl, sym, ap, _∙_}
-use mathlib.Core.List.{List, [], _∷_, _++_, append-nil, append-assoc}
+use mathlib.Core.List.{List, [], _++_, append-nil, append-assoc}
 use mathlib.Core.Logic.{⊎-elim}
-use native.Mathlib.Nat.{add-zero, zero-add, add-suc, suc-add}
-use native.Mathlib.Numerals.{add-one}
+use native.Mathlib.Nat.{zero-add}
 use native.Mathlib.Omega.{arith}
-use lib.ListN.{length, getD, set, take, length-append}
-use lib.Seq.{sets, take-all, take-suc, take-length, take-append-le, take-append-add, length-take-le}
+use lib.ListN.{length, take, length-append, length-take, length-replicate}
+use lib.Seq.{sets, sets-eq, take-at, take-all, take-length, take-append-le, take-append-add, length-take-le}
 use Rattle.bits.proofs.SetLaws.{lt-or}
-use Rattle.words.specs.Texts.{noRoom, noText, textOf, roomFor, keepOf, Wrote}
-use Rattle.words.specs.declared.Text.{Text}
-
--- ---- bytes put one after the other
-
-sets-join : (l : List ℕ) (i : ℕ) (xs ys : List ℕ) → sets l i (xs ++ ys) ≡ sets (sets l i xs) (i + length xs) ys
-sets-join l i [] ys = rw add-zero
-sets-join l i (x ∷ xs) ys = sets-join (set l i x) (suc i) xs ys ∙ rw (add-suc, suc-add)
-
--- one byte more, as a loop going up puts it
-pub keep-turn : (l : List ℕ) (start i : ℕ) (piece : List ℕ) → i < length piece → sets l start (take (i + 1) piece) ≡ set (sets l start (take i piece)) (start + i) (getD piece i 0)
-keep-turn l start i piece h =
-    rw (add-one, take-suc piece i 0 h) (sets-join l start (take i piece) (getD piece i 0 ∷ []) ∙ rw (length-take-le i piece (omega arith)))
+use Rattle.blocks.proofs.BlockLaws.{sets-join}
+use Rattle.blocks.specs.Texts.{noRoom, noText, textOf, roomFor, keepOf, Wrote}
+use Rattle.blocks.specs.declared.Text.{Text}
 
 -- ---- a piece after a text
 
@@ -71,6 +60,16 @@ module _ (xs piece : List ℕ) where
 
       both-parts : {a b : ℕ} {p q : List ℕ} → a ≡ b → p ≡ q → _≡_ {A = Text} (record { len = a; bytes = p }) (record { len = b; bytes = q })
       both-parts e f = cc
+
+-- ---- what is kept of some bytes
+
+front : (xs : List ℕ) → length xs ≤ 640 → take (length xs) (sets noRoom 0 xs) ≡ xs
+unfolding noRoom
+front xs h = rw (sets-eq xs noRoom 0 (omega (arith, length-replicate {A = ℕ} 640 0))) (take-at xs _ (length xs) refl)
+
+pub kept-first : (p : List ℕ) → take (textOf p .len) (textOf p .bytes) ≡ take 640 p
+unfolding textOf
+kept-first p = front (take 640 p) (omega (arith, length-take 640 p))
 
 -- ---- what is written after a text
 

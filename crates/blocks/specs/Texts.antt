@@ -4,7 +4,7 @@ use mathlib.Core.Path.{_≡_}
 use mathlib.Core.List.{List, _++_}
 use lib.ListN.{length, take, replicate}
 use lib.Seq.{sets}
-use Rattle.words.specs.declared.Text.{Text}
+use Rattle.blocks.specs.declared.Text.{Text}
 
 unfoldable pub noRoom : List ℕ
 noRoom = replicate 640 0

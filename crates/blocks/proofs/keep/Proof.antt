@@ -1,4 +1,4 @@
--- `lines::keep` meets its contract. Assumes nothing.
+-- `blocks::keep` meets its contract. Assumes nothing.
 use Prim.Native.Nat.{_-_, _≤_}
 use mathlib.Core.Path.{_≡_, refl, sym}
 use native.Mathlib.Omega.{arith}
@@ -6,14 +6,13 @@ use denote.Ref.{now}
 use lib.ListN.{length, take}
 use lib.Seq.{sets}
 use borrow.Author.Needs.{needs}
-use Rattle.lines.proofs.KeepLaws.{keep-more}
-use Rattle.lines.specs.Keeping.{roomFor, keepOf}
-use Rattle.reading.proofs.ReadLaws.{start}
-use Rattle.lines.proofs.keep.Statement.{statement}
-use Rattle.lines.proofs.keep.Tie as tie
+use Rattle.blocks.proofs.BlockLaws.{put-turn}
+use Rattle.blocks.specs.Texts.{roomFor, keepOf}
+use Rattle.blocks.proofs.keep.Statement.{statement}
+use Rattle.blocks.proofs.keep.Tie as tie
 
 abbrev Inv-loop : tie.InvT-loop
-Inv-loop piece start bytes₀ n i₀ bytes i = (i ≤ n) × ((length bytes ≡ 518) × (bytes ≡ sets bytes₀ start (take i piece)))
+Inv-loop piece start bytes₀ n i₀ bytes i = (i ≤ n) × ((length bytes ≡ 640) × (bytes ≡ sets bytes₀ start (take i piece)))
 
 abbrev μ-loop : tie.MeasureT-loop
 μ-loop piece start bytes₀ n i₀ bytes i = n - i
@@ -43,7 +42,7 @@ loop-again : tie.Need-loop-again Inv-loop μ-loop
 loop-again c =
     let l = c .before .before in
     let a = l .before .before .before .before .args in
-    (search needs, (search needs, rw (l .loop .inv .1 .1) (sym (keep-more _ (a .kept .len) (l .loop .i) (now (a .piece)) (omega arith)))))
+    (search needs, (search needs, rw (l .loop .inv .1 .1) (sym (put-turn _ (a .kept .len) (l .loop .i) (now (a .piece)) (omega arith)))))
 
 add-t7 : tie.Need-add-t7 Inv-loop μ-loop
 add-t7 c = search needs
