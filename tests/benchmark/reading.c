@@ -1,8 +1,8 @@
 /*
- * Reads three messages through cad_read and through the independent model, which takes one bit at a time. Both are called in the same
- * way, each call with profile and value as bytes; the value area is not cleared between calls.
+ * Reads three messages through cad_read and through the plain reader (plain.rs), which takes one bit at a time. Both are called in the
+ * same way, each call with profile and value as bytes; the value area is not cleared between calls.
  *
- *   reading times ROUNDS              nanoseconds a message: medians with least and most, and the model's time over cad_read's
+ *   reading times ROUNDS              nanoseconds a message: medians with least and most, and the plain reader's time over cad_read's
  *   reading count SIDE MESSAGE TIMES  only reads, so that the instructions of TIMES reads can be counted from outside
  */
 #define _POSIX_C_SOURCE 199309L
@@ -13,14 +13,14 @@
 #include <string.h>
 #include <time.h>
 
-uint32_t model_cad_read(const uint8_t *profile, size_t profile_len, const uint8_t *message, size_t message_len, size_t bits,
+uint32_t plain_cad_read(const uint8_t *profile, size_t profile_len, const uint8_t *message, size_t message_len, size_t bits,
                         uint8_t *value, size_t value_len);
 
 typedef uint32_t reader(const uint8_t *, size_t, const uint8_t *, size_t, size_t, uint8_t *, size_t);
 
 enum { MESSAGES = 3, SIDES = 2, MOST_ROUNDS = 1000 };
 
-static reader *const sides[SIDES] = {cad_read, model_cad_read};
+static reader *const sides[SIDES] = {cad_read, plain_cad_read};
 
 static uint8_t profile[CAD_PROFILE_BYTES];
 
@@ -93,13 +93,13 @@ static int by_size(const void *one, const void *other)
 static void print_median(double *figures, int rounds)
 {
     qsort(figures, (size_t)rounds, sizeof *figures, by_size);
-    printf(" | %.1f (%.1f to %.1f)", figures[rounds / 2], figures[0], figures[rounds - 1]);
+    printf(" | %.2f (%.2f to %.2f)", figures[rounds / 2], figures[0], figures[rounds - 1]);
 }
 
 /* Both sides in turn, so that whatever else the host does falls on both. */
 static void print_times(int rounds)
 {
-    static double product[MOST_ROUNDS], model[MOST_ROUNDS], ratio[MOST_ROUNDS];
+    static double product[MOST_ROUNDS], plain[MOST_ROUNDS], ratio[MOST_ROUNDS];
     unsigned number;
     for (number = 0; number < MESSAGES; number++) {
         int round;
@@ -107,12 +107,12 @@ static void print_times(int rounds)
         read_it(1, number, messages[number].reads);
         for (round = 0; round < rounds; round++) {
             product[round] = nanoseconds(0, number);
-            model[round] = nanoseconds(1, number);
-            ratio[round] = model[round] / product[round];
+            plain[round] = nanoseconds(1, number);
+            ratio[round] = plain[round] / product[round];
         }
         printf("| %s | %lu", messages[number].name, (unsigned long)messages[number].bits);
         print_median(product, rounds);
-        print_median(model, rounds);
+        print_median(plain, rounds);
         print_median(ratio, rounds);
         printf(" |\n");
     }

@@ -1,5 +1,6 @@
 //! The product's `cad_read` and `cad_write` against the model's, on the same drawn inputs, whole
-//! outputs compared. The model's own files draw and answer; only the calls here are new.
+//! outputs compared. The model's own files draw and answer; only the calls here are new. The
+//! benchmark's plain reader is in the archive too, for its own comparison and its measuring.
 
 #[allow(dead_code)]
 #[path = "../model/bits.rs"]
@@ -22,6 +23,8 @@ pub mod layout;
 #[allow(dead_code)]
 #[path = "../model/message.rs"]
 pub mod message;
+#[path = "../benchmark/plain.rs"]
+pub mod plain;
 #[allow(dead_code)]
 #[path = "../model/profile.rs"]
 pub mod profile;

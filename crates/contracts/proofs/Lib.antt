@@ -1,5 +1,6 @@
 pub mod Law
 pub mod Bits
+pub mod Blocks
 pub mod Codec
 pub mod Profile
 pub mod Message

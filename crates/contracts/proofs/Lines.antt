@@ -1,8 +1,6 @@
 -- What the contracts of `lines` decide: any two outcomes that one allows are equal. Assumes nothing.
 use mathlib.Core.Path.{refl}
 use Rattle.lines.proofs.said as said
-use Rattle.lines.proofs.nothing_kept as nothing-kept
-use Rattle.lines.proofs.keep as keep
 use Rattle.lines.proofs.said_kept as said-kept
 use Rattle.lines.proofs.is_digit as is-digit
 use Rattle.lines.proofs.hex_digit as hex-digit
@@ -11,12 +9,6 @@ use Rattle.contracts.proofs.Law.{same-answer}
 
 pub decides-said : Decides said.ended (λ M. said.spec)
 decides-said = record { says = said.Reads.Learnt; is = refl; one = λ κs a x y v w. same-answer }
-
-pub decides-nothing-kept : Decides nothing-kept.ended (λ M. nothing-kept.spec)
-decides-nothing-kept = record { says = nothing-kept.Reads.Learnt; is = refl; one = λ κs a x y v w. same-answer }
-
-pub decides-keep : Decides keep.ended (λ M. keep.spec)
-decides-keep = record { says = keep.Reads.Learnt; is = refl; one = λ κs a x y v w. same-answer }
 
 pub decides-said-kept : Decides said-kept.ended (λ M. said-kept.spec)
 decides-said-kept = record { says = said-kept.Reads.Learnt; is = refl; one = λ κs a x y v w. same-answer }

@@ -1,19 +1,11 @@
 -- What the contracts of `words` decide: any two outcomes that one allows are equal. Assumes nothing.
 use mathlib.Core.Path.{refl}
-use Rattle.words.proofs.nothing_kept as nothing-kept
-use Rattle.words.proofs.keep as keep
 use Rattle.words.proofs.said as said
 use Rattle.words.proofs.said_refused as said-refused
 use Rattle.words.proofs.said_place as said-place
 use Rattle.words.proofs.said_record as said-record
 use Rattle.contracts.specs.Outcomes.{Decides}
 use Rattle.contracts.proofs.Law.{same-answer}
-
-pub decides-nothing-kept : Decides nothing-kept.ended (λ M. nothing-kept.spec)
-decides-nothing-kept = record { says = nothing-kept.Reads.Learnt; is = refl; one = λ κs a x y v w. same-answer }
-
-pub decides-keep : Decides keep.ended (λ M. keep.spec)
-decides-keep = record { says = keep.Reads.Learnt; is = refl; one = λ κs a x y v w. same-answer }
 
 pub decides-said : Decides said.ended (λ M. said.spec)
 decides-said = record { says = said.Reads.Learnt; is = refl; one = λ κs a x y v w. same-answer }

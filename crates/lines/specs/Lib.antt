@@ -1,4 +1,3 @@
 pub mod Shape
 pub mod Saying
-pub mod Keeping
 pub mod Parsing

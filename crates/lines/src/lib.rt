@@ -1,6 +1,6 @@
 // One line of the listing: from its bytes to what is printed after its number (document 01, "Bits and calls worked out").
 //
-// `said` equals `saidOf` for every line. Of a line that comes in pieces `keep` holds the first 518 bytes, one more than a line of the
+// `said` equals `saidOf` for every line. Of a line that comes in pieces the first 640 bytes are kept (`blocks`), more than a line of the
 // right shape has, and `said_kept` of these says what the whole line says, however long it is (proofs/KeepLaws).
 ghost use mathlib.Core.Path.{_≡_};
 ghost use mathlib.Core.List.{[]};
@@ -10,19 +10,12 @@ ghost use Rattle.profile.specs.Sample.{sample};
 ghost use Rattle.message.specs.Reading.{readOf};
 ghost use Rattle.lines.specs.Shape.{other, isDigit, hexOf, hexThen, afterDigits, lineOf};
 ghost use Rattle.lines.specs.Saying.{nameOf, refusedOf, answerOf, saidOf, textOf};
-ghost use Rattle.lines.specs.Keeping.{nothingKept, keepOf};
 ghost use Rattle.lines.specs.Parsing.{Parses};
 
 // The first `len` of the bytes; the others are zero.
 pub struct Text {
     pub len: usize,
     pub bytes: [u8; 12],
-}
-
-// The first `len` of the bytes are the start of a line.
-pub struct Kept {
-    pub len: usize,
-    pub bytes: [u8; 518],
 }
 
 // A line of the right shape, or not; its first `count` bytes are the message's.
@@ -45,62 +38,22 @@ pub fn said(line: &[u8]) -> Text
     refused(3)
 }
 
-// Nothing of a line is there yet.
-pub fn nothing_kept() -> Kept
-    ensures { λ r. ⌜ r ≡ nothingKept ⌝ }
-{
-    Kept {
-        len: 0,
-        bytes: [0; 518],
-    }
-}
-
-// One more piece of a line, as far as there is room.
-pub fn keep(kept: Kept, piece: &[u8]) -> Kept
-    ensures { λ r. ⌜ r ≡ keepOf kept (now (piece .entry)) ⌝ }
-{
-    let start = kept.len;
-    let mut bytes = kept.bytes;
-    let n = room_for(start, piece.len());
-    let mut i: usize = 0;
-    while i < n {
-        bytes[start + i] = piece[i];
-        i += 1;
-    }
-    Kept {
-        len: start + n,
-        bytes: bytes,
-    }
-}
-
 // What is printed for a line that came in pieces.
-pub fn said_kept(kept: Kept) -> Text
+pub fn said_kept(kept: blocks::Text) -> Text
     ensures { λ r. ⌜ r ≡ textOf (saidOf (take (kept .len) (kept .bytes))) ⌝ }
 {
     let bytes = kept.bytes;
     said_first(bytes, kept.len)
 }
 
-fn said_first(bytes: [u8; 518], len: usize) -> Text
+fn said_first(bytes: [u8; 640], len: usize) -> Text
     ensures { λ r. ⌜ r ≡ textOf (saidOf (take len bytes)) ⌝ }
 {
     let line: &[u8] = &bytes;
-    if len > 518 {
+    if len > 640 {
         return said(line);
     }
     said(&line[..len])
-}
-
-fn room_for(len: usize, more: usize) -> usize
-    ensures { λ r. ⌜ (r ≡ min (518 - len) more) × ((r ≤ 518 - len) × (r ≤ more)) ⌝ }
-{
-    if len >= 518 {
-        return 0;
-    }
-    if 518 - len < more {
-        return 518 - len;
-    }
-    more
 }
 
 // ---- what is printed

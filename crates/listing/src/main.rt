@@ -1,16 +1,24 @@
 // The listing program: for each line of standard input its number and what it says, on standard output (document 01, "Bits and calls
-// worked out"). All that is said of a line is `lines`' work; this reads and writes in blocks, numbers the lines, and finds their ends.
+// worked out"). All that is said of a line is `lines`' work; this reads and writes in blocks, numbers the lines, finds their ends, and says
+// on standard error what failed and after which line (docs/LISTING.md).
 ghost use mathlib.Core.Path.{_≡_};
 ghost use Prim.Native.Nat.{_+_, _^_, _≤_};
 ghost use lib.ListN.{length};
-use lines::Kept;
 use lines::Text;
 
-// How many lines were printed, how much of the output block is filled, and the start of a line whose end is still to come.
+// What became of the answers: how much of the output block they fill, up to which line all are known to be written, and whether a write
+// failed. After that no other is tried.
+struct Out {
+    filled: usize,
+    written: u64,
+    failed: bool,
+}
+
+// How many lines were answered, what became of the answers, and the start of a line whose end is still to come.
 struct SoFar {
     number: u64,
-    filled: usize,
-    kept: Kept,
+    out: Out,
+    kept: blocks::Text,
 }
 
 // The longest line printed: a number of 20 digits, a space, 12 bytes and LF.
@@ -22,162 +30,199 @@ fn main() {
     run(&mut input, &mut output);
 }
 
-// Block after block, up to 2 ^ 45 of them: a proved loop ends, and nothing says that the input does.
+// Block after block, up to 2 ^ 45 of them: a proved loop ends, and nothing says that the input does. A read that answers a negative number
+// failed; the input ends where one answers 0.
 fn run(input: &mut [u8], output: &mut [u8])
     requires { ⌜ (length (now input) ≡ 65536) × (length (now output) ≡ 65536) ⌝ }
 {
     let mut turns: u64 = 35184372088832;
+    let mut cut = false;
     let mut seen = start();
     while turns > 0 {
-        let n = io::count(libc::read(0, input), input);
+        let got = libc::read(0, input);
+        let n = io::count(got, input);
         if n == 0 {
+            cut = got < 0;
             turns = 0;
         } else {
             seen = feed(&input[..n], output, seen);
-            turns -= 1;
+            turns = left(turns, seen.out.failed);
         }
     }
-    finish(output, seen);
+    finish(output, seen, cut);
 }
 
 fn start() -> SoFar
-    ensures { λ r. ⌜ (r .number ≡ 0) × (r .filled ≡ 0) ⌝ }
+    ensures { λ r. ⌜ (r .number ≡ 0) × (r .out .filled ≡ 0) ⌝ }
 {
     SoFar {
         number: 0,
-        filled: 0,
-        kept: lines::nothing_kept(),
+        out: Out {
+            filled: 0,
+            written: 0,
+            failed: false,
+        },
+        kept: blocks::nothing_kept(),
     }
+}
+
+// How many blocks may still be read: none where nothing more can be written.
+fn left(turns: u64, failed: bool) -> u64
+    requires { ⌜ 1 ≤ turns ⌝ }
+    ensures { λ r. ⌜ r + 1 ≤ turns ⌝ }
+{
+    if failed {
+        return 0;
+    }
+    turns - 1
 }
 
 // The lines that end in a block, and the start of the next.
 fn feed(block: &[u8], output: &mut [u8], seen: SoFar) -> SoFar
-    requires { ⌜ (length (now output) ≡ 65536) × ((seen .filled ≤ 65536) × (seen .number + length (now block) ≤ 2 ^ 62)) ⌝ }
-    ensures { λ r. ⌜ (r .filled ≤ 65536) × (r .number ≤ seen .number + length (now (block .entry))) ⌝ }
+    requires { ⌜ (length (now output) ≡ 65536) × ((seen .out .filled ≤ 65536) × (seen .number + length (now block) ≤ 2 ^ 62)) ⌝ }
+    ensures { λ r. ⌜ (r .out .filled ≤ 65536) × (r .number ≤ seen .number + length (now (block .entry))) ⌝ }
 {
     let mut number = seen.number;
-    let mut filled = seen.filled;
+    let mut out = seen.out;
     let mut kept = seen.kept;
     let mut from: usize = 0;
     while from < block.len() {
-        let end = line_end(block, from);
+        let end = blocks::line_end(block, from);
         if end < block.len() {
             let text = whole(kept, &block[from..end]);
+            out = print(output, out, number, text);
             number += 1;
-            filled = print(output, filled, number, text);
-            kept = lines::nothing_kept();
+            kept = blocks::nothing_kept();
             from = end + 1;
         } else {
-            kept = lines::keep(kept, &block[from..]);
+            kept = blocks::keep(kept, &block[from..]);
             from = end;
         }
     }
     SoFar {
         number: number,
-        filled: filled,
+        out: out,
         kept: kept,
     }
 }
 
-// Where the line ends that stands at an index: at the next LF, or at the block's end.
-fn line_end(block: &[u8], from: usize) -> usize
-    requires { ⌜ from ≤ length (now block) ⌝ }
-    ensures { λ r. ⌜ (from ≤ r) × (r ≤ length (now (block .entry))) ⌝ }
-{
-    let mut i = from;
-    while i < block.len() {
-        if block[i] == 10 {
-            return i;
-        }
-        i += 1;
-    }
-    i
-}
-
 // What a line says of which a start may have come before.
-fn whole(kept: Kept, rest: &[u8]) -> Text {
+fn whole(kept: blocks::Text, rest: &[u8]) -> Text {
     if kept.len == 0 {
         return lines::said(rest);
     }
-    lines::said_kept(lines::keep(kept, rest))
+    lines::said_kept(blocks::keep(kept, rest))
 }
 
-// What is left: the last line may lack its LF.
-fn finish(output: &mut [u8], seen: SoFar)
-    requires { ⌜ (length (now output) ≡ 65536) × ((seen .filled ≤ 65536) × (seen .number ≤ 2 ^ 62)) ⌝ }
+// What is left to answer and to write, and what is to be said of a failure.
+fn finish(output: &mut [u8], seen: SoFar, cut: bool)
+    requires { ⌜ (length (now output) ≡ 65536) × ((seen .out .filled ≤ 65536) × (seen .number ≤ 2 ^ 62)) ⌝ }
 {
-    let filled = print_last(output, seen);
-    io::write_all(1, &output[..filled]);
+    let last = last_line(output, seen, cut);
+    let out = written(output, last.out, last.number);
+    if cut {
+        say(b"listing: reading failed after line ", last.number);
+    }
+    if out.failed {
+        say(b"listing: writing failed after line ", out.written);
+    }
 }
 
-fn print_last(output: &mut [u8], seen: SoFar) -> usize
-    requires { ⌜ (length (now output) ≡ 65536) × ((seen .filled ≤ 65536) × (seen .number ≤ 2 ^ 62)) ⌝ }
-    ensures { λ r. ⌜ r ≤ 65536 ⌝ }
+// The last line may lack its LF. Of a line that a failed read cut short nothing is said.
+fn last_line(output: &mut [u8], seen: SoFar, cut: bool) -> SoFar
+    requires { ⌜ (length (now output) ≡ 65536) × ((seen .out .filled ≤ 65536) × (seen .number ≤ 2 ^ 62)) ⌝ }
+    ensures { λ r. ⌜ r .out .filled ≤ 65536 ⌝ }
 {
     let kept = seen.kept;
-    if kept.len == 0 {
-        return seen.filled;
+    if cut {
+        return seen;
     }
-    print(output, seen.filled, seen.number + 1, lines::said_kept(kept))
+    if kept.len == 0 {
+        return seen;
+    }
+    let out = print(output, seen.out, seen.number, lines::said_kept(kept));
+    SoFar {
+        number: seen.number + 1,
+        out: out,
+        kept: kept,
+    }
 }
 
-// One line into the output block.
-fn print(output: &mut [u8], filled: usize, number: u64, text: Text) -> usize
+// A line on standard error.
+fn say(what: &[u8], number: u64) {
+    io::write_all(2, what);
+    io::print_decimal(2, number);
+    io::write_all(2, b"\n");
+}
+
+// The answer to a line into the output block, after those to `before` lines.
+fn print(output: &mut [u8], out: Out, before: u64, text: Text) -> Out
+    requires { ⌜ (length (now output) ≡ 65536) × ((out .filled ≤ 65536) × (before ≤ 2 ^ 62)) ⌝ }
+    ensures { λ r. ⌜ r .filled ≤ 65536 ⌝ }
+{
+    let room = with_room(output, out, before);
+    Out {
+        filled: put_line(output, room.filled, before + 1, text),
+        written: room.written,
+        failed: room.failed,
+    }
+}
+
+fn put_line(output: &mut [u8], filled: usize, number: u64, text: Text) -> usize
     requires { ⌜ (length (now output) ≡ 65536) × (filled ≤ 65536) ⌝ }
     ensures { λ r. ⌜ r ≤ 65536 ⌝ }
 {
     let bytes = text.bytes;
-    let from = with_room(output, filled);
-    let mut digits = [0u8; 20];
-    let count = io::decimal(number, &mut digits);
-    let after_number = put(output, from, &digits[..count]);
-    let after_space = put(output, after_number, b" ");
-    let after_text = put_first(output, after_space, bytes, text.len);
-    put(output, after_text, b"\n")
+    let after_number = put_number(output, filled, number);
+    let after_text = blocks::put_first(output, after_number, &bytes, text.len);
+    blocks::put(output, after_text, b"\n")
 }
 
-// Where the next line goes: the block is written first where it might not hold it.
-fn with_room(output: &[u8], filled: usize) -> usize
+fn put_number(output: &mut [u8], filled: usize, number: u64) -> usize
     requires { ⌜ (length (now output) ≡ 65536) × (filled ≤ 65536) ⌝ }
     ensures { λ r. ⌜ r ≤ 65536 ⌝ }
 {
-    if filled > 65536 - LONGEST {
-        io::write_all(1, &output[..filled]);
-        return 0;
-    }
-    filled
+    let mut digits = [0u8; 20];
+    let count = io::decimal(number, &mut digits);
+    let after_digits = blocks::put(output, filled, &digits[..count]);
+    blocks::put(output, after_digits, b" ")
 }
 
-fn put_first(output: &mut [u8], at: usize, bytes: [u8; 12], len: usize) -> usize
-    requires { ⌜ at ≤ length (now output) ⌝ }
-    ensures { λ r. ⌜ r ≤ length (now (output .entry)) ⌝ }
+// The block is written first where it might not hold one line more.
+fn with_room(output: &[u8], out: Out, number: u64) -> Out
+    requires { ⌜ (length (now output) ≡ 65536) × (out .filled ≤ 65536) ⌝ }
+    ensures { λ r. ⌜ r .filled ≤ 65536 ⌝ }
 {
-    let text: &[u8] = &bytes;
-    if len > 12 {
-        return at;
+    if out.filled > 65536 - LONGEST {
+        return written(output, out, number);
     }
-    put(output, at, &text[..len])
+    out
 }
 
-// Bytes one after the other, as far as there is room, and the index after them.
-fn put(output: &mut [u8], at: usize, text: &[u8]) -> usize
-    requires { ⌜ at ≤ length (now output) ⌝ }
-    ensures { λ r. ⌜ r ≤ length (now (output .entry)) ⌝ }
+// The block written, which has the last of the answers to `number` lines. It ends at a line's end, so a write that fails leaves the answers
+// of the blocks before it whole.
+fn written(output: &[u8], out: Out, number: u64) -> Out
+    requires { ⌜ (length (now output) ≡ 65536) × (out .filled ≤ 65536) ⌝ }
+    ensures { λ r. ⌜ r .filled ≤ 65536 ⌝ }
 {
-    let n = least(output.len() - at, text.len());
-    let mut i: usize = 0;
-    while i < n {
-        output[at + i] = text[i];
-        i += 1;
+    let filled = out.filled;
+    if out.failed {
+        return Out {
+            filled: 0,
+            written: out.written,
+            failed: true,
+        };
     }
-    at + n
-}
-
-fn least(a: usize, b: usize) -> usize
-    ensures { λ r. ⌜ (r ≤ a) × (r ≤ b) ⌝ }
-{
-    if a < b {
-        return a;
+    if io::write_all(1, &output[..filled]) {
+        return Out {
+            filled: 0,
+            written: number,
+            failed: false,
+        };
     }
-    b
+    Out {
+        filled: 0,
+        written: out.written,
+        failed: true,
+    }
 }

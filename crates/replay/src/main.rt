@@ -1,9 +1,11 @@
 // The replay program: a desk run from a script on standard input, one call a line, each answered in words on standard output
 // (docs/REPLAY.md). What a line asks for is `script`'s work, what an answer says `words`', and what a call does `desk`'s; this keeps the desk,
-// the records and the length of the output area from line to line, reads and writes in blocks, numbers the lines, and finds their ends.
+// the records and the length of the output area from line to line, reads and writes in blocks, numbers the lines, finds their ends, and says
+// on standard error what failed and after which line.
 ghost use mathlib.Core.Path.{_≡_};
 ghost use Prim.Native.Nat.{_+_, _^_, _≤_};
 ghost use lib.ListN.{length};
+use blocks::Text;
 use desk::Desk;
 use desk::Event;
 use desk::Stepped;
@@ -14,7 +16,6 @@ use records::Marks;
 use records::Record;
 use script::Line;
 use script::Order;
-use words::Text;
 
 struct Rows {
     row: [Record; 128],
@@ -29,9 +30,23 @@ struct State {
     room: usize,
 }
 
-// How much of the output block is filled, and the state after the lines so far.
-struct Done {
+// How much of the output block is filled, and the state after a line.
+struct Answered {
     filled: usize,
+    state: State,
+}
+
+// What became of the answers: how much of the output block they fill, up to which line all are known to be written, and whether a write
+// failed. After that no other is tried.
+struct Out {
+    filled: usize,
+    written: u64,
+    failed: bool,
+}
+
+// What became of the answers to the lines so far, and the state after them.
+struct Done {
+    out: Out,
     state: State,
 }
 
@@ -42,8 +57,8 @@ struct SoFar {
     kept: Text,
 }
 
-// The longest piece printed at once: a number of 20 digits, a space, 640 bytes and LF.
-const LONGEST: usize = 662;
+// The longest answer, a dump: a number of 20 digits, " dump", 32 places of 13 bytes, " |", 256 records of 32 and LF.
+const LONGEST: usize = 8636;
 
 fn main() {
     let mut input = io::large_buffer();
@@ -53,37 +68,56 @@ fn main() {
 
 // ---- the input
 
-// Block after block, up to 2 ^ 45 of them: a proved loop ends, and nothing says that the input does.
+// Block after block, up to 2 ^ 45 of them: a proved loop ends, and nothing says that the input does. A read that answers a negative number
+// failed; the input ends where one answers 0.
 fn run(input: &mut [u8], output: &mut [u8])
     requires { ⌜ (length (now input) ≡ 65536) × (length (now output) ≡ 65536) ⌝ }
 {
     let mut turns: u64 = 35184372088832;
+    let mut cut = false;
     let mut seen = start();
     while turns > 0 {
-        let n = io::count(libc::read(0, input), input);
+        let got = libc::read(0, input);
+        let n = io::count(got, input);
         if n == 0 {
+            cut = got < 0;
             turns = 0;
         } else {
             seen = feed(&input[..n], output, seen);
-            turns -= 1;
+            turns = left(turns, seen.done.out.failed);
         }
     }
-    finish(output, seen);
+    finish(output, seen, cut);
 }
 
 fn start() -> SoFar
-    ensures { λ r. ⌜ (r .number ≡ 0) × (r .done .filled ≡ 0) ⌝ }
+    ensures { λ r. ⌜ (r .number ≡ 0) × (r .done .out .filled ≡ 0) ⌝ }
 {
     let state = first_state();
-    let kept = words::nothing_kept();
+    let kept = blocks::nothing_kept();
     SoFar {
         number: 0,
         done: Done {
-            filled: 0,
+            out: Out {
+                filled: 0,
+                written: 0,
+                failed: false,
+            },
             state: state,
         },
         kept: kept,
     }
+}
+
+// How many blocks may still be read: none where nothing more can be written.
+fn left(turns: u64, failed: bool) -> u64
+    requires { ⌜ 1 ≤ turns ⌝ }
+    ensures { λ r. ⌜ r + 1 ≤ turns ⌝ }
+{
+    if failed {
+        return 0;
+    }
+    turns - 1
 }
 
 // The sample profile, no record, an area of 300 bytes.
@@ -115,23 +149,24 @@ fn no_rows() -> Rows {
 
 // The lines that end in a block, and the start of the next.
 fn feed(block: &[u8], output: &mut [u8], seen: SoFar) -> SoFar
-    requires { ⌜ (length (now output) ≡ 65536) × ((length (now block) ≤ 65536) × ((seen .done .filled ≤ 65536) × (seen .number + 65536 ≤ 2 ^ 62))) ⌝ }
-    ensures { λ r. ⌜ (r .done .filled ≤ 65536) × (r .number ≤ seen .number + 65536) ⌝ }
+    requires { ⌜ (length (now output) ≡ 65536) × ((length (now block) ≤ 65536) × ((seen .done .out .filled ≤ 65536) × (seen .number + 65536 ≤ 2 ^ 62))) ⌝ }
+    ensures { λ r. ⌜ (r .done .out .filled ≤ 65536) × (r .number ≤ seen .number + 65536) ⌝ }
 {
     let mut number = seen.number;
     let mut done = seen.done;
     let mut kept = seen.kept;
     let mut from: usize = 0;
     while from < block.len() {
-        let end = line_end(block, from);
+        let end = blocks::line_end(block, from);
         if end < block.len() {
             let line = whole(kept, &block[from..end]);
+            let before = number;
             from = end + 1;
             number += 1;
-            kept = words::nothing_kept();
-            done = carry_out(output, done, number, line);
+            kept = blocks::nothing_kept();
+            done = carry_out(output, done, before, line);
         } else {
-            kept = words::keep(kept, &block[from..]);
+            kept = blocks::keep(kept, &block[from..]);
             from = end;
         }
     }
@@ -142,59 +177,96 @@ fn feed(block: &[u8], output: &mut [u8], seen: SoFar) -> SoFar
     }
 }
 
-// Where the line ends that stands at an index: at the next LF, or at the block's end.
-fn line_end(block: &[u8], from: usize) -> usize
-    requires { ⌜ from ≤ length (now block) ⌝ }
-    ensures { λ r. ⌜ (from ≤ r) × (r ≤ length (now (block .entry))) ⌝ }
-{
-    let mut i = from;
-    while i < block.len() {
-        if block[i] == 10 {
-            return i;
-        }
-        i += 1;
-    }
-    i
-}
-
 // What a line asks for of which a start may have come before.
 fn whole(kept: Text, rest: &[u8]) -> Line {
     if kept.len == 0 {
         return script::parse(rest);
     }
-    script::parse_kept(words::keep(kept, rest))
+    script::parse_kept(blocks::keep(kept, rest))
 }
 
-// What is left: the last line may lack its LF.
-fn finish(output: &mut [u8], seen: SoFar)
-    requires { ⌜ (length (now output) ≡ 65536) × ((seen .done .filled ≤ 65536) × (seen .number ≤ 2 ^ 62)) ⌝ }
+// What is left to answer and to write, and what is to be said of a failure.
+fn finish(output: &mut [u8], seen: SoFar, cut: bool)
+    requires { ⌜ (length (now output) ≡ 65536) × ((seen .done .out .filled ≤ 65536) × (seen .number ≤ 2 ^ 62)) ⌝ }
 {
-    let filled = last_line(output, seen);
-    io::write_all(1, &output[..filled]);
+    let last = last_line(output, seen, cut);
+    let out = written(output, last.out, last.number);
+    if cut {
+        say(b"replay: reading failed after line ", last.number);
+    }
+    if out.failed {
+        say(b"replay: writing failed after line ", out.written);
+    }
 }
 
-fn last_line(output: &mut [u8], seen: SoFar) -> usize
-    requires { ⌜ (length (now output) ≡ 65536) × ((seen .done .filled ≤ 65536) × (seen .number ≤ 2 ^ 62)) ⌝ }
-    ensures { λ r. ⌜ r ≤ 65536 ⌝ }
+// How many lines there were, and what became of their answers.
+struct Last {
+    number: u64,
+    out: Out,
+}
+
+// The last line may lack its LF. A line that a failed read cut short is not carried out.
+fn last_line(output: &mut [u8], seen: SoFar, cut: bool) -> Last
+    requires { ⌜ (length (now output) ≡ 65536) × ((seen .done .out .filled ≤ 65536) × (seen .number ≤ 2 ^ 62)) ⌝ }
+    ensures { λ r. ⌜ r .out .filled ≤ 65536 ⌝ }
 {
     let kept = seen.kept;
     let done = seen.done;
-    if kept.len == 0 {
-        return done.filled;
+    let out = done.out;
+    if cut {
+        return Last {
+            number: seen.number,
+            out: out,
+        };
     }
+    if kept.len == 0 {
+        return Last {
+            number: seen.number,
+            out: out,
+        };
+    }
+    let number = seen.number + 1;
     let line = script::parse_kept(kept);
-    let last = carry_out(output, done, seen.number + 1, line);
-    last.filled
+    let last = carry_out(output, done, seen.number, line);
+    let after = last.out;
+    Last {
+        number: number,
+        out: after,
+    }
+}
+
+// A line on standard error.
+fn say(what: &[u8], number: u64) {
+    io::write_all(2, what);
+    io::print_decimal(2, number);
+    io::write_all(2, b"\n");
 }
 
 // ---- one line
 
-fn carry_out(output: &mut [u8], done: Done, number: u64, line: Line) -> Done
-    requires { ⌜ (length (now output) ≡ 65536) × (done .filled ≤ 65536) ⌝ }
+// The line after `before` lines.
+fn carry_out(output: &mut [u8], done: Done, before: u64, line: Line) -> Done
+    requires { ⌜ (length (now output) ≡ 65536) × ((done .out .filled ≤ 65536) × (before ≤ 2 ^ 62)) ⌝ }
+    ensures { λ r. ⌜ r .out .filled ≤ 65536 ⌝ }
+{
+    let state = done.state;
+    let room = with_room(output, done.out, before);
+    let answered = answer(output, room.filled, before + 1, state, line);
+    let after = answered.state;
+    Done {
+        out: Out {
+            filled: answered.filled,
+            written: room.written,
+            failed: room.failed,
+        },
+        state: after,
+    }
+}
+
+fn answer(output: &mut [u8], filled: usize, number: u64, state: State, line: Line) -> Answered
+    requires { ⌜ (length (now output) ≡ 65536) × (filled ≤ 65536) ⌝ }
     ensures { λ r. ⌜ r .filled ≤ 65536 ⌝ }
 {
-    let filled = done.filled;
-    let state = done.state;
     let order = line.order;
     match order {
         Order::Unknown => not_understood(output, filled, number, state),
@@ -208,20 +280,20 @@ fn carry_out(output: &mut [u8], done: Done, number: u64, line: Line) -> Done
 }
 
 // A line that prints nothing.
-fn silent(filled: usize, state: State) -> Done
+fn silent(filled: usize, state: State) -> Answered
     ensures { λ r. ⌜ r .filled ≡ filled ⌝ }
 {
-    Done {
+    Answered {
         filled: filled,
         state: state,
     }
 }
 
-fn not_understood(output: &mut [u8], filled: usize, number: u64, state: State) -> Done
+fn not_understood(output: &mut [u8], filled: usize, number: u64, state: State) -> Answered
     requires { ⌜ (length (now output) ≡ 65536) × (filled ≤ 65536) ⌝ }
     ensures { λ r. ⌜ r .filled ≤ 65536 ⌝ }
 {
-    let text = words::keep(words::nothing_kept(), b"not understood");
+    let text = blocks::keep(blocks::nothing_kept(), b"not understood");
     silent(print(output, filled, number, text), state)
 }
 
@@ -235,7 +307,7 @@ fn call(
     state: State,
     line: Line,
     event: Event,
-) -> Done
+) -> Answered
     requires { ⌜ (length (now output) ≡ 65536) × (filled ≤ 65536) ⌝ }
     ensures { λ r. ⌜ r .filled ≤ 65536 ⌝ }
 {
@@ -263,7 +335,7 @@ fn called(
     line: Line,
     event: Event,
     area: &mut [u8],
-) -> Done
+) -> Answered
     requires { ⌜ (length (now output) ≡ 65536) × (filled ≤ 65536) ⌝ }
     ensures { λ r. ⌜ r .filled ≤ 65536 ⌝ }
 {
@@ -332,7 +404,7 @@ fn marked_if(r: Record, mark: bool) -> Record {
 // ---- what is set
 
 // A new desk, or `refused 1` and the old one.
-fn open(output: &mut [u8], filled: usize, number: u64, state: State, line: Line) -> Done
+fn open(output: &mut [u8], filled: usize, number: u64, state: State, line: Line) -> Answered
     requires { ⌜ (length (now output) ≡ 65536) × (filled ≤ 65536) ⌝ }
     ensures { λ r. ⌜ r .filled ≤ 65536 ⌝ }
 {
@@ -436,7 +508,7 @@ fn with_place(list: [Place; 32], i: usize, place: Place) -> Places {
 
 // ---- a dump
 
-fn dump(output: &mut [u8], filled: usize, number: u64, state: State) -> Done
+fn dump(output: &mut [u8], filled: usize, number: u64, state: State) -> Answered
     requires { ⌜ (length (now output) ≡ 65536) × (filled ≤ 65536) ⌝ }
     ensures { λ r. ⌜ r .filled ≤ 65536 ⌝ }
 {
@@ -456,7 +528,7 @@ fn dump_places(output: &mut [u8], filled: usize, number: u64, list: [Place; 32])
     ensures { λ r. ⌜ r ≤ 65536 ⌝ }
 {
     let numbered = print_number(output, filled, number);
-    let named = put(output, numbered, b" dump");
+    let named = blocks::put(output, numbered, b" dump");
     print_places(output, named, list)
 }
 
@@ -464,10 +536,10 @@ fn dump_rows(output: &mut [u8], filled: usize, lower: [Record; 128], higher: [Re
     requires { ⌜ (length (now output) ≡ 65536) × (filled ≤ 65536) ⌝ }
     ensures { λ r. ⌜ r ≤ 65536 ⌝ }
 {
-    let parted = put(output, filled, b" |");
+    let parted = blocks::put(output, filled, b" |");
     let some = print_rows(output, parted, lower, 0);
     let all = print_rows(output, some, higher, 128);
-    put(output, all, b"\n")
+    blocks::put(output, all, b"\n")
 }
 
 fn print_places(output: &mut [u8], filled: usize, list: [Place; 32]) -> usize
@@ -506,9 +578,9 @@ fn print(output: &mut [u8], filled: usize, number: u64, text: Text) -> usize
     ensures { λ r. ⌜ r ≤ 65536 ⌝ }
 {
     let after_number = print_number(output, filled, number);
-    let after_space = put(output, after_number, b" ");
+    let after_space = blocks::put(output, after_number, b" ");
     let after_text = print_text(output, after_space, text);
-    put(output, after_text, b"\n")
+    blocks::put(output, after_text, b"\n")
 }
 
 fn print_number(output: &mut [u8], filled: usize, number: u64) -> usize
@@ -517,7 +589,7 @@ fn print_number(output: &mut [u8], filled: usize, number: u64) -> usize
 {
     let mut digits = [0u8; 20];
     let count = io::decimal(number, &mut digits);
-    put(output, filled, &digits[..count])
+    blocks::put(output, filled, &digits[..count])
 }
 
 fn print_text(output: &mut [u8], filled: usize, text: Text) -> usize
@@ -525,53 +597,46 @@ fn print_text(output: &mut [u8], filled: usize, text: Text) -> usize
     ensures { λ r. ⌜ r ≤ 65536 ⌝ }
 {
     let bytes = text.bytes;
-    put_first(output, filled, bytes, text.len)
+    blocks::put_first(output, filled, &bytes, text.len)
 }
 
-fn put_first(output: &mut [u8], at: usize, bytes: [u8; 640], len: usize) -> usize
-    requires { ⌜ (length (now output) ≡ 65536) × (at ≤ 65536) ⌝ }
-    ensures { λ r. ⌜ r ≤ 65536 ⌝ }
+// The block is written first where it might not hold one answer more.
+fn with_room(output: &[u8], out: Out, number: u64) -> Out
+    requires { ⌜ (length (now output) ≡ 65536) × (out .filled ≤ 65536) ⌝ }
+    ensures { λ r. ⌜ r .filled ≤ 65536 ⌝ }
 {
-    let text: &[u8] = &bytes;
-    if len > 640 {
-        return at;
+    if out.filled > 65536 - LONGEST {
+        return written(output, out, number);
     }
-    put(output, at, &text[..len])
+    out
 }
 
-// Bytes one after the other, and the index after them; the block is written first where it might not hold them.
-fn put(output: &mut [u8], filled: usize, text: &[u8]) -> usize
-    requires { ⌜ (length (now output) ≡ 65536) × (filled ≤ 65536) ⌝ }
-    ensures { λ r. ⌜ r ≤ 65536 ⌝ }
+// The block written, which has the last of the answers to `number` lines. It ends at a line's end, so a write that fails leaves the answers
+// of the blocks before it whole.
+fn written(output: &[u8], out: Out, number: u64) -> Out
+    requires { ⌜ (length (now output) ≡ 65536) × (out .filled ≤ 65536) ⌝ }
+    ensures { λ r. ⌜ r .filled ≤ 65536 ⌝ }
 {
-    let at = with_room(output, filled);
-    let n = least(output.len() - at, text.len());
-    let mut i: usize = 0;
-    while i < n {
-        output[at + i] = text[i];
-        i += 1;
+    let filled = out.filled;
+    if out.failed {
+        return Out {
+            filled: 0,
+            written: out.written,
+            failed: true,
+        };
     }
-    at + n
-}
-
-fn with_room(output: &[u8], filled: usize) -> usize
-    requires { ⌜ (length (now output) ≡ 65536) × (filled ≤ 65536) ⌝ }
-    ensures { λ r. ⌜ r ≤ 65536 ⌝ }
-{
-    if filled > 65536 - LONGEST {
-        io::write_all(1, &output[..filled]);
-        return 0;
+    if io::write_all(1, &output[..filled]) {
+        return Out {
+            filled: 0,
+            written: number,
+            failed: false,
+        };
     }
-    filled
-}
-
-fn least(a: usize, b: usize) -> usize
-    ensures { λ r. ⌜ (r ≤ a) × (r ≤ b) ⌝ }
-{
-    if a < b {
-        return a;
+    Out {
+        filled: 0,
+        written: out.written,
+        failed: true,
     }
-    b
 }
 
 fn most(a: usize, b: usize) -> usize {

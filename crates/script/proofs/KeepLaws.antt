@@ -20,14 +20,14 @@ use Rattle.lines.specs.Shape.{isDigit, hexOf, isHex}
 use Rattle.script.specs.Shape.{startsWith, noNumber, numberIf, digitsThen, numberAt, noRow, noNumbers, numbersFrom, numbersAt, noHex, hexThen, hexAt}
 use Rattle.script.specs.Profiles.{pairsIn}
 use Rattle.script.specs.Lines.{when, recordOrder, setUpOrder, rejectOrder, cancelOrder, outOrder, placeOrder, unplaceOrder, plainLine, messageLine, postLine, profileLine, orderOf, lineOf}
-use Rattle.words.specs.Texts.{noRoom, noText, textOf, keepOf}
+use Rattle.blocks.specs.Texts.{noText, textOf, keepOf}
 use Rattle.script.specs.declared.Line.{Line}
 use Rattle.script.specs.declared.Order.{Order}
 use Rattle.script.specs.declared.Order.the-variants as order
 use Rattle.script.specs.declared.shape.Hex.{Hex}
 use Rattle.script.specs.declared.shape.Number.{Number}
 use Rattle.script.specs.declared.shape.Numbers.{Numbers}
-use Rattle.words.proofs.TextLaws.{keep-text}
+use Rattle.blocks.proofs.TextLaws.{keep-text, kept-first}
 
 -- ---- a number ends within ten bytes
 
@@ -224,10 +224,6 @@ line-kept l = ⊎-elim long short (lt-or 640 (length l))
     short : length l ≤ 640 → lineOf (take 640 l) ≡ lineOf l
     short h = rw (take-all 640 l h)
 
-front : (xs : List ℕ) → length xs ≤ 640 → take (length xs) (sets noRoom 0 xs) ≡ xs
-unfolding noRoom
-front xs h = rw (sets-eq xs noRoom 0 (omega (arith, length-replicate {A = ℕ} 640 0))) (take-at xs _ (length xs) refl)
-
 pub kept-none : noText ≡ textOf []
 unfolding noText textOf
 kept-none = refl
@@ -236,8 +232,4 @@ pub kept-more : (p piece : List ℕ) → keepOf (textOf p) piece ≡ textOf (p +
 kept-more p piece = keep-text p piece
 
 pub kept-asks : (p : List ℕ) → lineOf (take (textOf p .len) (textOf p .bytes)) ≡ lineOf p
-unfolding textOf
-kept-asks p = rw (front (take 640 p) (few p)) (line-kept p)
-  where
-    few : (p : List ℕ) → length (take 640 p) ≤ 640
-    few p = omega (arith, length-take 640 p)
+kept-asks p = ap (λ (l : List ℕ). lineOf l) (kept-first p) ∙ line-kept p

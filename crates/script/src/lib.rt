@@ -1,19 +1,19 @@
 // One line of a desk script (docs/REPLAY.md): from its bytes to what it asks for.
 //
-// `parse` equals `lineOf` for every line. Of a line that comes in pieces the first 640 bytes are kept (`words`), and `parse_kept` of these
+// `parse` equals `lineOf` for every line. Of a line that comes in pieces the first 640 bytes are kept (`blocks`), and `parse_kept` of these
 // is what the whole line asks for, however long it is (proofs/KeepLaws). The files: shape (keyword, numbers, hex), orders (the lines that
 // are numbers alone), profiles (the profile of a `profile` line).
 ghost use mathlib.Core.Path.{_≡_};
 ghost use Rattle.script.specs.Shape.{numbersAt};
 ghost use lib.ListN.{take};
 ghost use Rattle.script.specs.Lines.{plainLine, messageLine, postLine, profileLine, orderOf, lineOf};
+use blocks::Text;
 use desk::Event;
 use places::Place;
 use profile::Profile;
 use records::Record;
 use shape::Hex;
 use shape::Numbers;
-use words::Text;
 
 mod orders;
 mod profiles;

@@ -6,10 +6,10 @@ use mathlib.Core.List.{List, [], _∷_, _++_}
 use native.Mathlib.Nat.{pow-suc, one-le-pow, mul-div-cancel}
 use native.Mathlib.Omega.{arith}
 use lib.ListN.{getD}
-use Rattle.words.specs.Texts.{Wrote}
+use Rattle.blocks.specs.Texts.{Wrote}
 use Rattle.words.specs.Words.{digitIn, shown, digitIf, digitsFrom, hexPair, hexFrom}
-use Rattle.words.specs.declared.Text.{Text}
-use Rattle.words.proofs.TextLaws.{wrote-join, wrote-none, wrote-as}
+use Rattle.blocks.specs.declared.Text.{Text}
+use Rattle.blocks.proofs.TextLaws.{wrote-join, wrote-none, wrote-as}
 
 pub power-some : (k : ℕ) → 0 < 10 ^ k
 power-some k = one-le-pow k 10 (omega arith)

@@ -1,53 +1,15 @@
-// Bytes one after the other, of which the first 640 are kept, and what is put there: numbers and bytes in hex.
+// What is put after a text: bytes, numbers, and bytes in hex.
 ghost use mathlib.Core.Path.{_≡_};
 ghost use Prim.Native.Nat.{_+_, _-_, _*_, _/_, _%_, _<_, _≤_, min};
 ghost use lib.ListN.{getD};
-ghost use Rattle.words.specs.Texts.{noText, keepOf, Wrote};
+ghost use Rattle.blocks.specs.Texts.{Wrote};
 ghost use Rattle.words.specs.Words.{shown, digitIf, decimalOf, hexDigit, hexPair, messageHex, fieldOf};
-use crate::Text;
-
-pub(crate) fn no_text() -> Text
-    ensures { λ r. ⌜ r ≡ noText ⌝ }
-{
-    Text {
-        len: 0,
-        bytes: [0; 640],
-    }
-}
-
-pub(crate) fn kept(text: Text, piece: &[u8]) -> Text
-    ensures { λ r. ⌜ r ≡ keepOf text (now (piece .entry)) ⌝ }
-{
-    let start = text.len;
-    let mut bytes = text.bytes;
-    let n = room_for(start, piece.len());
-    let mut i: usize = 0;
-    while i < n {
-        bytes[start + i] = piece[i];
-        i += 1;
-    }
-    Text {
-        len: start + n,
-        bytes: bytes,
-    }
-}
-
-fn room_for(len: usize, more: usize) -> usize
-    ensures { λ r. ⌜ (r ≡ min (640 - len) more) × ((r ≤ 640 - len) × (r ≤ more)) ⌝ }
-{
-    if len >= 640 {
-        return 0;
-    }
-    if 640 - len < more {
-        return 640 - len;
-    }
-    more
-}
+use blocks::Text;
 
 pub(crate) fn add(text: Text, piece: &[u8]) -> Text
     ensures { λ r. ⌜ Wrote text r (now (piece .entry)) ⌝ }
 {
-    kept(text, piece)
+    blocks::keep(text, piece)
 }
 
 // ---- numbers in decimal

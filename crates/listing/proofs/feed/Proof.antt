@@ -7,12 +7,12 @@ use Rattle.listing.proofs.feed.Statement.{statement}
 use Rattle.listing.proofs.feed.Tie as tie
 
 abbrev Inv-loop : tie.InvT-loop
-Inv-loop block output₀ number₀ filled₀ kept₀ from₀ output number filled kept from =
+Inv-loop block output₀ number₀ out₀ kept₀ from₀ output number out kept from =
     (from ≤ length block)
-    × ((number ≤ number₀ + from) × ((filled ≤ 65536) × (length output ≡ length output₀)))
+    × ((number ≤ number₀ + from) × ((out .filled ≤ 65536) × (length output ≡ length output₀)))
 
 abbrev μ-loop : tie.MeasureT-loop
-μ-loop block output₀ number₀ filled₀ kept₀ from₀ output number filled kept from = length block - from
+μ-loop block output₀ number₀ out₀ kept₀ from₀ output number out kept from = length block - from
 
 loop-holds : tie.Need-loop-holds Inv-loop μ-loop
 loop-holds c = search needs
@@ -32,11 +32,11 @@ part-whole-end c = search needs
 whole-requires : tie.Need-whole-requires Inv-loop μ-loop
 whole-requires c κs = search needs
 
-add-number : tie.Need-add-number Inv-loop μ-loop
-add-number c = search needs
-
 print-requires : tie.Need-print-requires Inv-loop μ-loop
 print-requires c κs = search needs
+
+add-number : tie.Need-add-number Inv-loop μ-loop
+add-number c = search needs
 
 nothing-kept-requires : tie.Need-nothing-kept-requires Inv-loop μ-loop
 nothing-kept-requires c κs = search needs
@@ -86,8 +86,8 @@ feed-spec =
     part-whole-start
     part-whole-end
     whole-requires
-    add-number
     print-requires
+    add-number
     nothing-kept-requires
     add-from
     loop-less

@@ -7,12 +7,12 @@ use Rattle.listing.proofs.run.Statement.{statement}
 use Rattle.listing.proofs.run.Tie as tie
 
 abbrev Inv-loop : tie.InvT-loop
-Inv-loop input₀ output₀ turns₀ seen₀ input output turns seen =
-    (seen .filled ≤ 65536)
+Inv-loop input₀ output₀ turns₀ cut₀ seen₀ input output turns cut seen =
+    (seen .out .filled ≤ 65536)
     × ((seen .number + turns * 65536 ≤ 2 ^ 62) × ((length input ≡ length input₀) × (length output ≡ length output₀)))
 
 abbrev μ-loop : tie.MeasureT-loop
-μ-loop input₀ output₀ turns₀ seen₀ input output turns seen = turns
+μ-loop input₀ output₀ turns₀ cut₀ seen₀ input output turns cut seen = turns
 
 start-requires : tie.Need-start-requires Inv-loop μ-loop
 start-requires c κs = search needs
@@ -41,8 +41,8 @@ slice-aggregate-feed c = search needs
 feed-requires : tie.Need-feed-requires Inv-loop μ-loop
 feed-requires c κs = search needs
 
-sub-turns : tie.Need-sub-turns Inv-loop μ-loop
-sub-turns c = search needs
+left-requires : tie.Need-left-requires Inv-loop μ-loop
+left-requires c κs = search needs
 
 loop-less-2 : tie.Need-loop-less-2 Inv-loop μ-loop
 loop-less-2 c = search needs
@@ -77,7 +77,7 @@ run-spec =
     slice-reshare-prefix-feed
     slice-aggregate-feed
     feed-requires
-    sub-turns
+    left-requires
     loop-less-2
     loop-again-2
     finish-requires

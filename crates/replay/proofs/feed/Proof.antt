@@ -11,7 +11,7 @@ use Rattle.replay.proofs.feed.Tie as tie
 abbrev Inv-loop : tie.InvT-loop
 Inv-loop block output₀ number₀ done₀ kept₀ from₀ output number done kept from =
     (from ≤ length block)
-    × ((number ≤ number₀ + from) × ((done .filled ≤ 65536) × (length output ≡ length output₀)))
+    × ((number ≤ number₀ + from) × ((done .out .filled ≤ 65536) × (length output ≡ length output₀)))
 
 abbrev μ-loop : tie.MeasureT-loop
 μ-loop block output₀ number₀ done₀ kept₀ from₀ output number done kept from = length block - from

@@ -1,19 +1,19 @@
 -- `replay::run` meets its contract. Assumes nothing.
 use Prim.Native.Nat.{_+_, _*_, _^_, _≤_}
 use mathlib.Core.Path.{_≡_}
-use native.Mathlib.Omega.{arith}
 use lib.ListN.{length}
+use native.Mathlib.Omega.{arith}
 use borrow.Author.Needs.{needs}
 use Rattle.replay.proofs.run.Statement.{statement}
 use Rattle.replay.proofs.run.Tie as tie
 
 abbrev Inv-loop : tie.InvT-loop
-Inv-loop input₀ output₀ turns₀ seen₀ input output turns seen =
-    (seen .done .filled ≤ 65536)
+Inv-loop input₀ output₀ turns₀ cut₀ seen₀ input output turns cut seen =
+    (seen .done .out .filled ≤ 65536)
     × ((seen .number + turns * 65536 ≤ 2 ^ 62) × ((length input ≡ length input₀) × (length output ≡ length output₀)))
 
 abbrev μ-loop : tie.MeasureT-loop
-μ-loop input₀ output₀ turns₀ seen₀ input output turns seen = turns
+μ-loop input₀ output₀ turns₀ cut₀ seen₀ input output turns cut seen = turns
 
 start-requires : tie.Need-start-requires Inv-loop μ-loop
 start-requires c κs = search needs
@@ -42,16 +42,16 @@ slice-aggregate-feed c = search needs
 feed-requires : tie.Need-feed-requires Inv-loop μ-loop
 feed-requires c κs = search needs
 
-sub-turns : tie.Need-sub-turns Inv-loop μ-loop
-sub-turns c = search needs
+left-requires : tie.Need-left-requires Inv-loop μ-loop
+left-requires c κs = search needs
 
 loop-less-2 : tie.Need-loop-less-2 Inv-loop μ-loop
 loop-less-2 c = search needs
 
 loop-again-2 : tie.Need-loop-again-2 Inv-loop μ-loop
 loop-again-2 c = (
-  c .before .before .feed .ensures .0,
-  (omega (arith, c .before .before .feed .ensures .1, c .before .before .before .before .before .before .before .before .before .before .before .before .before .loop .inv .1 .0, c .before .before .before .before .before .before .before .before .before .before .before .before .before .loop .inv .1 .1 .0), (omega (arith, c .before .before .before .before .before .before .before .before .before .before .before .before .before .loop .inv .1 .1 .0), omega (arith, c .before .before .before .before .before .before .before .before .before .before .before .before .before .loop .inv .1 .1 .1))),
+  c .before .before .before .feed .ensures .0,
+  (omega (arith, c .left .ensures, c .before .before .before .feed .ensures .1, c .before .before .before .before .before .before .before .before .before .before .before .before .before .before .loop .inv .1 .0), (omega (arith, c .before .before .before .before .before .before .before .before .before .before .before .before .before .before .loop .inv .1 .1 .0), omega (arith, c .before .before .before .before .before .before .before .before .before .before .before .before .before .before .loop .inv .1 .1 .1))),
 )
 
 finish-requires : tie.Need-finish-requires Inv-loop μ-loop
@@ -81,7 +81,7 @@ run-spec =
     slice-reshare-prefix-feed
     slice-aggregate-feed
     feed-requires
-    sub-turns
+    left-requires
     loop-less-2
     loop-again-2
     finish-requires

@@ -1,7 +1,7 @@
 -- Written by tools/proofs from tools/words.conf. `words::answers::ack_hex` meets its contract. Assumes nothing.
 use borrow.Author.Needs.{needs}
 use borrow.Author.Tests.{lt-ltb, le-ltb}
-use Rattle.words.proofs.TextLaws.{wrote-none, wrote-join}
+use Rattle.blocks.proofs.TextLaws.{wrote-none, wrote-join}
 use Rattle.words.specs.Words.{ackHex}
 use Rattle.words.proofs.answers.ack_hex.Statement.{statement}
 use Rattle.words.proofs.answers.ack_hex.Tie as tie

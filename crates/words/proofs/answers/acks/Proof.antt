@@ -1,6 +1,6 @@
 -- Written by tools/proofs from tools/words.conf. `words::answers::acks` meets its contract. Assumes nothing.
 use borrow.Author.Needs.{needs}
-use Rattle.words.proofs.TextLaws.{wrote-join}
+use Rattle.blocks.proofs.TextLaws.{wrote-join}
 use Rattle.words.specs.Words.{acksWords}
 use Rattle.words.proofs.answers.acks.Statement.{statement}
 use Rattle.words.proofs.answers.acks.Tie as tie

@@ -1,6 +1,6 @@
 -- Written by tools/proofs from tools/words.conf. `words::answers::all_bits` meets its contract. Assumes nothing.
 use borrow.Author.Needs.{needs}
-use Rattle.words.proofs.TextLaws.{wrote-join}
+use Rattle.blocks.proofs.TextLaws.{wrote-join}
 use Rattle.words.proofs.answers.all_bits.Statement.{statement}
 use Rattle.words.proofs.answers.all_bits.Tie as tie
 

@@ -1,6 +1,6 @@
 -- Written by tools/proofs from tools/words.conf. `words::answers::place_part` meets its contract. Assumes nothing.
 use borrow.Author.Needs.{needs}
-use Rattle.words.proofs.TextLaws.{wrote-none, wrote-join}
+use Rattle.blocks.proofs.TextLaws.{wrote-none, wrote-join}
 use Rattle.words.specs.Words.{placeWords}
 use Rattle.words.proofs.answers.place_part.Statement.{statement}
 use Rattle.words.proofs.answers.place_part.Tie as tie

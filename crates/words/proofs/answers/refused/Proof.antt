@@ -1,6 +1,6 @@
 -- Written by tools/proofs from tools/words.conf. `words::answers::refused` meets its contract. Assumes nothing.
 use borrow.Author.Needs.{needs}
-use Rattle.words.proofs.TextLaws.{wrote-join}
+use Rattle.blocks.proofs.TextLaws.{wrote-join}
 use Rattle.words.specs.Words.{refusedOf}
 use Rattle.words.proofs.answers.refused.Statement.{statement}
 use Rattle.words.proofs.answers.refused.Tie as tie

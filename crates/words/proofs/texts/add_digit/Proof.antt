@@ -1,6 +1,6 @@
 -- Written by tools/proofs from tools/words.conf. `words::texts::add_digit` meets its contract. Assumes nothing.
 use borrow.Author.Needs.{needs}
-use Rattle.words.proofs.TextLaws.{wrote-none}
+use Rattle.blocks.proofs.TextLaws.{wrote-none}
 use Rattle.words.specs.Words.{digitIf}
 use Rattle.words.proofs.texts.add_digit.Statement.{statement}
 use Rattle.words.proofs.texts.add_digit.Tie as tie

@@ -1,6 +1,6 @@
 -- Written by tools/proofs from tools/words.conf. `words::texts::add_field` meets its contract. Assumes nothing.
 use borrow.Author.Needs.{needs}
-use Rattle.words.proofs.TextLaws.{wrote-join}
+use Rattle.blocks.proofs.TextLaws.{wrote-join}
 use Rattle.words.specs.Words.{fieldOf}
 use Rattle.words.proofs.texts.add_field.Statement.{statement}
 use Rattle.words.proofs.texts.add_field.Tie as tie

@@ -4,7 +4,7 @@ use mathlib.Core.Path.{_≡_}
 use native.Mathlib.Omega.{arith}
 use borrow.Author.Needs.{needs}
 use Rattle.profile.specs.Counting.{one}
-use Rattle.words.proofs.TextLaws.{Yet}
+use Rattle.blocks.proofs.TextLaws.{Yet}
 use Rattle.words.proofs.WordLaws.{byte-turn, bytes-over}
 use Rattle.words.specs.Words.{hexFrom, messageHex}
 use Rattle.words.proofs.texts.add_message.Statement.{statement}
