@@ -1,3 +1,4 @@
 pub mod ShapeLaws
 pub mod SayLaws
 pub mod KeepLaws
+pub mod NameLaws

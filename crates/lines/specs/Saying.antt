@@ -12,7 +12,7 @@ use Rattle.message.specs.declared.Value.{Value}
 use Rattle.lines.specs.Shape.{Line, good, other, lineOf}
 use Rattle.lines.specs.declared.Text.{Text}
 
--- the name of a message of PDU type t
+-- the name of a message of PDU type t: every type that is carried has one (proofs/NameLaws)
 unfoldable pub nameOf : ℕ → List ℕ
 nameOf t =
     -- ACTIVATE
@@ -30,7 +30,8 @@ nameOf t =
     -- DIVERT
     (cond (eqb t 15) (68 ∷ 73 ∷ 86 ∷ 69 ∷ 82 ∷ 84 ∷ [])
     -- DIVERTED
-    (68 ∷ 73 ∷ 86 ∷ 69 ∷ 82 ∷ 84 ∷ 69 ∷ 68 ∷ [])))))))
+    (cond (eqb t 16) (68 ∷ 73 ∷ 86 ∷ 69 ∷ 82 ∷ 84 ∷ 69 ∷ 68 ∷ [])
+    [])))))))
 
 -- a number below 256 in decimal
 abbrev pub decimalOf : ℕ → List ℕ
@@ -55,6 +56,6 @@ sayOf other = refusedOf 3
 unfoldable pub saidOf : List ℕ → List ℕ
 saidOf line = sayOf (lineOf line)
 
--- the bytes of a text at the front of twelve
+-- the bytes of a text at the front of sixteen: no name has more than fifteen
 unfoldable pub textOf : List ℕ → Text
-textOf xs = record { len = length xs; bytes = sets (replicate 12 0) 0 xs }
+textOf xs = record { len = length xs; bytes = sets (replicate 16 0) 0 xs }

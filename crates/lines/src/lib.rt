@@ -15,7 +15,7 @@ ghost use Rattle.lines.specs.Parsing.{Parses};
 // The first `len` of the bytes; the others are zero.
 pub struct Text {
     pub len: usize,
-    pub bytes: [u8; 12],
+    pub bytes: [u8; 16],
 }
 
 // A line of the right shape, or not; its first `count` bytes are the message's.
@@ -103,12 +103,38 @@ fn named(pdu: u8) -> Text
     if pdu == 15 {
         return DIVERT;
     }
-    DIVERTED
+    if pdu == 16 {
+        return DIVERTED;
+    }
+    NO_NAME
 }
+
+// No message that is read has such a type.
+const NO_NAME: Text = Text {
+    len: 0,
+    bytes: [0; 16],
+};
 
 const ACTIVATE: Text = Text {
     len: 8,
-    bytes: [b'A', b'C', b'T', b'I', b'V', b'A', b'T', b'E', 0, 0, 0, 0],
+    bytes: [
+        b'A',
+        b'C',
+        b'T',
+        b'I',
+        b'V',
+        b'A',
+        b'T',
+        b'E',
+        0,
+        0,
+        0,
+        0,
+        0,
+        0,
+        0,
+        0,
+    ],
 };
 
 const ACTIVATE_ACK: Text = Text {
@@ -126,6 +152,10 @@ const ACTIVATE_ACK: Text = Text {
         b'A',
         b'C',
         b'K',
+        0,
+        0,
+        0,
+        0,
     ],
 };
 
@@ -143,6 +173,10 @@ const INTERROGATE: Text = Text {
         b'A',
         b'T',
         b'E',
+        0,
+        0,
+        0,
+        0,
         0,
     ],
 };
@@ -162,27 +196,99 @@ const INTERCEPTED: Text = Text {
         b'E',
         b'D',
         0,
+        0,
+        0,
+        0,
+        0,
     ],
 };
 
 const ACCEPT: Text = Text {
     len: 6,
-    bytes: [b'A', b'C', b'C', b'E', b'P', b'T', 0, 0, 0, 0, 0, 0],
+    bytes: [
+        b'A',
+        b'C',
+        b'C',
+        b'E',
+        b'P',
+        b'T',
+        0,
+        0,
+        0,
+        0,
+        0,
+        0,
+        0,
+        0,
+        0,
+        0,
+    ],
 };
 
 const ACCEPTED: Text = Text {
     len: 8,
-    bytes: [b'A', b'C', b'C', b'E', b'P', b'T', b'E', b'D', 0, 0, 0, 0],
+    bytes: [
+        b'A',
+        b'C',
+        b'C',
+        b'E',
+        b'P',
+        b'T',
+        b'E',
+        b'D',
+        0,
+        0,
+        0,
+        0,
+        0,
+        0,
+        0,
+        0,
+    ],
 };
 
 const DIVERT: Text = Text {
     len: 6,
-    bytes: [b'D', b'I', b'V', b'E', b'R', b'T', 0, 0, 0, 0, 0, 0],
+    bytes: [
+        b'D',
+        b'I',
+        b'V',
+        b'E',
+        b'R',
+        b'T',
+        0,
+        0,
+        0,
+        0,
+        0,
+        0,
+        0,
+        0,
+        0,
+        0,
+    ],
 };
 
 const DIVERTED: Text = Text {
     len: 8,
-    bytes: [b'D', b'I', b'V', b'E', b'R', b'T', b'E', b'D', 0, 0, 0, 0],
+    bytes: [
+        b'D',
+        b'I',
+        b'V',
+        b'E',
+        b'R',
+        b'T',
+        b'E',
+        b'D',
+        0,
+        0,
+        0,
+        0,
+        0,
+        0,
+        0,
+        0,
+    ],
 };
 
 fn refused(number: u8) -> Text
@@ -201,6 +307,10 @@ fn refused(number: u8) -> Text
                 b'd',
                 b' ',
                 48 + number,
+                0,
+                0,
+                0,
+                0,
                 0,
                 0,
                 0,
@@ -223,6 +333,10 @@ fn refused(number: u8) -> Text
                 48 + number % 10,
                 0,
                 0,
+                0,
+                0,
+                0,
+                0,
             ],
         };
     }
@@ -240,6 +354,10 @@ fn refused(number: u8) -> Text
             48 + number / 100,
             48 + number / 10 % 10,
             48 + number % 10,
+            0,
+            0,
+            0,
+            0,
             0,
         ],
     }

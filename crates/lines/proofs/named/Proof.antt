@@ -1,4 +1,4 @@
--- Written by tools/proofs from tools/lines.conf. `lines::named` meets its contract. Assumes nothing.
+-- `lines::named` meets its contract. Assumes nothing.
 use borrow.Author.Tests.{eq-eqb, ne-eqb}
 use Rattle.lines.specs.Saying.{nameOf, textOf}
 use Rattle.lines.proofs.named.Statement.{statement}
@@ -62,15 +62,37 @@ returns-7 c =
 returns-8 : tie.Need-returns-8
 unfolding nameOf textOf
 returns-8 c =
-    let p1 = c .before .before .before .before .before .before in
-    let p2 = c .before .before .before .before .before in
-    let p3 = c .before .before .before .before in
-    let p4 = c .before .before .before in
-    let p5 = c .before .before in
-    let p6 = c .before in
-    rw (ne-eqb _ _ (p1 .if1 .left), ne-eqb _ _ (p2 .if2 .left), ne-eqb _ _ (p3 .if3 .left), ne-eqb _ _ (p4 .if4 .left), ne-eqb _ _ (p5 .if5 .left), ne-eqb _ _ (p6 .if6 .left), ne-eqb _ _ (c .if7 .left))
+    let p1 = c .before .before .before .before .before .before .before in
+    let p2 = c .before .before .before .before .before .before in
+    let p3 = c .before .before .before .before .before in
+    let p4 = c .before .before .before .before in
+    let p5 = c .before .before .before in
+    let p6 = c .before .before in
+    let p7 = c .before in
+    rw (ne-eqb _ _ (p1 .if1 .left), ne-eqb _ _ (p2 .if2 .left), ne-eqb _ _ (p3 .if3 .left), ne-eqb _ _ (p4 .if4 .left), ne-eqb _ _ (p5 .if5 .left), ne-eqb _ _ (p6 .if6 .left), ne-eqb _ _ (p7 .if7 .left), eq-eqb _ _ (c .if8 .taken))
+
+returns-9 : tie.Need-returns-9
+unfolding nameOf textOf
+returns-9 c =
+    let p1 = c .before .before .before .before .before .before .before in
+    let p2 = c .before .before .before .before .before .before in
+    let p3 = c .before .before .before .before .before in
+    let p4 = c .before .before .before .before in
+    let p5 = c .before .before .before in
+    let p6 = c .before .before in
+    let p7 = c .before in
+    rw (ne-eqb _ _ (p1 .if1 .left), ne-eqb _ _ (p2 .if2 .left), ne-eqb _ _ (p3 .if3 .left), ne-eqb _ _ (p4 .if4 .left), ne-eqb _ _ (p5 .if5 .left), ne-eqb _ _ (p6 .if6 .left), ne-eqb _ _ (p7 .if7 .left), ne-eqb _ _ (c .if8 .left))
 
 pub named-spec : {M : Type 1} → statement M
 named-spec =
     tie.close
-    (tie.spec returns returns-2 returns-3 returns-4 returns-5 returns-6 returns-7 returns-8)
+    (tie.spec
+    returns
+    returns-2
+    returns-3
+    returns-4
+    returns-5
+    returns-6
+    returns-7
+    returns-8
+    returns-9)
