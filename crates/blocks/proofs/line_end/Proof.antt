@@ -1,4 +1,4 @@
--- `blocks::line_end` meets its contract. Assumes nothing.
+-- Written by tools/proofs from tools/blocks.conf. `blocks::line_end` meets its contract. Assumes nothing.
 use Prim.Native.Nat.{_+_, _-_, _≤_}
 use mathlib.Core.Path.{_≡_, refl, sym, _∙_}
 use lib.ListN.{length}

@@ -1,4 +1,4 @@
--- `blocks::nothing_kept` meets its contract. Assumes nothing.
+-- Written by tools/proofs from tools/blocks.conf. `blocks::nothing_kept` meets its contract. Assumes nothing.
 use mathlib.Core.Path.{refl}
 use Rattle.blocks.specs.Texts.{noRoom, noText}
 use Rattle.blocks.proofs.nothing_kept.Statement.{statement}

@@ -1,4 +1,4 @@
--- `blocks::put` meets its contract. Assumes nothing.
+-- Written by tools/proofs from tools/blocks.conf. `blocks::put` meets its contract. Assumes nothing.
 use Prim.Native.Nat.{_-_, _≤_}
 use mathlib.Core.Path.{_≡_, refl, sym}
 use native.Mathlib.Omega.{arith}

@@ -1,4 +1,4 @@
--- `blocks::put_first` meets its contract. Assumes nothing.
+-- Written by tools/proofs from tools/blocks.conf. `blocks::put_first` meets its contract. Assumes nothing.
 use mathlib.Core.Path.{sym}
 use native.Mathlib.Omega.{arith}
 use denote.Ref.{now}

@@ -1,4 +1,4 @@
--- `lines::named` meets its contract. Assumes nothing.
+-- Written by tools/proofs from tools/lines.conf. `lines::named` meets its contract. Assumes nothing.
 use borrow.Author.Tests.{eq-eqb, ne-eqb}
 use Rattle.lines.specs.Saying.{nameOf, textOf}
 use Rattle.lines.proofs.named.Statement.{statement}

@@ -1,4 +1,4 @@
--- `listing::run` meets its contract. Assumes nothing.
+-- Written by tools/proofs from tools/listing.conf. `listing::run` meets its contract. Assumes nothing.
 use Prim.Native.Nat.{_+_, _*_, _^_, _≤_}
 use mathlib.Core.Path.{_≡_}
 use lib.ListN.{length}

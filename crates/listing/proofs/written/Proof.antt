@@ -1,4 +1,4 @@
--- `listing::written` meets its contract. Assumes nothing.
+-- Written by tools/proofs from tools/listing.conf. `listing::written` meets its contract. Assumes nothing.
 use mathlib.Core.Path.{sym}
 use native.Mathlib.Omega.{arith}
 use lib.Seq.{length-take-le}

@@ -1,6 +1,6 @@
--- `message::addresses_in` meets its contract: a case of the kind each. Assumes nothing.
-use Rattle.message.specs.Groups.{addressesIn}
+-- Written by tools/proofs from tools/message.conf. `message::addresses_in` meets its contract. Assumes nothing.
 use borrow.Author.Needs.{needs}
+use Rattle.message.specs.Groups.{addressesIn}
 use Rattle.message.proofs.addresses_in.Statement.{statement}
 use Rattle.message.proofs.addresses_in.Tie as tie
 

@@ -1,6 +1,6 @@
--- `message::allowed` meets its contract: a case of the kind each. Assumes nothing.
-use Rattle.message.specs.Groups.{allowedIn}
+-- Written by tools/proofs from tools/message.conf. `message::allowed` meets its contract. Assumes nothing.
 use borrow.Author.Needs.{needs}
+use Rattle.message.specs.Groups.{allowedIn}
 use Rattle.message.proofs.allowed.Statement.{statement}
 use Rattle.message.proofs.allowed.Tie as tie
 

@@ -1,4 +1,4 @@
--- `message::blank` meets its contract. Assumes nothing.
+-- Written by tools/proofs from tools/message.conf. `message::blank` meets its contract. Assumes nothing.
 use borrow.Author.Needs.{needs}
 use Rattle.message.specs.Values.{blank}
 use Rattle.message.proofs.blank.Statement.{statement}

@@ -1,4 +1,4 @@
--- `message::copied` meets its contract. Assumes nothing.
+-- Written by tools/proofs from tools/message.conf. `message::copied` meets its contract. Assumes nothing.
 use borrow.Author.Needs.{needs}
 use Rattle.message.proofs.copied.Statement.{statement}
 use Rattle.message.proofs.copied.Tie as tie

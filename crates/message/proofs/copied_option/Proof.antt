@@ -1,4 +1,4 @@
--- `message::copied_option` meets its contract. Assumes nothing.
+-- Written by tools/proofs from tools/message.conf. `message::copied_option` meets its contract. Assumes nothing.
 use mathlib.Core.Path.{sym, _∙_}
 use borrow.Author.Needs.{needs}
 use Rattle.message.proofs.RowLaws.{copy-absent}

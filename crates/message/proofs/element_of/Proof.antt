@@ -1,4 +1,4 @@
--- `message::element_of` meets its contract. Assumes nothing.
+-- Written by tools/proofs from tools/message.conf. `message::element_of` meets its contract. Assumes nothing.
 use borrow.Author.Needs.{needs}
 use Rattle.message.proofs.RowLaws.{element-none}
 use Rattle.message.specs.Numbers.{elements, elementOf}

@@ -1,6 +1,6 @@
--- `message::ends_ok` meets its contract: a case of the kind each. Assumes nothing.
-use Rattle.message.specs.Groups.{endsOk}
+-- Written by tools/proofs from tools/message.conf. `message::ends_ok` meets its contract. Assumes nothing.
 use borrow.Author.Needs.{needs}
+use Rattle.message.specs.Groups.{endsOk}
 use Rattle.message.proofs.ends_ok.Statement.{statement}
 use Rattle.message.proofs.ends_ok.Tie as tie
 

@@ -1,4 +1,4 @@
--- `message::is_carried` meets its contract. Assumes nothing.
+-- Written by tools/proofs from tools/message.conf. `message::is_carried` meets its contract. Assumes nothing.
 use borrow.Author.Needs.{needs}
 use Rattle.message.specs.Messages.{isCarried}
 use Rattle.message.proofs.is_carried.Statement.{statement}

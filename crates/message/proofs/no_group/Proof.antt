@@ -1,4 +1,4 @@
--- `message::no_group` meets its contract. Assumes nothing.
+-- Written by tools/proofs from tools/message.conf. `message::no_group` meets its contract. Assumes nothing.
 use mathlib.Core.Path.{refl}
 use Rattle.message.specs.Groups.{nobodies, noGroup}
 use Rattle.message.proofs.no_group.Statement.{statement}

@@ -1,8 +1,8 @@
--- `message::range_ok` meets its contract: a test at each return. Assumes nothing.
+-- Written by tools/proofs from tools/message.conf. `message::range_ok` meets its contract. Assumes nothing.
+use borrow.Author.Needs.{needs}
 use borrow.Author.Tests.{eq-eqb, ne-eqb, le-leb, lt-leb}
 use Rattle.codec.specs.Codec.{both}
 use Rattle.message.specs.Groups.{rangeOk}
-use borrow.Author.Needs.{needs}
 use Rattle.message.proofs.range_ok.Statement.{statement}
 use Rattle.message.proofs.range_ok.Tie as tie
 

@@ -1,4 +1,4 @@
--- `message::row_of` meets its contract. Assumes nothing.
+-- Written by tools/proofs from tools/message.conf. `message::row_of` meets its contract. Assumes nothing.
 use borrow.Author.Needs.{needs}
 use borrow.Author.Tests.{eq-eqb, ne-eqb}
 use Rattle.message.specs.Rows.{table, rowIn, rowOf}

@@ -1,6 +1,6 @@
--- `message::span_in` meets its contract: a case of the kind each. Assumes nothing.
-use Rattle.message.specs.Groups.{spanIn}
+-- Written by tools/proofs from tools/message.conf. `message::span_in` meets its contract. Assumes nothing.
 use borrow.Author.Needs.{needs}
+use Rattle.message.specs.Groups.{spanIn}
 use Rattle.message.proofs.span_in.Statement.{statement}
 use Rattle.message.proofs.span_in.Tie as tie
 

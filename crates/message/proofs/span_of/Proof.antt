@@ -1,6 +1,6 @@
--- `message::span_of` meets its contract. Assumes nothing.
-use Rattle.message.specs.Groups.{spanOf}
+-- Written by tools/proofs from tools/message.conf. `message::span_of` meets its contract. Assumes nothing.
 use borrow.Author.Needs.{needs}
+use Rattle.message.specs.Groups.{spanOf}
 use Rattle.message.proofs.span_of.Statement.{statement}
 use Rattle.message.proofs.span_of.Tie as tie
 

@@ -1,4 +1,4 @@
--- `message::width_of` meets its contract. Assumes nothing.
+-- Written by tools/proofs from tools/message.conf. `message::width_of` meets its contract. Assumes nothing.
 use borrow.Author.Needs.{needs}
 use Rattle.message.proofs.RowLaws.{width-none}
 use Rattle.message.specs.Numbers.{widths, widthOf}

@@ -1,4 +1,4 @@
--- `message::with_given` meets its contract. Assumes nothing.
+-- Written by tools/proofs from tools/message.conf. `message::with_given` meets its contract. Assumes nothing.
 use borrow.Author.Needs.{needs}
 use Rattle.message.proofs.with_given.Statement.{statement}
 use Rattle.message.proofs.with_given.Tie as tie

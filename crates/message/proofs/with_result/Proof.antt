@@ -1,4 +1,4 @@
--- `message::with_result` meets its contract. Assumes nothing.
+-- Written by tools/proofs from tools/message.conf. `message::with_result` meets its contract. Assumes nothing.
 use borrow.Author.Needs.{needs}
 use Rattle.message.proofs.with_result.Statement.{statement}
 use Rattle.message.proofs.with_result.Tie as tie

@@ -1,4 +1,4 @@
--- `reading::found` meets its contract. Assumes nothing.
+-- Written by tools/proofs from tools/reading.conf. `reading::found` meets its contract. Assumes nothing.
 use borrow.Author.Needs.{needs}
 use Rattle.reading.specs.Answers.{readingOf}
 use Rattle.reading.proofs.found.Statement.{statement}

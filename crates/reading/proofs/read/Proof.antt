@@ -1,4 +1,4 @@
--- `reading::read` meets its contract. Assumes nothing.
+-- Written by tools/proofs from tools/reading.conf. `reading::read` meets its contract. Assumes nothing.
 use mathlib.Core.Path.{sym, _∙_}
 use borrow.Author.Needs.{needs}
 use Rattle.message.specs.Reading.{readOf}

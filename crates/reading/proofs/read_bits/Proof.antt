@@ -1,4 +1,4 @@
--- `reading::read_bits` meets its contract. Assumes nothing.
+-- Written by tools/proofs from tools/reading.conf. `reading::read_bits` meets its contract. Assumes nothing.
 use Prim.Native.Nat.{_*_}
 use native.Mathlib.Omega.{arith}
 use denote.Ref.{now}

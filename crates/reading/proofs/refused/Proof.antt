@@ -1,4 +1,4 @@
--- `reading::refused` meets its contract. Assumes nothing.
+-- Written by tools/proofs from tools/reading.conf. `reading::refused` meets its contract. Assumes nothing.
 use borrow.Author.Needs.{needs}
 use Rattle.reading.specs.Answers.{readingOf}
 use Rattle.reading.proofs.refused.Statement.{statement}

@@ -1,4 +1,4 @@
--- `replay::call` meets its contract. Assumes nothing.
+-- Written by tools/proofs from tools/replay.conf. `replay::call` meets its contract. Assumes nothing.
 use mathlib.Core.Path.{sym}
 use native.Mathlib.Omega.{arith}
 use lib.Seq.{length-take-le}

@@ -1,4 +1,4 @@
--- `replay::main` meets its contract. Assumes nothing.
+-- Written by tools/proofs from tools/replay.conf. `replay::main` meets its contract. Assumes nothing.
 use borrow.Author.Needs.{needs}
 use Rattle.replay.proofs.main.Statement.{statement}
 use Rattle.replay.proofs.main.Tie as tie

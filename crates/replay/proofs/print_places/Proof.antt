@@ -1,4 +1,4 @@
--- `replay::print_places` meets its contract. Assumes nothing.
+-- Written by tools/proofs from tools/replay.conf. `replay::print_places` meets its contract. Assumes nothing.
 use Prim.Native.Nat.{_-_, _≤_}
 use mathlib.Core.Path.{_≡_}
 use lib.ListN.{length}

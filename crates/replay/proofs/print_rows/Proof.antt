@@ -1,4 +1,4 @@
--- `replay::print_rows` meets its contract. Assumes nothing.
+-- Written by tools/proofs from tools/replay.conf. `replay::print_rows` meets its contract. Assumes nothing.
 use Prim.Native.Nat.{_-_, _≤_}
 use mathlib.Core.Path.{_≡_}
 use lib.ListN.{length}

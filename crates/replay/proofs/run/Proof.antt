@@ -1,8 +1,8 @@
--- `replay::run` meets its contract. Assumes nothing.
+-- Written by tools/proofs from tools/replay.conf. `replay::run` meets its contract. Assumes nothing.
 use Prim.Native.Nat.{_+_, _*_, _^_, _≤_}
 use mathlib.Core.Path.{_≡_}
-use lib.ListN.{length}
 use native.Mathlib.Omega.{arith}
+use lib.ListN.{length}
 use borrow.Author.Needs.{needs}
 use Rattle.replay.proofs.run.Statement.{statement}
 use Rattle.replay.proofs.run.Tie as tie

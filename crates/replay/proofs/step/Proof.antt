@@ -1,4 +1,4 @@
--- `replay::step` meets its contract. Assumes nothing.
+-- Written by tools/proofs from tools/replay.conf. `replay::step` meets its contract. Assumes nothing.
 use mathlib.Core.Path.{sym}
 use lib.Seq.{length-take-le}
 use borrow.Author.Needs.{needs}

@@ -1,4 +1,4 @@
--- `validity::header_ok` meets its contract. Assumes nothing.
+-- Written by tools/proofs from tools/validity.conf. `validity::header_ok` meets its contract. Assumes nothing.
 use mathlib.Core.Path.{sym, _∙_}
 use borrow.Author.Needs.{needs}
 use Rattle.validity.proofs.ValidLaws.{header-fits, header-wide}

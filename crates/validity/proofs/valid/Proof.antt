@@ -1,4 +1,4 @@
--- `validity::valid` meets its contract. Assumes nothing.
+-- Written by tools/proofs from tools/validity.conf. `validity::valid` meets its contract. Assumes nothing.
 use mathlib.Core.Path.{sym, _∙_}
 use borrow.Author.Needs.{needs}
 use Rattle.codec.specs.Codec.{both}

@@ -1,4 +1,4 @@
--- `writing::lay` meets its contract. Assumes nothing.
+-- Written by tools/proofs from tools/writing.conf. `writing::lay` meets its contract. Assumes nothing.
 use native.Mathlib.Omega.{arith}
 use borrow.Author.Needs.{needs}
 use Rattle.writing.proofs.LayLaws.{lay-room, lay-done}

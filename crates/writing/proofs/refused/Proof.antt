@@ -1,4 +1,4 @@
--- `writing::refused` meets its contract. Assumes nothing.
+-- Written by tools/proofs from tools/writing.conf. `writing::refused` meets its contract. Assumes nothing.
 use borrow.Author.Needs.{needs}
 use Rattle.writing.specs.Writing.{writtenOf}
 use Rattle.writing.proofs.refused.Statement.{statement}

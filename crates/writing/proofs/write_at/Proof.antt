@@ -1,4 +1,4 @@
--- `writing::write_at` meets its contract. Assumes nothing.
+-- Written by tools/proofs from tools/writing.conf. `writing::write_at` meets its contract. Assumes nothing.
 use mathlib.Core.Path.{sym, _∙_}
 use borrow.Author.Needs.{needs}
 use Rattle.writing.proofs.LayLaws.{refusing}

@@ -1,4 +1,4 @@
--- `writing::write_in` meets its contract. Assumes nothing.
+-- Written by tools/proofs from tools/writing.conf. `writing::write_in` meets its contract. Assumes nothing.
 use native.Mathlib.Omega.{arith}
 use borrow.Author.Needs.{needs}
 use Rattle.writing.proofs.LayLaws.{no-room, all-laid}

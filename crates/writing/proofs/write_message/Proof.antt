@@ -1,4 +1,4 @@
--- `writing::write_message` meets its contract. Assumes nothing.
+-- Written by tools/proofs from tools/writing.conf. `writing::write_message` meets its contract. Assumes nothing.
 use borrow.Author.Needs.{needs}
 use Rattle.codec.specs.Codec.{number}
 use Rattle.message.specs.Messages.{headerC, messageC}

@@ -1,4 +1,4 @@
--- `console::values::put_value` meets its contract. Assumes nothing.
+-- Written by tools/proofs from tools/console.conf. `console::values::put_value` meets its contract. Assumes nothing.
 use denote.Ref.{now}
 use borrow.Author.Needs.{needs}
 use Rattle.console.proofs.PutLaws.{same-sets, value-put}

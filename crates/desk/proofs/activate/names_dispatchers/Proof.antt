@@ -1,4 +1,4 @@
--- `desk::activate::names_dispatchers` meets its contract. Assumes nothing.
+-- Written by tools/proofs from tools/desk.conf. `desk::activate::names_dispatchers` meets its contract. Assumes nothing.
 use mathlib.Core.Path.{sym, _∙_}
 use borrow.Author.Needs.{needs}
 use Rattle.codec.specs.Codec.{both}

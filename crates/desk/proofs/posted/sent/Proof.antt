@@ -1,4 +1,4 @@
--- `desk::posted::sent` meets its contract. Assumes nothing.
+-- Written by tools/proofs from tools/desk.conf. `desk::posted::sent` meets its contract. Assumes nothing.
 use mathlib.Core.Path.{refl}
 use borrow.Author.Needs.{needs}
 use borrow.Author.Tests.{eq-eqb, ne-eqb}

@@ -1,4 +1,4 @@
--- `message::copy::nothing` meets its contract. Assumes nothing.
+-- Written by tools/proofs from tools/message.conf. `message::copy::nothing` meets its contract. Assumes nothing.
 use mathlib.Core.Path.{refl}
 use Rattle.message.specs.Rows.{copyOf}
 use Rattle.message.proofs.copy.nothing.Statement.{statement}

@@ -1,4 +1,4 @@
--- `message::copy::user` meets its contract. Assumes nothing.
+-- Written by tools/proofs from tools/message.conf. `message::copy::user` meets its contract. Assumes nothing.
 use borrow.Author.Needs.{needs}
 use Rattle.message.specs.Rows.{copyOf}
 use Rattle.message.proofs.copy.user.Statement.{statement}

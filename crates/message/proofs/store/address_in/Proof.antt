@@ -1,4 +1,4 @@
--- `message::store::address_in` meets its contract. Assumes nothing.
+-- Written by tools/proofs from tools/message.conf. `message::store::address_in` meets its contract. Assumes nothing.
 use borrow.Author.Needs.{needs}
 use Rattle.message.proofs.RowLaws.{past-end}
 use Rattle.message.proofs.store.address_in.Statement.{statement}

@@ -1,4 +1,4 @@
--- `message::store::given_in` meets its contract. Assumes nothing.
+-- Written by tools/proofs from tools/message.conf. `message::store::given_in` meets its contract. Assumes nothing.
 use borrow.Author.Needs.{needs}
 use Rattle.message.proofs.RowLaws.{past-end}
 use Rattle.message.proofs.store.given_in.Statement.{statement}

@@ -1,4 +1,4 @@
--- `message::store::set_address` meets its contract. Assumes nothing.
+-- Written by tools/proofs from tools/message.conf. `message::store::set_address` meets its contract. Assumes nothing.
 use mathlib.Core.Path.{sym}
 use lib.Seq.{set-out}
 use borrow.Author.Needs.{needs}

@@ -1,4 +1,4 @@
--- `message::store::with_address` meets its contract. Assumes nothing.
+-- Written by tools/proofs from tools/message.conf. `message::store::with_address` meets its contract. Assumes nothing.
 use borrow.Author.Needs.{needs}
 use Rattle.message.proofs.store.with_address.Statement.{statement}
 use Rattle.message.proofs.store.with_address.Tie as tie

@@ -1,4 +1,4 @@
--- `reading::ack::aligned` meets its contract. Assumes nothing.
+-- Written by tools/proofs from tools/reading.conf. `reading::ack::aligned` meets its contract. Assumes nothing.
 use borrow.Author.Needs.{needs}
 use Rattle.reading.proofs.ReadLaws.{aligned-none, aligned-some}
 use Rattle.reading.proofs.ack.aligned.Statement.{statement}

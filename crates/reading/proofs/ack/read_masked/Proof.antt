@@ -1,4 +1,4 @@
--- `reading::ack::read_masked` meets its contract. Assumes nothing.
+-- Written by tools/proofs from tools/reading.conf. `reading::ack::read_masked` meets its contract. Assumes nothing.
 use mathlib.Core.Path.{sym, ap, _∙_}
 use borrow.Author.Needs.{needs}
 use Rattle.codec.specs.Taking.{tookOf}

@@ -1,4 +1,4 @@
--- `reading::address::read_address` meets its contract. Assumes nothing.
+-- Written by tools/proofs from tools/reading.conf. `reading::address::read_address` meets its contract. Assumes nothing.
 use mathlib.Core.Path.{sym, ap, _∙_}
 use borrow.Author.Needs.{needs}
 use Rattle.message.specs.Addresses.{addressC}

@@ -1,4 +1,4 @@
--- `reading::address::read_extension` meets its contract. Assumes nothing.
+-- Written by tools/proofs from tools/reading.conf. `reading::address::read_extension` meets its contract. Assumes nothing.
 use borrow.Author.Needs.{needs}
 use borrow.Author.Tests.{eq-eqb, ne-eqb}
 use Rattle.message.specs.Addresses.{extensionC}

@@ -1,4 +1,4 @@
--- `reading::body::read_body` meets its contract. Assumes nothing.
+-- Written by tools/proofs from tools/reading.conf. `reading::body::read_body` meets its contract. Assumes nothing.
 use borrow.Author.Needs.{needs}
 use Rattle.reading.proofs.AnswerLaws.{body-got, body-no}
 use Rattle.reading.proofs.RowLaws.{body-row}

@@ -1,4 +1,4 @@
--- `reading::body::read_parts` meets its contract. Assumes nothing.
+-- Written by tools/proofs from tools/reading.conf. `reading::body::read_parts` meets its contract. Assumes nothing.
 use Prim.Native.Nat.{_-_}
 use mathlib.Core.Path.{_≡_, sym, ap, _∙_}
 use lib.ListN.{length, drop}

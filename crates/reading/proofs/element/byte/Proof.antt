@@ -1,4 +1,4 @@
--- `reading::element::byte` meets its contract. Assumes nothing.
+-- Written by tools/proofs from tools/reading.conf. `reading::element::byte` meets its contract. Assumes nothing.
 use mathlib.Core.Path.{ap, _∙_}
 use native.Mathlib.Omega.{arith}
 use borrow.Author.Needs.{needs}

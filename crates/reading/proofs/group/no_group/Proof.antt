@@ -1,4 +1,4 @@
--- `reading::group::no_group` meets its contract. Assumes nothing.
+-- Written by tools/proofs from tools/reading.conf. `reading::group::no_group` meets its contract. Assumes nothing.
 use borrow.Author.Needs.{needs}
 use Rattle.reading.specs.Answers.{groupOf}
 use Rattle.reading.proofs.group.no_group.Statement.{statement}

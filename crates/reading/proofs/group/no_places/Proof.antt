@@ -1,4 +1,4 @@
--- `reading::group::no_places` meets its contract. Assumes nothing.
+-- Written by tools/proofs from tools/reading.conf. `reading::group::no_places` meets its contract. Assumes nothing.
 use mathlib.Core.Path.{refl}
 use Rattle.message.specs.Groups.{nobodies}
 use Rattle.reading.specs.Answers.{placesOf}

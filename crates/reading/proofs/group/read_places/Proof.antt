@@ -1,4 +1,4 @@
--- `reading::group::read_places` meets its contract. Assumes nothing.
+-- Written by tools/proofs from tools/reading.conf. `reading::group::read_places` meets its contract. Assumes nothing.
 use Prim.Native.Nat.{_-_, _≤_}
 use mathlib.Core.Path.{_≡_, sym, ap, _∙_}
 use lib.ListN.{length}

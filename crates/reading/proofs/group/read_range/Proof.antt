@@ -1,4 +1,4 @@
--- `reading::group::read_range` meets its contract. Assumes nothing.
+-- Written by tools/proofs from tools/reading.conf. `reading::group::read_range` meets its contract. Assumes nothing.
 use mathlib.Core.Path.{sym, ap, _∙_}
 use borrow.Author.Needs.{needs}
 use Rattle.message.specs.Groups.{rangeC}

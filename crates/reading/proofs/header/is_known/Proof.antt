@@ -1,4 +1,4 @@
--- `reading::header::is_known` meets its contract. Assumes nothing.
+-- Written by tools/proofs from tools/reading.conf. `reading::header::is_known` meets its contract. Assumes nothing.
 use borrow.Author.Tests.{le-leb, lt-leb}
 use Rattle.codec.specs.Codec.{both}
 use Rattle.message.specs.Messages.{isKnown}

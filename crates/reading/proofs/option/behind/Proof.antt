@@ -1,4 +1,4 @@
--- `reading::option::behind` meets its contract. Assumes nothing.
+-- Written by tools/proofs from tools/reading.conf. `reading::option::behind` meets its contract. Assumes nothing.
 use borrow.Author.Needs.{needs}
 use Rattle.reading.proofs.AnswerLaws.{each-got, each-no}
 use Rattle.reading.specs.Parts.{behindRead}

@@ -1,4 +1,4 @@
--- `reading::option::no_each` meets its contract. Assumes nothing.
+-- Written by tools/proofs from tools/reading.conf. `reading::option::no_each` meets its contract. Assumes nothing.
 use borrow.Author.Needs.{needs}
 use Rattle.reading.specs.Answers.{eachOf}
 use Rattle.reading.proofs.option.no_each.Statement.{statement}

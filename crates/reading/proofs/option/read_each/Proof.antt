@@ -1,11 +1,10 @@
--- `reading::option::read_each` meets its contract. Assumes nothing.
+-- Written by tools/proofs from tools/reading.conf. `reading::option::read_each` meets its contract. Assumes nothing.
 use Prim.Native.Nat.{_-_}
 use mathlib.Core.Bool.{false}
 use mathlib.Core.Path.{_≡_, sym, ap, _∙_}
 use lib.ListN.{length, drop}
 use borrow.Author.Needs.{needs}
 use Rattle.bits.specs.Fields.{bitAt}
-use Rattle.codec.specs.Options.{optional}
 use Rattle.reading.proofs.AnswerLaws.{each-got, each-no}
 use Rattle.reading.proofs.RowLaws.{each-turn, each-stop, each-end, each-past, each-start}
 use Rattle.reading.specs.Answers.{eachOf}

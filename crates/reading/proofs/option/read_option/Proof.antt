@@ -1,4 +1,4 @@
--- `reading::option::read_option` meets its contract. Assumes nothing.
+-- Written by tools/proofs from tools/reading.conf. `reading::option::read_option` meets its contract. Assumes nothing.
 use mathlib.Core.Path.{sym, ap, _∙_}
 use borrow.Author.Needs.{needs}
 use Rattle.reading.proofs.AnswerLaws.{body-got, body-no}

@@ -1,4 +1,4 @@
--- `reading::option::these` meets its contract. Assumes nothing.
+-- Written by tools/proofs from tools/reading.conf. `reading::option::these` meets its contract. Assumes nothing.
 use borrow.Author.Needs.{needs}
 use Rattle.reading.specs.Answers.{eachOf}
 use Rattle.reading.proofs.option.these.Statement.{statement}

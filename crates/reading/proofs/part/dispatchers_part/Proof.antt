@@ -1,4 +1,4 @@
--- `reading::part::dispatchers_part` meets its contract. Assumes nothing.
+-- Written by tools/proofs from tools/reading.conf. `reading::part::dispatchers_part` meets its contract. Assumes nothing.
 use borrow.Author.Needs.{needs}
 use Rattle.reading.proofs.AnswerLaws.{group-got, group-no}
 use Rattle.reading.specs.Parts.{partRead}

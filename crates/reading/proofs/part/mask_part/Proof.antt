@@ -1,4 +1,4 @@
--- `reading::part::mask_part` meets its contract. Assumes nothing.
+-- Written by tools/proofs from tools/reading.conf. `reading::part::mask_part` meets its contract. Assumes nothing.
 use mathlib.Core.Path.{sym, ap, _∙_}
 use borrow.Author.Needs.{needs}
 use Rattle.reading.specs.Answers.{maskedOf}

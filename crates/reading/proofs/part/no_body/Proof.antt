@@ -1,4 +1,4 @@
--- `reading::part::no_body` meets its contract. Assumes nothing.
+-- Written by tools/proofs from tools/reading.conf. `reading::part::no_body` meets its contract. Assumes nothing.
 use borrow.Author.Needs.{needs}
 use Rattle.reading.specs.Answers.{bodyOf}
 use Rattle.reading.proofs.part.no_body.Statement.{statement}

@@ -1,4 +1,4 @@
--- `reading::part::read_part` meets its contract. Assumes nothing.
+-- Written by tools/proofs from tools/reading.conf. `reading::part::read_part` meets its contract. Assumes nothing.
 use borrow.Author.Needs.{needs}
 use Rattle.reading.proofs.RowLaws.{nothing-read}
 use Rattle.reading.proofs.part.read_part.Statement.{statement}

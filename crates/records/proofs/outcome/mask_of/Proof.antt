@@ -5,7 +5,6 @@ use mathlib.Core.Path.{_≡_, refl}
 use native.Mathlib.Omega.{arith}
 use lib.ListN.{take}
 use borrow.Author.Needs.{needs}
-use Rattle.message.specs.Elements.{mask}
 use Rattle.records.proofs.OutcomeLaws.{maskTo, mask-start, mask-end, mask-room, mask-more}
 use Rattle.records.proofs.outcome.mask_of.Statement.{statement}
 use Rattle.records.proofs.outcome.mask_of.Tie as tie

@@ -6,7 +6,6 @@ use native.Mathlib.Omega.{arith}
 use denote.Ref.{now}
 use lib.ListN.{length}
 use borrow.Author.Needs.{needs}
-use Rattle.codec.specs.Codec.{number}
 use Rattle.script.proofs.ShapeLaws.{row-full, row-none, row-end, row-other, row-more}
 use Rattle.script.specs.Shape.{noRow, numbersFrom, numbersAt}
 use Rattle.script.proofs.shape.numbers_at.Statement.{statement}

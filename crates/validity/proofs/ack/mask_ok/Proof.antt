@@ -1,4 +1,4 @@
--- `validity::ack::mask_ok` meets its contract. Assumes nothing.
+-- Written by tools/proofs from tools/validity.conf. `validity::ack::mask_ok` meets its contract. Assumes nothing.
 use borrow.Author.Needs.{needs}
 use Rattle.validity.proofs.ValidLaws.{mask-some, mask-none}
 use Rattle.validity.proofs.ack.mask_ok.Statement.{statement}

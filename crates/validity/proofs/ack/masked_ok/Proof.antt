@@ -1,4 +1,4 @@
--- `validity::ack::masked_ok` meets its contract. Assumes nothing.
+-- Written by tools/proofs from tools/validity.conf. `validity::ack::masked_ok` meets its contract. Assumes nothing.
 use mathlib.Core.Path.{sym, _∙_}
 use borrow.Author.Needs.{needs}
 use Rattle.validity.proofs.ValidLaws.{masked-there, masked-none}

@@ -1,4 +1,4 @@
--- `validity::ack::result_ok` meets its contract. Assumes nothing.
+-- Written by tools/proofs from tools/validity.conf. `validity::ack::result_ok` meets its contract. Assumes nothing.
 use borrow.Author.Tests.{eq-eqb, ne-eqb, lt-ltb, le-ltb}
 use Rattle.codec.specs.Codec.{both, number}
 use Rattle.message.specs.Acks.{resultC}

@@ -1,4 +1,4 @@
--- `validity::address::extension_ok` meets its contract. Assumes nothing.
+-- Written by tools/proofs from tools/validity.conf. `validity::address::extension_ok` meets its contract. Assumes nothing.
 use borrow.Author.Tests.{eq-eqb, ne-eqb}
 use Rattle.codec.specs.Codec.{number}
 use Rattle.message.specs.Addresses.{extensionC}

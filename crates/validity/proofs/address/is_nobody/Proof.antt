@@ -1,4 +1,4 @@
--- `validity::address::is_nobody` meets its contract. Assumes nothing.
+-- Written by tools/proofs from tools/validity.conf. `validity::address::is_nobody` meets its contract. Assumes nothing.
 use borrow.Author.Tests.{eq-eqb, ne-eqb}
 use Rattle.codec.specs.Codec.{both}
 use Rattle.message.specs.Addresses.{isNobody}

@@ -1,4 +1,4 @@
--- `validity::address::kind_ok` meets its contract. Assumes nothing.
+-- Written by tools/proofs from tools/validity.conf. `validity::address::kind_ok` meets its contract. Assumes nothing.
 use Rattle.codec.specs.Codec.{both, number}
 use Rattle.message.specs.Addresses.{kindC}
 use Rattle.validity.proofs.ValidLaws.{kind-two}

@@ -1,4 +1,4 @@
--- `validity::body::body_ok` meets its contract. Assumes nothing.
+-- Written by tools/proofs from tools/validity.conf. `validity::body::body_ok` meets its contract. Assumes nothing.
 use borrow.Author.Needs.{needs}
 use Rattle.validity.proofs.RowLaws.{body-row}
 use Rattle.validity.proofs.body.body_ok.Statement.{statement}

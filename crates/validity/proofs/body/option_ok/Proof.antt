@@ -1,4 +1,4 @@
--- `validity::body::option_ok` meets its contract. Assumes nothing.
+-- Written by tools/proofs from tools/validity.conf. `validity::body::option_ok` meets its contract. Assumes nothing.
 use mathlib.Core.Path.{sym, _∙_}
 use borrow.Author.Needs.{needs}
 use Rattle.validity.proofs.RowLaws.{option-given, option-not}

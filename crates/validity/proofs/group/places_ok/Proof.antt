@@ -1,4 +1,4 @@
--- `validity::group::places_ok` meets its contract. Assumes nothing.
+-- Written by tools/proofs from tools/validity.conf. `validity::group::places_ok` meets its contract. Assumes nothing.
 use mathlib.Core.Path.{sym, _∙_}
 use borrow.Author.Needs.{needs}
 use Rattle.codec.specs.Codec.{both}

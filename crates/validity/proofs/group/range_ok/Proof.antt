@@ -1,4 +1,4 @@
--- `validity::group::range_ok` meets its contract. Assumes nothing.
+-- Written by tools/proofs from tools/validity.conf. `validity::group::range_ok` meets its contract. Assumes nothing.
 use borrow.Author.Needs.{needs}
 use borrow.Author.Tests.{lt-ltb, le-ltb}
 use Rattle.codec.specs.Codec.{both, number}

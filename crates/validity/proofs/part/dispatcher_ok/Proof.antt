@@ -1,4 +1,4 @@
--- `validity::part::dispatcher_ok` meets its contract. Assumes nothing.
+-- Written by tools/proofs from tools/validity.conf. `validity::part::dispatcher_ok` meets its contract. Assumes nothing.
 use borrow.Author.Needs.{needs}
 use Rattle.message.specs.Addresses.{addressC}
 use Rattle.validity.specs.Parts.{partOk}

@@ -1,4 +1,4 @@
--- `validity::part::dispatchers_ok` meets its contract. Assumes nothing.
+-- Written by tools/proofs from tools/validity.conf. `validity::part::dispatchers_ok` meets its contract. Assumes nothing.
 use borrow.Author.Needs.{needs}
 use Rattle.validity.specs.Parts.{partOk}
 use Rattle.validity.proofs.part.dispatchers_ok.Statement.{statement}

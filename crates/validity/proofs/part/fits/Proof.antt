@@ -1,4 +1,4 @@
--- `validity::part::fits` meets its contract. Assumes nothing.
+-- Written by tools/proofs from tools/validity.conf. `validity::part::fits` meets its contract. Assumes nothing.
 use borrow.Author.Needs.{needs}
 use Rattle.validity.proofs.RowLaws.{fits-by}
 use Rattle.validity.proofs.part.fits.Statement.{statement}

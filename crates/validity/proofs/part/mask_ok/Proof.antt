@@ -1,4 +1,4 @@
--- `validity::part::mask_ok` meets its contract. Assumes nothing.
+-- Written by tools/proofs from tools/validity.conf. `validity::part::mask_ok` meets its contract. Assumes nothing.
 use borrow.Author.Needs.{needs}
 use Rattle.message.specs.Acks.{maskedC}
 use Rattle.validity.specs.Parts.{partOk}

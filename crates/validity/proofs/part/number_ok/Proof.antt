@@ -1,4 +1,4 @@
--- `validity::part::number_ok` meets its contract. Assumes nothing.
+-- Written by tools/proofs from tools/validity.conf. `validity::part::number_ok` meets its contract. Assumes nothing.
 use borrow.Author.Needs.{needs}
 use Rattle.codec.specs.Codec.{number}
 use Rattle.message.proofs.RowLaws.{width-few}

@@ -1,4 +1,4 @@
--- `validity::part::part_ok` meets its contract. Assumes nothing.
+-- Written by tools/proofs from tools/validity.conf. `validity::part::part_ok` meets its contract. Assumes nothing.
 use borrow.Author.Needs.{needs}
 use Rattle.validity.proofs.RowLaws.{nothing-ok}
 use Rattle.validity.proofs.part.part_ok.Statement.{statement}

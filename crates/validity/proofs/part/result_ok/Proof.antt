@@ -1,4 +1,4 @@
--- `validity::part::result_ok` meets its contract. Assumes nothing.
+-- Written by tools/proofs from tools/validity.conf. `validity::part::result_ok` meets its contract. Assumes nothing.
 use borrow.Author.Needs.{needs}
 use Rattle.message.specs.Acks.{resultC}
 use Rattle.validity.specs.Parts.{partOk}

@@ -1,4 +1,4 @@
--- `validity::same::same_address` meets its contract. Assumes nothing.
+-- Written by tools/proofs from tools/validity.conf. `validity::same::same_address` meets its contract. Assumes nothing.
 use borrow.Author.Tests.{eq-eqb, ne-eqb}
 use Rattle.codec.specs.Codec.{both}
 use Rattle.message.specs.Values.{sameAddress}

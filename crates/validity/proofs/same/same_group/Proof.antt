@@ -1,4 +1,4 @@
--- `validity::same::same_group` meets its contract. Assumes nothing.
+-- Written by tools/proofs from tools/validity.conf. `validity::same::same_group` meets its contract. Assumes nothing.
 use borrow.Author.Needs.{needs}
 use borrow.Author.Tests.{eq-eqb, ne-eqb}
 use Rattle.codec.specs.Codec.{both}

@@ -1,4 +1,4 @@
--- `validity::same::same_numbers` meets its contract. Assumes nothing.
+-- Written by tools/proofs from tools/validity.conf. `validity::same::same_numbers` meets its contract. Assumes nothing.
 use Prim.Native.Nat.{_-_, _≤_}
 use mathlib.Core.Path.{_≡_, refl, sym, _∙_}
 use lib.ListN.{length, drop}

@@ -1,4 +1,4 @@
--- `validity::same::same_value` meets its contract. Assumes nothing.
+-- Written by tools/proofs from tools/validity.conf. `validity::same::same_value` meets its contract. Assumes nothing.
 use mathlib.Core.Path.{sym, _∙_}
 use borrow.Author.Needs.{needs}
 use borrow.Author.Tests.{eq-eqb, ne-eqb}

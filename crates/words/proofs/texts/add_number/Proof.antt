@@ -3,8 +3,8 @@ use Prim.Native.Nat.{suc, _-_, _^_, _≤_}
 use mathlib.Core.Path.{_≡_, refl}
 use native.Mathlib.Omega.{arith}
 use borrow.Author.Needs.{needs}
-use Rattle.profile.specs.Counting.{one}
 use Rattle.blocks.proofs.TextLaws.{Yet}
+use Rattle.profile.specs.Counting.{one}
 use Rattle.words.proofs.WordLaws.{power-some, power-less, digit-turn, digits-over}
 use Rattle.words.specs.Words.{digitsFrom, decimalOf}
 use Rattle.words.proofs.texts.add_number.Statement.{statement}

@@ -1,4 +1,4 @@
--- `writing::ack::first` meets its contract. Assumes nothing.
+-- Written by tools/proofs from tools/writing.conf. `writing::ack::first` meets its contract. Assumes nothing.
 use borrow.Author.Needs.{needs}
 use Rattle.writing.proofs.PartLaws.{first-none}
 use Rattle.writing.proofs.ack.first.Statement.{statement}

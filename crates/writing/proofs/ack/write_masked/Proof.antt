@@ -1,4 +1,4 @@
--- `writing::ack::write_masked` meets its contract. Assumes nothing.
+-- Written by tools/proofs from tools/writing.conf. `writing::ack::write_masked` meets its contract. Assumes nothing.
 use borrow.Author.Needs.{needs}
 use Rattle.codec.specs.Codec.{number}
 use Rattle.codec.specs.Options.{flag}

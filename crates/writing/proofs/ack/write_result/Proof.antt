@@ -1,4 +1,4 @@
--- `writing::ack::write_result` meets its contract. Assumes nothing.
+-- Written by tools/proofs from tools/writing.conf. `writing::ack::write_result` meets its contract. Assumes nothing.
 use borrow.Author.Needs.{needs}
 use borrow.Author.Tests.{eq-eqb, ne-eqb}
 use Rattle.codec.specs.Codec.{number}

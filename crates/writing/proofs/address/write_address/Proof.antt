@@ -1,4 +1,4 @@
--- `writing::address::write_address` meets its contract. Assumes nothing.
+-- Written by tools/proofs from tools/writing.conf. `writing::address::write_address` meets its contract. Assumes nothing.
 use borrow.Author.Needs.{needs}
 use Rattle.codec.specs.Codec.{number}
 use Rattle.message.specs.Addresses.{kindC, addressC}

@@ -1,4 +1,4 @@
--- `writing::body::some_given` meets its contract. Assumes nothing.
+-- Written by tools/proofs from tools/writing.conf. `writing::body::some_given` meets its contract. Assumes nothing.
 use Prim.Native.Nat.{_-_}
 use mathlib.Core.Path.{_≡_, sym, _∙_}
 use borrow.Author.Needs.{needs}

@@ -1,4 +1,4 @@
--- `writing::body::write_body` meets its contract. Assumes nothing.
+-- Written by tools/proofs from tools/writing.conf. `writing::body::write_body` meets its contract. Assumes nothing.
 use borrow.Author.Needs.{needs}
 use Rattle.writing.proofs.RowLaws.{body-row}
 use Rattle.writing.proofs.body.write_body.Statement.{statement}

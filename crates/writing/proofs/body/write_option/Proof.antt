@@ -1,4 +1,4 @@
--- `writing::body::write_option` meets its contract. Assumes nothing.
+-- Written by tools/proofs from tools/writing.conf. `writing::body::write_option` meets its contract. Assumes nothing.
 use mathlib.Core.Path.{sym, _∙_}
 use borrow.Author.Needs.{needs}
 use Rattle.writing.proofs.RowLaws.{option-there, option-none}

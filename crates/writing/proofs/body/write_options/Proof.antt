@@ -1,4 +1,4 @@
--- `writing::body::write_options` meets its contract. Assumes nothing.
+-- Written by tools/proofs from tools/writing.conf. `writing::body::write_options` meets its contract. Assumes nothing.
 use borrow.Author.Needs.{needs}
 use Rattle.writing.proofs.RowLaws.{options-none, options-there, options-absent}
 use Rattle.writing.proofs.body.write_options.Statement.{statement}

@@ -1,4 +1,4 @@
--- `writing::body::write_parts` meets its contract. Assumes nothing.
+-- Written by tools/proofs from tools/writing.conf. `writing::body::write_parts` meets its contract. Assumes nothing.
 use Prim.Native.Nat.{_-_}
 use mathlib.Core.Path.{_≡_}
 use lib.ListN.{length, drop}

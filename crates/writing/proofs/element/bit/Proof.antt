@@ -1,4 +1,4 @@
--- `writing::element::bit` meets its contract. Assumes nothing.
+-- Written by tools/proofs from tools/writing.conf. `writing::element::bit` meets its contract. Assumes nothing.
 use borrow.Author.Needs.{needs}
 use Rattle.writing.proofs.element.bit.Statement.{statement}
 use Rattle.writing.proofs.element.bit.Tie as tie

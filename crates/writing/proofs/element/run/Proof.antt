@@ -1,4 +1,4 @@
--- `writing::element::run` meets its contract. Assumes nothing.
+-- Written by tools/proofs from tools/writing.conf. `writing::element::run` meets its contract. Assumes nothing.
 use borrow.Author.Needs.{needs}
 use Rattle.writing.proofs.WroteLaws.{put-wrote}
 use Rattle.writing.proofs.element.run.Statement.{statement}

@@ -1,4 +1,4 @@
--- `writing::group::write_group` meets its contract. Assumes nothing.
+-- Written by tools/proofs from tools/writing.conf. `writing::group::write_group` meets its contract. Assumes nothing.
 use borrow.Author.Needs.{needs}
 use Rattle.codec.specs.Codec.{number}
 use Rattle.message.specs.Groups.{addressesC, rangeC, groupC}

@@ -1,4 +1,4 @@
--- `writing::group::write_places` meets its contract. Assumes nothing.
+-- Written by tools/proofs from tools/writing.conf. `writing::group::write_places` meets its contract. Assumes nothing.
 use Prim.Native.Nat.{_-_, _≤_, min}
 use mathlib.Core.Path.{_≡_}
 use native.Mathlib.Omega.{arith}

@@ -1,4 +1,4 @@
--- `writing::part::number_part` meets its contract. Assumes nothing.
+-- Written by tools/proofs from tools/writing.conf. `writing::part::number_part` meets its contract. Assumes nothing.
 use native.Mathlib.Omega.{arith}
 use borrow.Author.Needs.{needs}
 use Rattle.codec.specs.Codec.{number}

@@ -1,4 +1,4 @@
--- `writing::part::result_part` meets its contract. Assumes nothing.
+-- Written by tools/proofs from tools/writing.conf. `writing::part::result_part` meets its contract. Assumes nothing.
 use borrow.Author.Needs.{needs}
 use Rattle.message.specs.Acks.{resultC}
 use Rattle.writing.specs.Parts.{partBits}

@@ -1,4 +1,4 @@
--- `writing::part::user_part` meets its contract. Assumes nothing.
+-- Written by tools/proofs from tools/writing.conf. `writing::part::user_part` meets its contract. Assumes nothing.
 use borrow.Author.Needs.{needs}
 use Rattle.message.specs.Addresses.{addressC}
 use Rattle.writing.specs.Parts.{partBits}
@@ -22,4 +22,5 @@ returns c =
     rw (p1 .address-at .ensures) at (p2 .write-address .ensures)
 
 pub user-part-spec : {M : Type 1} → statement M
-user-part-spec = tie.close (tie.spec address-at-requires write-address-requires same-length returns)
+user-part-spec =
+    tie.close (tie.spec address-at-requires write-address-requires same-length returns)

@@ -1,4 +1,4 @@
--- `writing::part::write_part` meets its contract. Assumes nothing.
+-- Written by tools/proofs from tools/writing.conf. `writing::part::write_part` meets its contract. Assumes nothing.
 use borrow.Author.Needs.{needs}
 use Rattle.writing.proofs.RowLaws.{wrote-nothing}
 use Rattle.writing.proofs.part.write_part.Statement.{statement}
