@@ -160,35 +160,35 @@ module _ {A B : Type 0} (C : Codec A) (D : A → Codec B) (G : Good C) (H : (a :
         told = seq-told;
       }
 
--- ---- map: a value that was read goes there and back, and fits; one that fits comes back whole
+-- ---- map: a value that was read goes there and back, and has nothing else; one that has nothing else comes back whole
 
-module _ {A B : Type 0} (to : A → B) (from : B → A) (fits : B → Bool) (C : Codec A)
-    (back : (a : A) → C .ok a ≡ true → from (to a) ≡ a) (fit : (a : A) → C .ok a ≡ true → fits (to a) ≡ true) (there : (b : B) → fits b ≡ true → C .ok (from b) ≡ true → to (from b) ≡ b) (G : Good C) where
-  map-view : (f : ℕ → ℕ) (n at : ℕ) (r : Read A) → View C f n at r → View (map to from fits C) f n at (bind r (λ a p. got (to a) p))
+module _ {A B : Type 0} (to : A → B) (from : B → A) (just : B → Bool) (C : Codec A)
+    (back : (a : A) → C .ok a ≡ true → from (to a) ≡ a) (holds : (a : A) → C .ok a ≡ true → just (to a) ≡ true) (there : (b : B) → just b ≡ true → C .ok (from b) ≡ true → to (from b) ≡ b) (G : Good C) where
+  map-view : (f : ℕ → ℕ) (n at : ℕ) (r : Read A) → View C f n at r → View (map to from just C) f n at (bind r (λ a p. got (to a) p))
   map-view f n at (no s) (refused _) = refused s
   map-view f n at (got a p) (found _ _ w) =
       let e : a ≡ from (to a) = sym (back a (w .valid)) in
       found (to a) p
       (record {
-        valid = both-true (fits (to a)) (C .ok (from (to a))) (fit a (w .valid)) (subst (λ (x : A). C .ok x ≡ true) e (w .valid));
+        valid = both-true (just (to a)) (C .ok (from (to a))) (holds a (w .valid)) (subst (λ (x : A). C .ok x ≡ true) e (w .valid));
         next = subst (λ (x : A). p ≡ at + length (C .bits x)) e (w .next);
         within = w .within;
         stands = subst (λ (x : A). Stands f at (C .bits x)) e (w .stands);
       })
 
-  pub good-map : Good (map to from fits C)
+  pub good-map : Good (map to from just C)
   good-map =
       record {
-        are-bits = λ b v. G .are-bits (from b) (both-right (fits b) (C .ok (from b)) v);
+        are-bits = λ b v. G .are-bits (from b) (both-right (just b) (C .ok (from b)) v);
         forward = λ f n at b v s k.
-            let w = both-right (fits b) (C .ok (from b)) v in
-            rw (G .forward f n at (from b) w s k) (ap (λ (x : B). got x (at + length (C .bits (from b)))) (there b (both-left (fits b) (C .ok (from b)) v) w));
+            let w = both-right (just b) (C .ok (from b)) v in
+            rw (G .forward f n at (from b) w s k) (ap (λ (x : B). got x (at + length (C .bits (from b)))) (there b (both-left (just b) (C .ok (from b)) v) w));
         backward = λ f n hf at. map-view f n at (C .read f n at) (G .backward f n hf at);
         alike = λ f g n at hf e. rw (G .alike f g n at hf e);
         told = λ f n hf at. told-map (C .order f n at) to (C .read f n at) (G .told f n hf at);
       }
 
--- where all of the other type is carried, every value fits
+-- where all of the other type is carried, every value passes
 pub good-iso : {A B : Type 0} (to : A → B) (from : B → A) (C : Codec A) → ((a : A) → C .ok a ≡ true → from (to a) ≡ a) → ((b : B) → C .ok (from b) ≡ true → to (from b) ≡ b) → Good C
     → Good (map to from (λ _. true) C)
 good-iso to from C back there G = good-map to from (λ _. true) C back (λ a v. refl) (λ b _ v. there b v) G

@@ -50,8 +50,8 @@ module _ (test : ℕ → Bool) where
   only-seq C D o h =
       record { stops = λ f n at. bind-only (C .read f n at) _ (o .stops f n at) (λ a p. bind-only (D a .read f n p) _ (h a .stops f n p) (λ b q. tt)) }
 
-  pub only-map : {A B : Type 0} (to : A → B) (from : B → A) (fits : B → Bool) (C : Codec A) → Only test C → Only test (map to from fits C)
-  only-map to from fits C o = record { stops = λ f n at. bind-only (C .read f n at) _ (o .stops f n at) (λ a p. tt) }
+  pub only-map : {A B : Type 0} (to : A → B) (from : B → A) (just : B → Bool) (C : Codec A) → Only test C → Only test (map to from just C)
+  only-map to from just C o = record { stops = λ f n at. bind-only (C .read f n at) _ (o .stops f n at) (λ a p. tt) }
 
   pub only-choose : {A : Type 0} (b : Bool) (C D : Codec A) → Only test C → Only test D → Only test (choose b C D)
   only-choose true C D o h = o

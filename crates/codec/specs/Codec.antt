@@ -92,14 +92,14 @@ seq C D =
       ok = λ x. both (C .ok (x .0)) (D (x .0) .ok (x .1));
     }
 
--- the same bits as values of another type; `fits` is the test that all that C doesn't carry is zero
+-- the same bits as values of another type; `just` is the test that all that C doesn't carry is zero
 abbrev pub map : {A B : Type 0} → (A → B) → (B → A) → (B → Bool) → Codec A → Codec B
-map to from fits C =
+map to from just C =
     record {
       read = λ f n at. bind (C .read f n at) (λ a p. got (to a) p);
       order = λ f n at. C .order f n at;
       bits = λ b. C .bits (from b);
-      ok = λ b. both (fits b) (C .ok (from b));
+      ok = λ b. both (just b) (C .ok (from b));
     }
 
 -- C or D, by what was read before

@@ -12,7 +12,7 @@ use Rattle.codec.specs.Stops.{short, refusal}
 use Rattle.codec.specs.Codec.{both, number, vecRead}
 use Rattle.codec.specs.Options.{flag}
 use Rattle.profile.specs.Counting.{every, sum}
-use Rattle.profile.specs.Rules.{meaningOk, meaningIn, airOk, shareOk, shareIn, sharesOk, profileOk}
+use Rattle.profile.specs.Rules.{meaningOf, meaningOk, meaningIn, airOk, shareOk, shareIn, sharesOk, profileOk}
 use Rattle.profile.specs.Sample.{sample, sampleMeanings, sampleShare}
 use Rattle.message.specs.Addresses.{isNobody, kindC, extensionC, addressC}
 use Rattle.message.specs.Groups.{addressesIn, allowedIn, nobodies, areNobody, placesC, rangeOk, endsOk, addressesC, rangeC, groupC, noGroup, oneGroup, spanIn, spanOf}
@@ -28,7 +28,7 @@ use Rattle.validity.specs.Validity.{validOf}
 use Rattle.validity.proofs.Cases.{home, abroad, two, four, activateV, ackV, call}
 use Rattle.writing.specs.Writing.{bitsOf, padded, layOf, layIn, writeValid, writeOf}
 use Rattle.console.specs.Bytes.{numberFrom, numberBytes, rowsFrom, rowsBytes, areZero}
-use Rattle.console.specs.Profiles.{meaningBytes, meaningOf, shareBytes, shareFrom, profileBytes, airFrom, sharesFrom, profileFrom, isProfile, passes}
+use Rattle.console.specs.Profiles.{meaningBytes, shareBytes, shareFrom, profileBytes, airFrom, sharesFrom, profileFrom, isProfile, passes}
 use Rattle.console.specs.Values.{addressBytes, addressFrom, groupBytes, groupFrom, valueBytes, valueFrom, isValue}
 use Rattle.console.specs.Console.{roomFor, cadRead, readNumber, cadReadOf, cadWrite, writeNumber, cadWriteOf}
 

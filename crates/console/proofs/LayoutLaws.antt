@@ -19,7 +19,7 @@ use Rattle.bits.proofs.SetLaws.{eq-or}
 use Rattle.codec.proofs.Good.{both-true, both-left, both-right}
 use Rattle.profile.specs.Counting.{every, one}
 use Rattle.profile.proofs.CountLaws.{every-at}
-use Rattle.profile.specs.Rules.{reserved, noShare, meaningOkBy, meaningOk, meaningIn, airOk, profileOk}
+use Rattle.profile.specs.Rules.{reserved, noShare, meaningOf, meaningOkBy, meaningOk, meaningIn, airOk, profileOk}
 use Rattle.profile.specs.declared.Kind.{Kind}
 use Rattle.profile.specs.declared.Kind.the-variants as kind
 use Rattle.profile.specs.declared.Meaning.{Meaning}
@@ -35,7 +35,7 @@ use Rattle.message.specs.declared.Group.{Group}
 use Rattle.message.specs.declared.Value.{Value}
 use Rattle.validity.specs.Validity.{validOf}
 use Rattle.console.specs.Bytes.{numberFrom, numberBytes, rowsFrom, rowsBytes, areZero}
-use Rattle.console.specs.Profiles.{byteBy, meaningBytes, meaningOf, meaningFrom, shareBytes, shareFrom, profileBytes, airFrom, sharesFrom, profileFrom, isProfile}
+use Rattle.console.specs.Profiles.{byteBy, meaningBytes, meaningFrom, shareBytes, shareFrom, profileBytes, airFrom, sharesFrom, profileFrom, isProfile}
 use Rattle.console.specs.Values.{addressBytes, addressFrom, groupBytes, groupFrom, valueBytes, valueFrom, isValue}
 use Rattle.console.proofs.ByteLaws.{byte-here, length-number}
 use Rattle.console.proofs.PutLaws.{length-address, length-group}
@@ -222,20 +222,17 @@ area-value air v l e h =
 
 -- ---- meanings and shares
 
-meaning-byte : (b : ℕ) → b ≤ 17 → meaningBytes (meaningOf b) ≡ b ∷ []
+meaning-byte : (b : ℕ) → meaningBytes (meaningOf b) ≡ b ∷ []
 unfolding meaningBytes meaningOf
-meaning-byte b h = go (eqb b 0) refl (leb b 15) refl (eqb b 16) refl
+meaning-byte b = go (eqb b 0) refl (eqb b 16) refl (eqb b 17) refl
   where
-    go : (x : Bool) → eqb b 0 ≡ x → (y : Bool) → leb b 15 ≡ y → (z : Bool) → eqb b 16 ≡ z
-        → meaningBytes (cond x reserved (cond y (record { kind = kind.Listed; count = b }) (cond z (record { kind = kind.Nobody; count = 0 }) (record { kind = kind.FirstLast; count = 0 }))))
+    go : (x : Bool) → eqb b 0 ≡ x → (y : Bool) → eqb b 16 ≡ y → (z : Bool) → eqb b 17 ≡ z
+        → meaningBytes (cond x reserved (cond y (record { kind = kind.Nobody; count = 0 }) (cond z (record { kind = kind.FirstLast; count = 0 }) (record { kind = kind.Listed; count = b }))))
         ≡ b ∷ []
     go true ex y ey z ez = ap (λ (k : ℕ). k ∷ []) (sym (eqb-true b 0 ex))
-    go false ex true ey z ez = refl
-    go false ex false ey true ez = ap (λ (k : ℕ). k ∷ []) (sym (eqb-true b 16 ez))
-    go false ex false ey false ez =
-        let a = leb-false b 15 ey in
-        let c : b ≡ 17 = ⊎-elim (λ q. absurd (eqb-false b 16 ez q)) (λ q. omega arith) (eq-or b 16) in
-        ap (λ (k : ℕ). k ∷ []) (sym c)
+    go false ex true ey z ez = ap (λ (k : ℕ). k ∷ []) (sym (eqb-true b 16 ey))
+    go false ex false ey true ez = ap (λ (k : ℕ). k ∷ []) (sym (eqb-true b 17 ez))
+    go false ex false ey false ez = refl
 
 share-there : (l : List ℕ) → 2 ≤ length l → shareBytes (shareFrom l) ≡ take 2 l
 unfolding shareBytes shareFrom
@@ -257,7 +254,7 @@ length-meaning m = refl
 
 meaning-there : (l : List ℕ) → 1 ≤ length l → getD l 0 0 ≤ 17 → meaningBytes (meaningFrom l) ≡ take 1 l
 meaning-there [] h k = absurd (omega arith)
-meaning-there (b ∷ l) h k = meaning-byte b k
+meaning-there (b ∷ l) h k = meaning-byte b
 
 -- the length beside a meaning that is no list is zero
 abbrev aloneBy : Kind → ℕ → Bool
@@ -277,7 +274,7 @@ back-by kind.FirstLast n e z = ap (λ (c : ℕ). record { kind = kind.FirstLast;
 back-by kind.Listed n e z =
     let a = leb-true 1 n (both-left _ _ e) in
     let b = leb-true n 15 (both-right (leb 1 n) _ e) in
-    rw (ne-eqb n 0 (λ d. omega arith), le-leb n 15 b)
+    rw (ne-eqb n 0 (λ d. omega arith), ne-eqb n 16 (λ d. omega arith), ne-eqb n 17 (λ d. omega arith))
 
 -- ---- profiles
 

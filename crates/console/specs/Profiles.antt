@@ -1,13 +1,13 @@
 -- A profile in 39 bytes: [0] SS type; [1-3] home extension; [4] U; [5] N; [6-21] sixteen meanings; [22] posts; [23-38] eight pairs of a
 -- reserved number and a ceiling, zero for posts that aren't there.
 use Prim.Native.Nat.{ℕ, _+_, _*_}
-use mathlib.Core.Bool.{Bool, cond}
+use mathlib.Core.Bool.{Bool}
 use mathlib.Core.List.{List, [], _∷_, _++_}
 use lib.Dec.{eqb, leb}
 use lib.ListN.{length, getD, drop}
 use Rattle.codec.specs.Codec.{both}
 use Rattle.profile.specs.Counting.{every}
-use Rattle.profile.specs.Rules.{reserved, profileOk}
+use Rattle.profile.specs.Rules.{meaningOf, profileOk}
 use Rattle.profile.specs.declared.Kind.{Kind}
 use Rattle.profile.specs.declared.Kind.the-variants as kind
 use Rattle.profile.specs.declared.Meaning.{Meaning}
@@ -27,13 +27,6 @@ byteBy kind.FirstLast n = 17
 
 unfoldable pub meaningBytes : Meaning → List ℕ
 meaningBytes m = byteBy (m .kind) (m .count) ∷ []
-
-unfoldable pub meaningOf : ℕ → Meaning
-meaningOf b =
-    cond (eqb b 0) reserved
-    (cond (leb b 15) (record { kind = kind.Listed; count = b })
-    (cond (eqb b 16) (record { kind = kind.Nobody; count = 0 })
-    (record { kind = kind.FirstLast; count = 0 })))
 
 abbrev pub meaningFrom : List ℕ → Meaning
 meaningFrom l = meaningOf (getD l 0 0)

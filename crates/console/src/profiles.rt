@@ -5,7 +5,7 @@ ghost use lib.Dec.{leb};
 ghost use lib.ListN.{getD, drop};
 ghost use Rattle.profile.specs.Counting.{every};
 ghost use Rattle.console.specs.Bytes.{areZero};
-ghost use Rattle.console.specs.Profiles.{meaningOf, shareFrom, airFrom, sharesFrom, profileFrom, isProfile, passes};
+ghost use Rattle.console.specs.Profiles.{shareFrom, airFrom, sharesFrom, profileFrom, isProfile, passes};
 use crate::number;
 use profile::Air;
 use profile::Kind;
@@ -92,7 +92,7 @@ fn air_from(l: &[u8]) -> Air
     let mut meanings = [RESERVED; 16];
     let mut r: usize = 0;
     while r < Air::RANGES {
-        let m = meaning_of(number::byte_at(l, 6 + r));
+        let m = profile::meaning_from(number::byte_at(l, 6 + r));
         meanings[r] = m;
         r += 1;
     }
@@ -102,31 +102,6 @@ fn air_from(l: &[u8]) -> Air
         meanings: meanings,
         unknown: number::byte_at(l, 4),
         other: number::byte_at(l, 5),
-    }
-}
-
-// 0 reserved, 1 to 15 a list of that many, 16 nobody, 17 first and last.
-fn meaning_of(b: u8) -> Meaning
-    ensures { λ r. ⌜ r ≡ meaningOf b ⌝ }
-{
-    if b == 0 {
-        return RESERVED;
-    }
-    if b <= 15 {
-        return Meaning {
-            kind: Kind::Listed,
-            count: b,
-        };
-    }
-    if b == 16 {
-        return Meaning {
-            kind: Kind::Nobody,
-            count: 0,
-        };
-    }
-    Meaning {
-        kind: Kind::FirstLast,
-        count: 0,
     }
 }
 

@@ -4,6 +4,7 @@ use Rattle.profile.proofs.Profile.new as new
 use Rattle.profile.proofs.profile_ok as profile-ok
 use Rattle.profile.proofs.sample_profile as sample-profile
 use Rattle.profile.proofs.meaning_of as meaning-of
+use Rattle.profile.proofs.meaning_from as meaning-from
 use Rattle.profile.proofs.list_ok as list-ok
 use Rattle.contracts.specs.Outcomes.{Decides}
 use Rattle.contracts.proofs.Law.{same-answer}
@@ -22,3 +23,6 @@ decides-meaning-of = record { says = meaning-of.Reads.Learnt; is = refl; one = �
 
 pub decides-list-ok : Decides list-ok.ended (λ M. list-ok.spec)
 decides-list-ok = record { says = list-ok.Reads.Learnt; is = refl; one = λ κs a x y v w. same-answer }
+
+pub decides-meaning-from : Decides meaning-from.ended (λ M. meaning-from.spec)
+decides-meaning-from = record { says = meaning-from.Reads.Learnt; is = refl; one = λ κs a x y v w. same-answer }

@@ -2,7 +2,7 @@
 use Prim.Native.Nat.{ℕ}
 use mathlib.Core.Bool.{Bool, true, false, cond}
 use mathlib.Core.List.{List}
-use lib.Dec.{leb}
+use lib.Dec.{eqb, leb}
 use lib.ListN.{getD, replicate}
 use Rattle.codec.specs.Codec.{both}
 use Rattle.codec.specs.Stops.{refusal, noStop}
@@ -20,6 +20,13 @@ use Rattle.profile.specs.declared.NewProfile.{NewProfile}
 
 abbrev pub reserved : Meaning
 reserved = record { kind = kind.Reserved; count = 0 }
+
+-- a meaning by its number, as bytes and lines have it: 0 reserved, 16 nobody, 17 first and last, any other a list of that many
+unfoldable pub meaningOf : ℕ → Meaning
+meaningOf n =
+    cond (eqb n 0) reserved
+    (cond (eqb n 16) (record { kind = kind.Nobody; count = 0 })
+    (cond (eqb n 17) (record { kind = kind.FirstLast; count = 0 }) (record { kind = kind.Listed; count = n })))
 
 -- a list has 1 to 15 addresses
 abbrev pub listOk : ℕ → Bool

@@ -6,7 +6,7 @@
 ghost use mathlib.Core.Path.{_≡_};
 ghost use Prim.Native.Nat.{_≤_};
 ghost use Rattle.profile.specs.Counting.{every, sum};
-ghost use Rattle.profile.specs.Rules.{listOk, meaningOk, meaningIn, airOk, shareOk, shareIn, sharesOk, profileOk, noProfile, newOf};
+ghost use Rattle.profile.specs.Rules.{listOk, meaningOk, meaningIn, meaningOf, airOk, shareOk, shareIn, sharesOk, profileOk, noProfile, newOf};
 ghost use Rattle.profile.specs.Sample.{sample};
 use codec::Stop;
 
@@ -201,6 +201,31 @@ pub fn meaning_of(meanings: [Meaning; 16], range: u8) -> Meaning
         return meanings[r];
     }
     RESERVED
+}
+
+// The meaning by its number: 0 reserved, 16 nobody, 17 first and last, any other a list of that many.
+pub fn meaning_from(n: u8) -> Meaning
+    ensures { λ r. ⌜ r ≡ meaningOf n ⌝ }
+{
+    if n == 0 {
+        return RESERVED;
+    }
+    if n == 16 {
+        return Meaning {
+            kind: Kind::Nobody,
+            count: 0,
+        };
+    }
+    if n == 17 {
+        return Meaning {
+            kind: Kind::FirstLast,
+            count: 0,
+        };
+    }
+    Meaning {
+        kind: Kind::Listed,
+        count: n,
+    }
 }
 
 fn no_profile() -> Profile

@@ -5,8 +5,8 @@ use mathlib.Core.Bool.{cond}
 use mathlib.Core.List.{List, [], _∷_}
 use lib.Dec.{eqb, leb}
 use lib.ListN.{getD}
+use Rattle.profile.specs.Rules.{meaningOf}
 use Rattle.profile.specs.declared.Air.{Air}
-use Rattle.profile.specs.declared.Kind.the-variants as kind
 use Rattle.profile.specs.declared.Meaning.{Meaning}
 use Rattle.profile.specs.declared.Profile.{Profile}
 use Rattle.profile.specs.declared.Share.{Share}
@@ -16,20 +16,17 @@ use Rattle.profile.specs.declared.Shares.{Shares}
 unfoldable pub byteOf : ℕ → ℕ
 byteOf n = cond (leb n 255) n 255
 
--- 0 reserved, 16 nobody, 17 first and last; any other is a list of that many, good if it has 1 to 15
-unfoldable pub meaningOf : ℕ → Meaning
-meaningOf n =
-    cond (eqb n 0) (record { kind = kind.Reserved; count = 0 })
-    (cond (eqb n 16) (record { kind = kind.Nobody; count = 0 })
-    (cond (eqb n 17) (record { kind = kind.FirstLast; count = 0 }) (record { kind = kind.Listed; count = byteOf n })))
+-- a meaning by a line's number
+unfoldable pub meaningBy : ℕ → Meaning
+meaningBy n = meaningOf (byteOf n)
 
 -- range value v's meaning is number 4 + v of the row
 unfoldable pub meaningsOf : List ℕ → List Meaning
 meaningsOf row =
-    meaningOf (getD row 4 0) ∷ meaningOf (getD row 5 0) ∷ meaningOf (getD row 6 0) ∷ meaningOf (getD row 7 0)
-    ∷ meaningOf (getD row 8 0) ∷ meaningOf (getD row 9 0) ∷ meaningOf (getD row 10 0) ∷ meaningOf (getD row 11 0)
-    ∷ meaningOf (getD row 12 0) ∷ meaningOf (getD row 13 0) ∷ meaningOf (getD row 14 0) ∷ meaningOf (getD row 15 0)
-    ∷ meaningOf (getD row 16 0) ∷ meaningOf (getD row 17 0) ∷ meaningOf (getD row 18 0) ∷ meaningOf (getD row 19 0)
+    meaningBy (getD row 4 0) ∷ meaningBy (getD row 5 0) ∷ meaningBy (getD row 6 0) ∷ meaningBy (getD row 7 0)
+    ∷ meaningBy (getD row 8 0) ∷ meaningBy (getD row 9 0) ∷ meaningBy (getD row 10 0) ∷ meaningBy (getD row 11 0)
+    ∷ meaningBy (getD row 12 0) ∷ meaningBy (getD row 13 0) ∷ meaningBy (getD row 14 0) ∷ meaningBy (getD row 15 0)
+    ∷ meaningBy (getD row 16 0) ∷ meaningBy (getD row 17 0) ∷ meaningBy (getD row 18 0) ∷ meaningBy (getD row 19 0)
     ∷ []
 
 unfoldable pub airOf : List ℕ → Air

@@ -1,7 +1,7 @@
 // The profile of a `profile` line, from its row of numbers.
 ghost use mathlib.Core.Path.{_≡_};
 ghost use Rattle.profile.specs.Rules.{noProfile};
-ghost use Rattle.script.specs.Profiles.{byteOf, meaningOf, meaningsOf, airOf, shareOf, shareRow, sharesOf, postsOf, profileOf, pairsIn};
+ghost use Rattle.script.specs.Profiles.{byteOf, meaningBy, meaningsOf, airOf, shareOf, shareRow, sharesOf, postsOf, profileOf, pairsIn};
 use profile::Air;
 use profile::Kind;
 use profile::Meaning;
@@ -120,30 +120,9 @@ fn meanings_of(number: [u32; 38]) -> Table
 }
 
 fn meaning_of(n: u32) -> Meaning
-    ensures { λ r. ⌜ r ≡ meaningOf n ⌝ }
+    ensures { λ r. ⌜ r ≡ meaningBy n ⌝ }
 {
-    if n == 0 {
-        return Meaning {
-            kind: Kind::Reserved,
-            count: 0,
-        };
-    }
-    if n == 16 {
-        return Meaning {
-            kind: Kind::Nobody,
-            count: 0,
-        };
-    }
-    if n == 17 {
-        return Meaning {
-            kind: Kind::FirstLast,
-            count: 0,
-        };
-    }
-    Meaning {
-        kind: Kind::Listed,
-        count: byte_of(n),
-    }
+    profile::meaning_from(byte_of(n))
 }
 
 // Over 255 it is 255.
