@@ -2,6 +2,7 @@
 use mathlib.Core.Path.{refl}
 use Rattle.lines.proofs.said as said
 use Rattle.lines.proofs.said_kept as said-kept
+use Rattle.lines.proofs.hex_at as hex-at
 use Rattle.lines.proofs.is_digit as is-digit
 use Rattle.lines.proofs.hex_digit as hex-digit
 use Rattle.contracts.specs.Outcomes.{Decides}
@@ -12,6 +13,9 @@ decides-said = record { says = said.Reads.Learnt; is = refl; one = λ κs a x y 
 
 pub decides-said-kept : Decides said-kept.ended (λ M. said-kept.spec)
 decides-said-kept = record { says = said-kept.Reads.Learnt; is = refl; one = λ κs a x y v w. same-answer }
+
+pub decides-hex-at : Decides hex-at.ended (λ M. hex-at.spec)
+decides-hex-at = record { says = hex-at.Reads.Learnt; is = refl; one = λ κs a x y v w. same-answer }
 
 pub decides-is-digit : Decides is-digit.ended (λ M. is-digit.spec)
 decides-is-digit = record { says = is-digit.Reads.Learnt; is = refl; one = λ κs a x y v w. same-answer }

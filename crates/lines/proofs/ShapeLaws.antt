@@ -1,19 +1,20 @@
 -- The shape of a line, byte by byte as the code's loops take it. Assumes nothing.
 use Prim.Native.Nat.{ℕ, zero, suc, _+_, _-_, _*_, _≤_, _<_, _^_}
-use mathlib.Core.Path.{_≡_, refl, ap, _∙_, subst}
+use mathlib.Core.Path.{_≡_, refl, _∙_, subst}
 use mathlib.Core.Bool.{Bool, true, false, cond}
-use mathlib.Core.List.{List, [], _∷_, _++_}
+use mathlib.Core.List.{List, [], _∷_}
 use native.Mathlib.Nat.{pow-suc, pow-le-pow-right, lt-of-lt-of-le}
 use native.Mathlib.Numerals.{add-one}
 use native.Mathlib.Omega.{arith}
 use lib.Dec.{eqb, leb, ltb}
 use lib.ListN.{length, getD, take, drop, set, drop-of-length-le}
-use lib.Seq.{drop-cons, take-suc-set}
+use lib.Seq.{drop-cons}
 use borrow.Author.Tests.{lt-ltb, le-ltb, leb-true, ltb-true}
 use Rattle.codec.specs.Codec.{both}
 use Rattle.codec.proofs.Good.{both-left, both-right}
-use Rattle.lines.specs.Shape.{isDigit, isLetter, hexOf, isHex, Line, good, other, hexThen, afterDigits, digitsThen, lineOf}
+use Rattle.lines.specs.Shape.{isDigit, isLetter, hexOf, isHex, noBytes, noHex, hexThen, hexIn, hexAt, Line, good, other, lineWith, afterDigits, digitsThen, lineOf}
 use Rattle.lines.specs.Parsing.{Parses}
+use Rattle.lines.specs.declared.Hex.{Hex}
 use Rattle.lines.specs.declared.Parsed.{Parsed}
 
 -- ---- one byte
@@ -66,12 +67,12 @@ module _ (l : List ℕ) (i bits : ℕ) where
 
 -- ---- the pairs of hex digits
 
-module _ (bits : ℕ) (l bytes : List ℕ) (k room : ℕ) where
-  pub hex-end : length l ≤ k → hexThen bits bytes room (drop k l) ≡ good bits bytes
+module _ (l row : List ℕ) (k room n : ℕ) where
+  pub hex-end : length l ≤ k → hexThen room n row (drop k l) ≡ record { good = true; count = n; bytes = row }
   unfolding hexThen
   hex-end h = rw (drop-of-length-le l h)
 
-  pub hex-odd : k < length l → length l - k < 2 → hexThen bits bytes room (drop k l) ≡ other
+  pub hex-odd : k < length l → length l - k < 2 → hexThen room n row (drop k l) ≡ noHex
   unfolding hexThen
   hex-odd h e =
       let one : drop k l ≡ getD l k 0 ∷ [] = drop-cons l k 0 h ∙ rw (drop-of-length-le l (last h e)) in
@@ -86,50 +87,69 @@ module _ (bits : ℕ) (l bytes : List ℕ) (k room : ℕ) where
         let e : suc (suc k) ≡ k + 2 = omega arith in
         drop-cons l k 0 (omega arith) ∙ rw (drop-cons l (suc k) 0 (omega arith), e, ← add-one k)
 
-    pub hex-full : room ≡ 0 → hexThen bits bytes room (drop k l) ≡ other
+    pub hex-full : room ≡ 0 → hexThen room n row (drop k l) ≡ noHex
     unfolding hexThen
     hex-full e = rw (two, e)
 
-    module _ (less : ℕ) (some : room ≡ suc less) where
-      pub hex-first : 16 ≤ hexOf (getD l k 0) → hexThen bits bytes room (drop k l) ≡ other
+    module _ (less : ℕ) (some : room ≡ suc less) (x y : ℕ) (ex : x ≡ hexOf (getD l k 0)) (ey : y ≡ hexOf (getD l (k + 1) 0)) where
+      pub hex-first : 16 ≤ x → hexThen room n row (drop k l) ≡ noHex
       unfolding hexThen isHex
-      hex-first e = rw (two, some, le-ltb _ 16 e)
+      hex-first e = rw (two, some, ← ex, le-ltb _ 16 e)
 
-      pub hex-second : hexOf (getD l k 0) < 16 → 16 ≤ hexOf (getD l (k + 1) 0) → hexThen bits bytes room (drop k l) ≡ other
+      pub hex-second : x < 16 → 16 ≤ y → hexThen room n row (drop k l) ≡ noHex
       unfolding hexThen isHex
-      hex-second e d = rw (two, some, lt-ltb _ 16 e, le-ltb _ 16 d)
+      hex-second e d = rw (two, some, ← ex, ← ey, lt-ltb _ 16 e, le-ltb _ 16 d)
 
-      pub hex-more : hexOf (getD l k 0) < 16 → hexOf (getD l (k + 1) 0) < 16
-          → hexThen bits bytes room (drop k l) ≡ hexThen bits (bytes ++ ((hexOf (getD l k 0) * 16 + hexOf (getD l (k + 1) 0)) ∷ [])) less (drop (k + 2) l)
+      pub hex-more : x < 16 → y < 16 → hexThen room n row (drop k l) ≡ hexThen less (n + 1) (set row n (x * 16 + y)) (drop (k + 2) l)
       unfolding hexThen isHex
-      hex-more e d = rw (two, some, lt-ltb _ 16 e, lt-ltb _ 16 d)
+      hex-more e d = rw (two, some, ← ex, ← ey, lt-ltb _ 16 e, lt-ltb _ 16 d)
 
--- one more byte at the end of those that are there
-pub one-more : (l : List ℕ) (n b : ℕ) → n < length l → take n l ++ (b ∷ []) ≡ take (n + 1) (set l n b)
-one-more l n b h = rw (add-one, take-suc-set l n b h)
-
--- ---- a line of the right shape has at most 517 bytes
-
-hex-long : (bits : ℕ) (bytes : List ℕ) (room : ℕ) (l : List ℕ) → 2 * room < length l → hexThen bits bytes room l ≡ other
-unfolding hexThen
-hex-long bits bytes room [] h = absurd (omega arith)
-hex-long bits bytes room (x ∷ []) h = refl
-hex-long bits bytes zero (x ∷ y ∷ l) h = refl
-hex-long bits bytes (suc room) (x ∷ y ∷ l) h = go (isHex x) (isHex y) (hex-long bits (bytes ++ ((hexOf x * 16 + hexOf y) ∷ [])) room l (omega arith))
+-- as many as there is room for
+few-hex : (room n : ℕ) (row l : List ℕ) → hexThen room n row l .count ≤ n + room
+unfolding hexThen noHex
+few-hex room n row [] = omega arith
+few-hex room n row (x ∷ []) = omega arith
+few-hex zero n row (x ∷ y ∷ l) = omega arith
+few-hex (suc room) n row (x ∷ y ∷ l) = go (isHex x) (isHex y) (few-hex room (n + 1) (set row n (hexOf x * 16 + hexOf y)) l)
   where
-    go : (a b : Bool) → hexThen bits (bytes ++ ((hexOf x * 16 + hexOf y) ∷ [])) room l ≡ other → cond a (cond b (hexThen bits (bytes ++ ((hexOf x * 16 + hexOf y) ∷ [])) room l) other) other ≡ other
+    go : (a b : Bool) → hexThen room (n + 1) (set row n (hexOf x * 16 + hexOf y)) l .count ≤ n + 1 + room
+        → cond a (cond b (hexThen room (n + 1) (set row n (hexOf x * 16 + hexOf y)) l) noHex) noHex .count ≤ n + suc room
+    go true true e = omega arith
+    go true false e = omega arith
+    go false b e = omega arith
+
+pub hex-few : (l : List ℕ) (at : ℕ) → hexAt l at .count ≤ 256
+unfolding hexAt
+hex-few l at = few-hex 256 0 noBytes (drop at l)
+
+-- of more digits than there is room for, none
+pub hex-long : (room n : ℕ) (row l : List ℕ) → 2 * room < length l → hexThen room n row l ≡ noHex
+unfolding hexThen
+hex-long room n row [] h = absurd (omega arith)
+hex-long room n row (x ∷ []) h = refl
+hex-long zero n row (x ∷ y ∷ l) h = refl
+hex-long (suc room) n row (x ∷ y ∷ l) h = go (isHex x) (isHex y) (hex-long room (n + 1) (set row n (hexOf x * 16 + hexOf y)) l (omega arith))
+  where
+    go : (a b : Bool) → hexThen room (n + 1) (set row n (hexOf x * 16 + hexOf y)) l ≡ noHex
+        → cond a (cond b (hexThen room (n + 1) (set row n (hexOf x * 16 + hexOf y)) l) noHex) noHex ≡ noHex
     go true true e = e
     go true false e = refl
     go false b e = refl
+
+-- ---- a line of the right shape has at most 517 bytes
+
+with-long : (bits : ℕ) (l : List ℕ) → 512 < length l → lineWith bits (hexIn l) ≡ other
+unfolding lineWith noHex
+with-long bits l h = rw (hex-long 256 0 noBytes l h)
 
 digits-long : (seen bits : ℕ) (l : List ℕ) → seen ≤ 4 → 517 < seen + length l → digitsThen seen bits l ≡ other
 unfolding digitsThen
 digits-long seen bits [] m h = refl
 digits-long seen bits (b ∷ l) m h =
-    go (isDigit b) (ltb seen 4) (eqb b 32) (leb 1 seen) refl (λ e. digits-long (suc seen) (bits * 10 + hexOf b) l (ltb-true seen 4 e) (omega arith)) (hex-long bits [] 256 l (omega arith))
+    go (isDigit b) (ltb seen 4) (eqb b 32) (leb 1 seen) refl (λ e. digits-long (suc seen) (bits * 10 + hexOf b) l (ltb-true seen 4 e) (omega arith)) (with-long bits l (omega arith))
   where
-    go : (d f s o : Bool) → ltb seen 4 ≡ f → (ltb seen 4 ≡ true → digitsThen (suc seen) (bits * 10 + hexOf b) l ≡ other) → hexThen bits [] 256 l ≡ other
-        → cond d (cond f (digitsThen (suc seen) (bits * 10 + hexOf b) l) other) (cond s (cond o (hexThen bits [] 256 l) other) other) ≡ other
+    go : (d f s o : Bool) → ltb seen 4 ≡ f → (ltb seen 4 ≡ true → digitsThen (suc seen) (bits * 10 + hexOf b) l ≡ other) → lineWith bits (hexIn l) ≡ other
+        → cond d (cond f (digitsThen (suc seen) (bits * 10 + hexOf b) l) other) (cond s (cond o (lineWith bits (hexIn l)) other) other) ≡ other
     go true true s o e k x = k e
     go true false s o e k x = refl
     go false f true true e k x = x
@@ -144,11 +164,3 @@ long-other l h = digits-long 0 0 l (omega arith) (omega arith)
 
 pub parses-as : {r : Parsed} {l m : Line} → Parses r l → l ≡ m → Parses r m
 parses-as {r} p e = subst (λ (x : Line). Parses r x) e p
-
--- one turn of the loop over pairs
-pub hex-turn : (bits : ℕ) (l arr : List ℕ) (k count x y : ℕ) → count < 256 → length arr ≡ 256 → k + 1 < length l → x ≡ hexOf (getD l k 0) → y ≡ hexOf (getD l (k + 1) 0) → x < 16 → y < 16
-    → hexThen bits (take count arr) (256 - count) (drop k l) ≡ hexThen bits (take (count + 1) (set arr count (x * 16 + y))) (256 - (count + 1)) (drop (k + 2) l)
-hex-turn bits l arr k count x y h e m ex ey hx hy =
-    let some : 256 - count ≡ suc (256 - (count + 1)) = omega arith in
-    hex-more bits l (take count arr) k (256 - count) m (256 - (count + 1)) some (omega (arith, ex)) (omega (arith, ey))
-    ∙ rw (← ex, ← ey) (ap (λ (bs : List ℕ). hexThen bits bs (256 - (count + 1)) (drop (k + 2) l)) (one-more arr count (x * 16 + y) (omega arith)))

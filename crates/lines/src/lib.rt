@@ -3,12 +3,11 @@
 // `said` equals `saidOf` for every line. Of a line that comes in pieces the first 640 bytes are kept (`blocks`), more than a line of the
 // right shape has, and `said_kept` of these says what the whole line says, however long it is (proofs/KeepLaws).
 ghost use mathlib.Core.Path.{_≡_};
-ghost use mathlib.Core.List.{[]};
 ghost use Prim.Native.Nat.{_+_, _-_, _<_, _≤_, min};
 ghost use lib.ListN.{length, take, drop};
 ghost use Rattle.profile.specs.Sample.{sample};
 ghost use Rattle.message.specs.Reading.{readOf};
-ghost use Rattle.lines.specs.Shape.{other, isDigit, hexOf, hexThen, afterDigits, lineOf};
+ghost use Rattle.lines.specs.Shape.{isDigit, hexOf, noHex, hexAt, other, lineWith, afterDigits, lineOf};
 ghost use Rattle.lines.specs.Saying.{nameOf, refusedOf, answerOf, saidOf, textOf};
 ghost use Rattle.lines.specs.Parsing.{Parses};
 
@@ -16,6 +15,13 @@ ghost use Rattle.lines.specs.Parsing.{Parses};
 pub struct Text {
     pub len: usize,
     pub bytes: [u8; 16],
+}
+
+// The first `count` of the bytes; the others are zero, and all are where it is not good.
+pub struct Hex {
+    pub good: bool,
+    pub count: usize,
+    pub bytes: [u8; 256],
 }
 
 // A line of the right shape, or not; its first `count` bytes are the message's.
@@ -399,39 +405,21 @@ fn after_digits(line: &[u8], seen: usize, bits: usize, b: u8) -> Parsed
     no_line()
 }
 
-// Pairs of hex digits to the end, at most 256.
+// The pairs of hex digits to the end.
 fn parse_hex(line: &[u8], from: usize, bits: usize) -> Parsed
-    requires { ⌜ from ≤ length (now line) ⌝ }
-    ensures { λ r. ⌜ Parses r (hexThen bits [] 256 (drop from (now (line .entry)))) ⌝ }
+    ensures { λ r. ⌜ Parses r (lineWith bits (hexAt (now (line .entry)) from)) ⌝ }
 {
-    let mut bytes = [0u8; 256];
-    let mut count: usize = 0;
-    let mut k = from;
-    while k < line.len() {
-        if line.len() - k < 2 {
-            return no_line();
-        }
-        if count >= 256 {
-            return no_line();
-        }
-        let x = hex_digit(line[k]);
-        let y = hex_digit(line[k + 1]);
-        if x >= 16 {
-            return no_line();
-        }
-        if y >= 16 {
-            return no_line();
-        }
-        bytes[count] = x * 16 + y;
-        count += 1;
-        k += 2;
+    let hex = hex_at(line, from);
+    if hex.good {
+        let bytes = hex.bytes;
+        return Parsed {
+            good: true,
+            bits: bits,
+            count: hex.count,
+            bytes: bytes,
+        };
     }
-    Parsed {
-        good: true,
-        bits: bits,
-        count: count,
-        bytes: bytes,
-    }
+    no_line()
 }
 
 fn no_line() -> Parsed
@@ -440,6 +428,49 @@ fn no_line() -> Parsed
     Parsed {
         good: false,
         bits: 0,
+        count: 0,
+        bytes: [0; 256],
+    }
+}
+
+// Pairs of upper-case hex digits from a position to the end, at most 256; not good where anything else stands there.
+pub fn hex_at(line: &[u8], from: usize) -> Hex
+    ensures { λ r. ⌜ r ≡ hexAt (now (line .entry)) from ⌝ }
+{
+    let mut bytes = [0u8; 256];
+    let mut count: usize = 0;
+    let mut k = from;
+    while k < line.len() {
+        if line.len() - k < 2 {
+            return no_hex();
+        }
+        if count >= 256 {
+            return no_hex();
+        }
+        let x = hex_digit(line[k]);
+        let y = hex_digit(line[k + 1]);
+        if x >= 16 {
+            return no_hex();
+        }
+        if y >= 16 {
+            return no_hex();
+        }
+        bytes[count] = x * 16 + y;
+        count += 1;
+        k += 2;
+    }
+    Hex {
+        good: true,
+        count: count,
+        bytes: bytes,
+    }
+}
+
+fn no_hex() -> Hex
+    ensures { λ r. ⌜ r ≡ noHex ⌝ }
+{
+    Hex {
+        good: false,
         count: 0,
         bytes: [0; 256],
     }

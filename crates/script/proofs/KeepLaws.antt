@@ -16,15 +16,15 @@ use lib.ListN.{length, getD, take, drop, set, length-append, length-take, length
 use lib.Seq.{sets, sets-eq, take-at, take-all, length-take-le}
 use borrow.Author.Tests.{ne-eqb, lt-leb, ltb-true}
 use Rattle.bits.proofs.SetLaws.{lt-or}
-use Rattle.lines.specs.Shape.{isDigit, hexOf, isHex}
-use Rattle.script.specs.Shape.{startsWith, noNumber, numberIf, digitsThen, numberAt, noRow, noNumbers, numbersFrom, numbersAt, noHex, hexThen, hexAt}
+use Rattle.lines.specs.Shape.{isDigit, hexOf, noHex, hexAt}
+use Rattle.lines.proofs.ShapeLaws.{hex-long}
+use Rattle.script.specs.Shape.{startsWith, noNumber, numberIf, digitsThen, numberAt, noRow, noNumbers, numbersFrom, numbersAt}
 use Rattle.script.specs.Profiles.{pairsIn}
 use Rattle.script.specs.Lines.{when, recordOrder, setUpOrder, rejectOrder, cancelOrder, outOrder, placeOrder, unplaceOrder, plainLine, messageLine, postLine, profileLine, orderOf, lineOf}
 use Rattle.blocks.specs.Texts.{noText, textOf, keepOf}
 use Rattle.script.specs.declared.Line.{Line}
 use Rattle.script.specs.declared.Order.{Order}
 use Rattle.script.specs.declared.Order.the-variants as order
-use Rattle.script.specs.declared.shape.Hex.{Hex}
 use Rattle.script.specs.declared.shape.Number.{Number}
 use Rattle.script.specs.declared.shape.Numbers.{Numbers}
 use Rattle.blocks.proofs.TextLaws.{keep-text, kept-first}
@@ -106,21 +106,6 @@ numbers-near (suc k) n row l at =
     go true false true z r = omega arith
     go true false false z r = omega arith
     go false e s z r = omega arith
-
--- ---- pairs of hex digits that are too many
-
-hex-long : (room n : ℕ) (row l : List ℕ) → 2 * room < length l → hexThen room n row l ≡ noHex
-unfolding hexThen
-hex-long room n row [] h = absurd (omega arith)
-hex-long room n row (x ∷ []) h = refl
-hex-long zero n row (x ∷ y ∷ l) h = refl
-hex-long (suc room) n row (x ∷ y ∷ l) h = go (isHex x) (isHex y) (hex-long room (n + 1) (set row n (hexOf x * 16 + hexOf y)) l (omega arith))
-  where
-    go : (a b : Bool) → hexThen room (n + 1) (set row n (hexOf x * 16 + hexOf y)) l ≡ noHex
-        → cond a (cond b (hexThen room (n + 1) (set row n (hexOf x * 16 + hexOf y)) l) noHex) noHex ≡ noHex
-    go true true e = e
-    go true false e = refl
-    go false b e = refl
 
 -- ---- so no line of over 539 bytes is of a shape
 

@@ -1,19 +1,17 @@
 -- The shape of a line, byte by byte as the code's loops take it: at each turn, what is left of the definition. Assumes nothing.
-use Prim.Native.Nat.{ℕ, zero, suc, _+_, _-_, _*_, _≤_, _<_, _^_}
-use mathlib.Core.Path.{_≡_, refl, sym, ap, _∙_}
-use mathlib.Core.Bool.{Bool, true, false, cond}
-use mathlib.Core.List.{List, [], _∷_}
+use Prim.Native.Nat.{ℕ, suc, _+_, _-_, _*_, _≤_, _<_, _^_}
+use mathlib.Core.Path.{_≡_}
+use mathlib.Core.Bool.{true, false}
+use mathlib.Core.List.{List, _∷_}
 use native.Mathlib.Nat.{pow-le-pow-right, lt-of-lt-of-le}
 use native.Mathlib.Numerals.{add-one}
 use native.Mathlib.Omega.{arith}
-use lib.Dec.{eqb, leb, ltb}
 use lib.ListN.{length, getD, drop, set, drop-of-length-le}
 use lib.Seq.{drop-cons}
 use borrow.Author.Tests.{eq-eqb, ne-eqb, lt-ltb, le-ltb, le-leb, lt-leb}
 use Rattle.codec.specs.Codec.{both}
-use Rattle.lines.specs.Shape.{isDigit, hexOf, isHex}
-use Rattle.script.specs.Shape.{startsWith, noNumber, numberIf, digitsThen, numberAt, noNumbers, numbersFrom, noHex, hexThen}
-use Rattle.script.specs.declared.shape.Hex.{Hex}
+use Rattle.lines.specs.Shape.{isDigit, hexOf}
+use Rattle.script.specs.Shape.{startsWith, noNumber, numberIf, digitsThen, numberAt, noNumbers, numbersFrom}
 use Rattle.script.specs.declared.shape.Number.{Number}
 use Rattle.script.specs.declared.shape.Numbers.{Numbers}
 
@@ -96,42 +94,3 @@ module _ (most n : ℕ) (row l : List ℕ) (at : ℕ) where
         pub row-more : getD l (d .next) 0 ≡ 32 → numbersFrom (most - n) n row l at ≡ numbersFrom (most - (n + 1)) (n + 1) (set row n (d .value)) l (d .next + 1)
         unfolding numbersFrom
         row-more e = rw (one-less, ← is, f, lt-leb _ _ k, eq-eqb _ _ e)
-
--- ---- the pairs of hex digits
-
-module _ (l row : List ℕ) (k room n : ℕ) where
-  pub hex-end : length l ≤ k → hexThen room n row (drop k l) ≡ record { count = n; bytes = row }
-  unfolding hexThen
-  hex-end h = rw (drop-of-length-le l h)
-
-  pub hex-odd : k < length l → length l - k < 2 → hexThen room n row (drop k l) ≡ noHex
-  unfolding hexThen
-  hex-odd h e =
-      let one : drop k l ≡ getD l k 0 ∷ [] = drop-cons l k 0 h ∙ rw (drop-of-length-le l (last h e)) in
-      rw one
-    where
-      last : k < length l → length l - k < 2 → length l ≤ suc k
-      last h e = omega arith
-
-  module _ (h : k + 1 < length l) where
-    two : drop k l ≡ getD l k 0 ∷ getD l (k + 1) 0 ∷ drop (k + 2) l
-    two =
-        let e : suc (suc k) ≡ k + 2 = omega arith in
-        drop-cons l k 0 (omega arith) ∙ rw (drop-cons l (suc k) 0 (omega arith), e, ← add-one k)
-
-    pub hex-full : room ≡ 0 → hexThen room n row (drop k l) ≡ noHex
-    unfolding hexThen
-    hex-full e = rw (two, e)
-
-    module _ (less : ℕ) (some : room ≡ suc less) (x y : ℕ) (ex : x ≡ hexOf (getD l k 0)) (ey : y ≡ hexOf (getD l (k + 1) 0)) where
-      pub hex-first : 16 ≤ x → hexThen room n row (drop k l) ≡ noHex
-      unfolding hexThen isHex
-      hex-first e = rw (two, some, ← ex, le-ltb _ 16 e)
-
-      pub hex-second : x < 16 → 16 ≤ y → hexThen room n row (drop k l) ≡ noHex
-      unfolding hexThen isHex
-      hex-second e d = rw (two, some, ← ex, ← ey, lt-ltb _ 16 e, le-ltb _ 16 d)
-
-      pub hex-more : x < 16 → y < 16 → hexThen room n row (drop k l) ≡ hexThen less (n + 1) (set row n (x * 16 + y)) (drop (k + 2) l)
-      unfolding hexThen isHex
-      hex-more e d = rw (two, some, ← ex, ← ey, lt-ltb _ 16 e, lt-ltb _ 16 d)

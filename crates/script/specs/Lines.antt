@@ -7,12 +7,12 @@ use lib.ListN.{length, getD}
 use Rattle.profile.specs.Rules.{noProfile}
 use Rattle.desk.specs.declared.Event.{Event}
 use Rattle.desk.specs.declared.Event.the-variants as event
-use Rattle.script.specs.Shape.{startsWith, numbersAt, noBytes, noHex, hexAt}
+use Rattle.lines.specs.Shape.{noBytes, hexAt}
+use Rattle.script.specs.Shape.{startsWith, numbersAt}
 use Rattle.script.specs.Profiles.{profileOf, pairsIn}
 use Rattle.script.specs.declared.Line.{Line}
 use Rattle.script.specs.declared.Order.{Order}
 use Rattle.script.specs.declared.Order.the-variants as order
-use Rattle.script.specs.declared.shape.Hex.{Hex}
 use Rattle.script.specs.declared.shape.Numbers.{Numbers}
 
 -- ---- the orders that are numbers alone, by how many there are and the largest that each may be
@@ -79,17 +79,17 @@ unplaceOrder n =
 unfoldable pub plainLine : Order → Line
 plainLine o = record { order = o; profile = noProfile; count = 0; bytes = noBytes }
 
--- P BITS, and the bytes lent
-unfoldable pub messageLine : Numbers → Hex → Line
-messageLine n h =
-    record { order = order.Call (event.Message (getD (n .number) 0 0) (getD (n .number) 1 0)); profile = noProfile; count = h .count; bytes = h .bytes }
+-- P BITS, and the first `count` of the bytes lent
+unfoldable pub messageLine : Numbers → ℕ → List ℕ → Line
+messageLine n count bytes =
+    record { order = order.Call (event.Message (getD (n .number) 0 0) (getD (n .number) 1 0)); profile = noProfile; count = count; bytes = bytes }
 
 -- P BITS [HEX]: after a space there is at least one byte
 unfoldable pub postLine : Numbers → List ℕ → Line
 postLine n l =
     cond (eqb (n .count) 2)
-    (cond (eqb (n .next) 0) (messageLine n noHex)
-    (cond (leb 1 (hexAt l (n .next) .count)) (messageLine n (hexAt l (n .next))) (plainLine order.Unknown)))
+    (cond (eqb (n .next) 0) (messageLine n 0 noBytes)
+    (cond (leb 1 (hexAt l (n .next) .count)) (messageLine n (hexAt l (n .next) .count) (hexAt l (n .next) .bytes)) (plainLine order.Unknown)))
     (plainLine order.Unknown)
 
 unfoldable pub profileLine : Numbers → Line

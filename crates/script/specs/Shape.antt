@@ -1,13 +1,12 @@
--- The shape of a line of a script, part by part: a keyword, numbers with single spaces between them, pairs of hex digits. A position is
--- an index into the line, from 0; `next` is where the reading goes on.
+-- The shape of a line of a script, part by part: a keyword, numbers with single spaces between them; for the pairs of hex digits see the
+-- Shape of `lines`. A position is an index into the line, from 0; `next` is where the reading goes on.
 use Prim.Native.Nat.{ℕ, zero, suc, _+_, _*_}
 use mathlib.Core.Bool.{Bool, true, false, cond}
 use mathlib.Core.List.{List, [], _∷_}
 use lib.Dec.{eqb, leb, ltb}
 use lib.ListN.{length, getD, drop, set, replicate}
 use Rattle.codec.specs.Codec.{both}
-use Rattle.lines.specs.Shape.{isDigit, hexOf, isHex}
-use Rattle.script.specs.declared.shape.Hex.{Hex}
+use Rattle.lines.specs.Shape.{isDigit, hexOf}
 use Rattle.script.specs.declared.shape.Number.{Number}
 use Rattle.script.specs.declared.shape.Numbers.{Numbers}
 
@@ -63,23 +62,3 @@ numbersFrom (suc k) n row l at =
 -- at most this many numbers from a position on
 unfoldable pub numbersAt : ℕ → List ℕ → ℕ → Numbers
 numbersAt most l at = numbersFrom most 0 noRow l at
-
--- ---- bytes: pairs of hex digits in capitals to the end of the line, 1 to 256 of them; the row is zero beyond the count
-
-unfoldable pub noBytes : List ℕ
-noBytes = replicate 256 0
-
-unfoldable pub noHex : Hex
-noHex = record { count = 0; bytes = noBytes }
-
--- with the first n bytes in the row, and room for more
-unfoldable pub hexThen : ℕ → ℕ → List ℕ → List ℕ → Hex
-hexThen room n row [] = record { count = n; bytes = row }
-hexThen room n row (x ∷ []) = noHex
-hexThen zero n row (x ∷ y ∷ rest) = noHex
-hexThen (suc room) n row (x ∷ y ∷ rest) =
-    cond (isHex x) (cond (isHex y) (hexThen room (n + 1) (set row n (hexOf x * 16 + hexOf y)) rest) noHex) noHex
-
--- the bytes from a position on; 0 of them where the rest of the line is no such row, or nothing
-unfoldable pub hexAt : List ℕ → ℕ → Hex
-hexAt l at = hexThen 256 0 noBytes (drop at l)

@@ -1,7 +1,7 @@
 // One line of a desk script (docs/REPLAY.md): from its bytes to what it asks for.
 //
 // `parse` equals `lineOf` for every line. Of a line that comes in pieces the first 640 bytes are kept (`blocks`), and `parse_kept` of these
-// is what the whole line asks for, however long it is (proofs/KeepLaws). The files: shape (keyword, numbers, hex), orders (the lines that
+// is what the whole line asks for, however long it is (proofs/KeepLaws). The files: shape (keyword, numbers), orders (the lines that
 // are numbers alone), profiles (the profile of a `profile` line).
 ghost use mathlib.Core.Path.{_≡_};
 ghost use Rattle.script.specs.Shape.{numbersAt};
@@ -12,7 +12,6 @@ use desk::Event;
 use places::Place;
 use profile::Profile;
 use records::Record;
-use shape::Hex;
 use shape::Numbers;
 
 mod orders;
@@ -106,20 +105,20 @@ fn post_line(n: Numbers, line: &[u8]) -> Line
         return plain_line(Order::Unknown);
     }
     if n.next == 0 {
-        return message_line(n, shape::no_hex());
+        return message_line(n, 0, [0; 256]);
     }
-    let hex = shape::hex_at(line, n.next);
+    let hex = lines::hex_at(line, n.next);
     if hex.count < 1 {
         return plain_line(Order::Unknown);
     }
-    message_line(n, hex)
+    let bytes = hex.bytes;
+    message_line(n, hex.count, bytes)
 }
 
-fn message_line(n: Numbers, hex: Hex) -> Line
-    ensures { λ r. ⌜ r ≡ messageLine n hex ⌝ }
+fn message_line(n: Numbers, count: usize, bytes: [u8; 256]) -> Line
+    ensures { λ r. ⌜ r ≡ messageLine n count bytes ⌝ }
 {
     let number = n.number;
-    let bytes = hex.bytes;
     let profile = profiles::no_profile();
     Line {
         order: Order::Call(Event::Message {
@@ -127,7 +126,7 @@ fn message_line(n: Numbers, hex: Hex) -> Line
             bits: number[1] as u64,
         }),
         profile: profile,
-        count: hex.count,
+        count: count,
         bytes: bytes,
     }
 }

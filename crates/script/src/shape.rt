@@ -1,7 +1,7 @@
-// The parts of a line: a keyword, numbers, pairs of hex digits.
+// The parts of a line: a keyword, numbers.
 ghost use mathlib.Core.Path.{_≡_};
 ghost use Prim.Native.Nat.{_≤_};
-ghost use Rattle.script.specs.Shape.{startsWith, noNumber, numberIf, numberAt, noNumbers, numbersAt, noHex, hexAt};
+ghost use Rattle.script.specs.Shape.{startsWith, noNumber, numberIf, numberAt, noNumbers, numbersAt};
 
 // A number and the position after it.
 pub(crate) struct Number {
@@ -15,12 +15,6 @@ pub(crate) struct Numbers {
     pub count: usize,
     pub next: usize,
     pub number: [u32; 38],
-}
-
-// The first `count` of the bytes.
-pub(crate) struct Hex {
-    pub count: usize,
-    pub bytes: [u8; 256],
 }
 
 // The line starts with this word.
@@ -130,46 +124,5 @@ fn no_numbers() -> Numbers
         count: 0,
         next: 0,
         number: [0; 38],
-    }
-}
-
-// Pairs of hex digits to the end, at most 256.
-pub(crate) fn hex_at(line: &[u8], from: usize) -> Hex
-    ensures { λ r. ⌜ r ≡ hexAt (now (line .entry)) from ⌝ }
-{
-    let mut bytes = [0u8; 256];
-    let mut count: usize = 0;
-    let mut k = from;
-    while k < line.len() {
-        if line.len() - k < 2 {
-            return no_hex();
-        }
-        if count >= 256 {
-            return no_hex();
-        }
-        let x = lines::hex_digit(line[k]);
-        let y = lines::hex_digit(line[k + 1]);
-        if x >= 16 {
-            return no_hex();
-        }
-        if y >= 16 {
-            return no_hex();
-        }
-        bytes[count] = x * 16 + y;
-        count += 1;
-        k += 2;
-    }
-    Hex {
-        count: count,
-        bytes: bytes,
-    }
-}
-
-pub(crate) fn no_hex() -> Hex
-    ensures { λ r. ⌜ r ≡ noHex ⌝ }
-{
-    Hex {
-        count: 0,
-        bytes: [0; 256],
     }
 }

@@ -2,6 +2,7 @@
 use borrow.Author.Needs.{needs}
 use borrow.Author.Tests.{eq-eqb, ne-eqb, le-leb, lt-leb}
 use Rattle.lines.proofs.ShapeLaws.{parses-as}
+use Rattle.lines.specs.Shape.{hexAt}
 use Rattle.lines.proofs.after_digits.Statement.{statement}
 use Rattle.lines.proofs.after_digits.Tie as tie
 
@@ -18,6 +19,7 @@ parse-hex-requires : tie.Need-parse-hex-requires
 parse-hex-requires c κs = search needs
 
 returns-2 : tie.Need-returns-2
+unfolding hexAt
 returns-2 c = parses-as (c .parse-hex .ensures) (rw (eq-eqb _ _ (c .before .before .if1 .taken), le-leb _ _ (c .before .if2 .left)))
 
 no-line-requires-2 : tie.Need-no-line-requires-2

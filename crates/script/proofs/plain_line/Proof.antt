@@ -1,7 +1,7 @@
 -- Written by tools/proofs from tools/script.conf. `script::plain_line` meets its contract. Assumes nothing.
 use borrow.Author.Needs.{needs}
+use Rattle.lines.specs.Shape.{noBytes}
 use Rattle.script.specs.Lines.{plainLine}
-use Rattle.script.specs.Shape.{noBytes}
 use Rattle.script.proofs.plain_line.Statement.{statement}
 use Rattle.script.proofs.plain_line.Tie as tie
 

@@ -1,8 +1,8 @@
 -- Written by tools/proofs from tools/script.conf. `script::profile_line` meets its contract. Assumes nothing.
 use borrow.Author.Needs.{needs}
 use borrow.Author.Tests.{le-leb, lt-leb}
+use Rattle.lines.specs.Shape.{noBytes}
 use Rattle.script.specs.Lines.{profileLine}
-use Rattle.script.specs.Shape.{noBytes}
 use Rattle.script.proofs.profile_line.Statement.{statement}
 use Rattle.script.proofs.profile_line.Tie as tie
 

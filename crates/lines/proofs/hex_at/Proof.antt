@@ -1,14 +1,14 @@
--- Written by tools/proofs from tools/script.conf. `script::shape::hex_at` meets its contract. Assumes nothing.
+-- Written by tools/proofs from tools/lines.conf. `lines::hex_at` meets its contract. Assumes nothing.
 use Prim.Native.Nat.{_+_, _-_, _≤_}
 use mathlib.Core.Path.{_≡_, refl, sym, _∙_}
 use native.Mathlib.Omega.{arith}
 use denote.Ref.{now}
 use lib.ListN.{length, drop}
 use borrow.Author.Needs.{needs}
-use Rattle.script.proofs.ShapeLaws.{hex-end, hex-odd, hex-full, hex-first, hex-second, hex-more}
-use Rattle.script.specs.Shape.{noBytes, hexThen, hexAt}
-use Rattle.script.proofs.shape.hex_at.Statement.{statement}
-use Rattle.script.proofs.shape.hex_at.Tie as tie
+use Rattle.lines.proofs.ShapeLaws.{hex-end, hex-odd, hex-full, hex-first, hex-second, hex-more}
+use Rattle.lines.specs.Shape.{noBytes, hexThen, hexAt}
+use Rattle.lines.proofs.hex_at.Statement.{statement}
+use Rattle.lines.proofs.hex_at.Tie as tie
 
 abbrev Inv-loop : tie.InvT-loop
 Inv-loop line from bytes₀ count₀ k₀ bytes count k = (count ≤ 256) × ((length bytes ≡ 256) × (hexAt line from ≡ hexThen (256 - count) count bytes (drop k line)))
