@@ -15,7 +15,7 @@ use profile::Profile;
 use records::Marks;
 use records::Record;
 use script::Line;
-use script::Order;
+use script::Task;
 
 struct Rows {
     row: [Record; 128],
@@ -267,15 +267,15 @@ fn answer(output: &mut [u8], filled: usize, number: u64, state: State, line: Lin
     requires { ⌜ (length (now output) ≡ 65536) × (filled ≤ 65536) ⌝ }
     ensures { λ r. ⌜ r .filled ≤ 65536 ⌝ }
 {
-    let order = line.order;
-    match order {
-        Order::Unknown => not_understood(output, filled, number, state),
-        Order::Call(event) => call(output, filled, number, state, line, event),
-        Order::Open => open(output, filled, number, state, line),
-        Order::Lend { at, record } => silent(filled, lend(state, at, record)),
-        Order::Room { bytes } => silent(filled, with_area(state, bytes)),
-        Order::Fill { at, place } => silent(filled, fill(state, at, place)),
-        Order::Dump => dump(output, filled, number, state),
+    let task = line.task;
+    match task {
+        Task::Unknown => not_understood(output, filled, number, state),
+        Task::Call(event) => call(output, filled, number, state, line, event),
+        Task::Open => open(output, filled, number, state, line),
+        Task::Lend { at, record } => silent(filled, lend(state, at, record)),
+        Task::Room { bytes } => silent(filled, with_area(state, bytes)),
+        Task::Fill { at, place } => silent(filled, fill(state, at, place)),
+        Task::Dump => dump(output, filled, number, state),
     }
 }
 

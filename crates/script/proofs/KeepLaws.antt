@@ -20,11 +20,11 @@ use Rattle.lines.specs.Shape.{isDigit, hexOf, noHex, hexAt}
 use Rattle.lines.proofs.ShapeLaws.{hex-long}
 use Rattle.script.specs.Shape.{startsWith, noNumber, numberIf, digitsThen, numberAt, noRow, noNumbers, numbersFrom, numbersAt}
 use Rattle.script.specs.Profiles.{pairsIn}
-use Rattle.script.specs.Lines.{when, recordOrder, setUpOrder, rejectOrder, cancelOrder, outOrder, placeOrder, unplaceOrder, plainLine, messageLine, postLine, profileLine, orderOf, lineOf}
+use Rattle.script.specs.Lines.{when, recordTask, setUpTask, rejectTask, cancelTask, outTask, placeTask, unplaceTask, plainLine, messageLine, postLine, profileLine, taskOf, lineOf}
 use Rattle.blocks.specs.Texts.{noText, textOf, keepOf}
 use Rattle.script.specs.declared.Line.{Line}
-use Rattle.script.specs.declared.Order.{Order}
-use Rattle.script.specs.declared.Order.the-variants as order
+use Rattle.script.specs.declared.Task.{Task}
+use Rattle.script.specs.declared.Task.the-variants as task
 use Rattle.script.specs.declared.shape.Number.{Number}
 use Rattle.script.specs.declared.shape.Numbers.{Numbers}
 use Rattle.blocks.proofs.TextLaws.{keep-text, kept-first}
@@ -109,11 +109,11 @@ numbers-near (suc k) n row l at =
 
 -- ---- so no line of over 539 bytes is of a shape
 
-cond-unknown : (b : Bool) → cond b order.Unknown order.Unknown ≡ order.Unknown
+cond-unknown : (b : Bool) → cond b task.Unknown task.Unknown ≡ task.Unknown
 cond-unknown true = refl
 cond-unknown false = refl
 
-line-unknown : (b : Bool) → cond b (plainLine order.Unknown) (plainLine order.Unknown) ≡ plainLine order.Unknown
+line-unknown : (b : Bool) → cond b (plainLine task.Unknown) (plainLine task.Unknown) ≡ plainLine task.Unknown
 line-unknown true = refl
 line-unknown false = refl
 
@@ -125,32 +125,32 @@ not-counted n k s p q = ne-eqb (n .count) k (no s)
     no (inl a) e = omega arith
     no (inr (a, b)) e = omega arith
 
-set-up-none : (n : Numbers) → NoneOrAll 38 n → setUpOrder n ≡ order.Unknown
-unfolding setUpOrder
+set-up-none : (n : Numbers) → NoneOrAll 38 n → setUpTask n ≡ task.Unknown
+unfolding setUpTask
 set-up-none n s = rw (not-counted n 5 s (omega arith) (omega arith))
 
-reject-none : (n : Numbers) → NoneOrAll 38 n → rejectOrder n ≡ order.Unknown
-unfolding rejectOrder
+reject-none : (n : Numbers) → NoneOrAll 38 n → rejectTask n ≡ task.Unknown
+unfolding rejectTask
 reject-none n s = rw (not-counted n 2 s (omega arith) (omega arith))
 
-cancel-none : (n : Numbers) → NoneOrAll 38 n → cancelOrder n ≡ order.Unknown
-unfolding cancelOrder
+cancel-none : (n : Numbers) → NoneOrAll 38 n → cancelTask n ≡ task.Unknown
+unfolding cancelTask
 cancel-none n s = rw (not-counted n 1 s (omega arith) (omega arith))
 
-record-none : (n : Numbers) → NoneOrAll 38 n → recordOrder n ≡ order.Unknown
-unfolding recordOrder
+record-none : (n : Numbers) → NoneOrAll 38 n → recordTask n ≡ task.Unknown
+unfolding recordTask
 record-none n s = rw (not-counted n 6 s (omega arith) (omega arith))
 
-out-none : (n : Numbers) → NoneOrAll 38 n → outOrder n ≡ order.Unknown
-unfolding outOrder
+out-none : (n : Numbers) → NoneOrAll 38 n → outTask n ≡ task.Unknown
+unfolding outTask
 out-none n s = rw (not-counted n 1 s (omega arith) (omega arith))
 
-place-none : (n : Numbers) → NoneOrAll 38 n → placeOrder n ≡ order.Unknown
-unfolding placeOrder
+place-none : (n : Numbers) → NoneOrAll 38 n → placeTask n ≡ task.Unknown
+unfolding placeTask
 place-none n s = rw (not-counted n 3 s (omega arith) (omega arith))
 
-unplace-none : (n : Numbers) → NoneOrAll 38 n → unplaceOrder n ≡ order.Unknown
-unfolding unplaceOrder
+unplace-none : (n : Numbers) → NoneOrAll 38 n → unplaceTask n ≡ task.Unknown
+unfolding unplaceTask
 unplace-none n s = rw (not-counted n 1 s (omega arith) (omega arith))
 
 module _ (l : List ℕ) (h : 539 < length l) where
@@ -159,15 +159,15 @@ module _ (l : List ℕ) (h : 539 < length l) where
   unfolding numbersAt
   counted at p q = numbers-long 38 0 noRow l at p (omega arith)
 
-  no-dump : when (eqb (length l) 4) order.Dump ≡ order.Unknown
+  no-dump : when (eqb (length l) 4) task.Dump ≡ task.Unknown
   no-dump = rw (ne-eqb (length l) 4 other)
     where
       other : length l ≡ 4 → ⊥
       other e = omega arith
 
-  order-long : orderOf l ≡ order.Unknown
-  unfolding orderOf
-  order-long =
+  task-long : taskOf l ≡ task.Unknown
+  unfolding taskOf
+  task-long =
       rw (
         set-up-none (numbersAt 38 l 6) (counted 6 (omega arith) (omega arith)),
         reject-none (numbersAt 38 l 7) (counted 7 (omega arith) (omega arith)),
@@ -180,23 +180,23 @@ module _ (l : List ℕ) (h : 539 < length l) where
       )
       (simp cond-unknown)
 
-  profile-long : profileLine (numbersAt 38 l 8) ≡ plainLine order.Unknown
+  profile-long : profileLine (numbersAt 38 l 8) ≡ plainLine task.Unknown
   unfolding profileLine pairsIn
   profile-long = ⊎-elim (λ a. rw a) (λ a. rw (a .0)) (counted 8 (omega arith) (omega arith))
 
-  post-long : postLine (numbersAt 2 l 5) l ≡ plainLine order.Unknown
+  post-long : postLine (numbersAt 2 l 5) l ≡ plainLine task.Unknown
   unfolding postLine numbersAt hexAt noHex
   post-long = ⊎-elim (λ a. rw a) (λ a. two (a .0) (a .1)) (numbers-long 2 0 noRow l 5 (omega arith) (omega arith))
     where
       long : 2 * 256 < length (drop (numbersFrom 2 0 noRow l 5 .next) l)
       long = rw length-drop (omega (arith, numbers-near 2 0 noRow l 5))
 
-      two : numbersFrom 2 0 noRow l 5 .count ≡ 2 → 0 < numbersFrom 2 0 noRow l 5 .next → postLine (numbersFrom 2 0 noRow l 5) l ≡ plainLine order.Unknown
+      two : numbersFrom 2 0 noRow l 5 .count ≡ 2 → 0 < numbersFrom 2 0 noRow l 5 .next → postLine (numbersFrom 2 0 noRow l 5) l ≡ plainLine task.Unknown
       two e p = rw (e, ne-eqb (numbersFrom 2 0 noRow l 5 .next) 0 (λ z. omega arith), hex-long 256 0 _ (drop (numbersFrom 2 0 noRow l 5 .next) l) long)
 
-  pub long-unknown : lineOf l ≡ plainLine order.Unknown
+  pub long-unknown : lineOf l ≡ plainLine task.Unknown
   unfolding lineOf
-  long-unknown = rw (post-long, profile-long, order-long) (simp line-unknown)
+  long-unknown = rw (post-long, profile-long, task-long) (simp line-unknown)
 
 -- ---- what is kept of a line that came in pieces
 

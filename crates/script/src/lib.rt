@@ -1,12 +1,12 @@
 // One line of a desk script (docs/REPLAY.md): from its bytes to what it asks for.
 //
 // `parse` equals `lineOf` for every line. Of a line that comes in pieces the first 640 bytes are kept (`blocks`), and `parse_kept` of these
-// is what the whole line asks for, however long it is (proofs/KeepLaws). The files: shape (keyword, numbers), orders (the lines that
+// is what the whole line asks for, however long it is (proofs/KeepLaws). The files: shape (keyword, numbers), tasks (the lines that
 // are numbers alone), profiles (the profile of a `profile` line).
 ghost use mathlib.Core.Path.{_≡_};
 ghost use Rattle.script.specs.Shape.{numbersAt};
 ghost use lib.ListN.{take};
-ghost use Rattle.script.specs.Lines.{plainLine, messageLine, postLine, profileLine, orderOf, lineOf};
+ghost use Rattle.script.specs.Lines.{plainLine, messageLine, postLine, profileLine, taskOf, lineOf};
 use blocks::Text;
 use desk::Event;
 use places::Place;
@@ -14,13 +14,13 @@ use profile::Profile;
 use records::Record;
 use shape::Numbers;
 
-mod orders;
 mod profiles;
 mod shape;
+mod tasks;
 
 // What a line asks for: nothing that is understood; a call of the desk; a new desk; a record, the length of the output area or a place
 // that is set; all that there is, to be printed.
-pub enum Order {
+pub enum Task {
     Unknown,
     Call(Event),
     Open,
@@ -30,9 +30,9 @@ pub enum Order {
     Dump,
 }
 
-// An order, and what goes with it: the profile of a new desk; of a post's message the first `count` of the bytes. All else is zero.
+// A task, and what goes with it: the profile of a new desk; of a post's message the first `count` of the bytes. All else is zero.
 pub struct Line {
-    pub order: Order,
+    pub task: Task,
     pub profile: Profile,
     pub count: usize,
     pub bytes: [u8; 256],
@@ -47,7 +47,7 @@ pub fn parse(line: &[u8]) -> Line
     if shape::starts(line, b"profile ") {
         return profile_line(shape::numbers_at(line, 8, 38));
     }
-    plain_line(order_of(line))
+    plain_line(task_of(line))
 }
 
 // What a line asks for that came in pieces.
@@ -68,48 +68,48 @@ fn parse_first(bytes: [u8; 640], len: usize) -> Line
     parse(&line[..len])
 }
 
-fn order_of(line: &[u8]) -> Order
-    ensures { λ r. ⌜ r ≡ orderOf (now (line .entry)) ⌝ }
+fn task_of(line: &[u8]) -> Task
+    ensures { λ r. ⌜ r ≡ taskOf (now (line .entry)) ⌝ }
 {
     if shape::starts(line, b"setup ") {
-        return orders::set_up(shape::numbers_at(line, 6, 38));
+        return tasks::set_up(shape::numbers_at(line, 6, 38));
     }
     if shape::starts(line, b"reject ") {
-        return orders::reject(shape::numbers_at(line, 7, 38));
+        return tasks::reject(shape::numbers_at(line, 7, 38));
     }
     if shape::starts(line, b"cancel ") {
-        return orders::cancel(shape::numbers_at(line, 7, 38));
+        return tasks::cancel(shape::numbers_at(line, 7, 38));
     }
     if shape::starts(line, b"record ") {
-        return orders::lend(shape::numbers_at(line, 7, 38));
+        return tasks::lend(shape::numbers_at(line, 7, 38));
     }
     if shape::starts(line, b"out ") {
-        return orders::room(shape::numbers_at(line, 4, 38));
+        return tasks::room(shape::numbers_at(line, 4, 38));
     }
     if shape::starts(line, b"place ") {
-        return orders::fill(shape::numbers_at(line, 6, 38));
+        return tasks::fill(shape::numbers_at(line, 6, 38));
     }
     if shape::starts(line, b"unplace ") {
-        return orders::empty(shape::numbers_at(line, 8, 38));
+        return tasks::empty(shape::numbers_at(line, 8, 38));
     }
     if shape::starts(line, b"dump") {
-        return orders::dump(line.len());
+        return tasks::dump(line.len());
     }
-    Order::Unknown
+    Task::Unknown
 }
 
 fn post_line(n: Numbers, line: &[u8]) -> Line
     ensures { λ r. ⌜ r ≡ postLine n (now (line .entry)) ⌝ }
 {
     if n.count == 2 {} else {
-        return plain_line(Order::Unknown);
+        return plain_line(Task::Unknown);
     }
     if n.next == 0 {
         return message_line(n, 0, [0; 256]);
     }
     let hex = lines::hex_at(line, n.next);
     if hex.count < 1 {
-        return plain_line(Order::Unknown);
+        return plain_line(Task::Unknown);
     }
     let bytes = hex.bytes;
     message_line(n, hex.count, bytes)
@@ -121,7 +121,7 @@ fn message_line(n: Numbers, count: usize, bytes: [u8; 256]) -> Line
     let number = n.number;
     let profile = profiles::no_profile();
     Line {
-        order: Order::Call(Event::Message {
+        task: Task::Call(Event::Message {
             post: number[0] as u64,
             bits: number[1] as u64,
         }),
@@ -137,23 +137,23 @@ fn profile_line(n: Numbers) -> Line
     let number = n.number;
     let pairs = profiles::pairs_in(n.count);
     if pairs < 1 {
-        return plain_line(Order::Unknown);
+        return plain_line(Task::Unknown);
     }
     let profile = profiles::profile_of(number, pairs);
     Line {
-        order: Order::Open,
+        task: Task::Open,
         profile: profile,
         count: 0,
         bytes: [0; 256],
     }
 }
 
-fn plain_line(order: Order) -> Line
-    ensures { λ r. ⌜ r ≡ plainLine order ⌝ }
+fn plain_line(task: Task) -> Line
+    ensures { λ r. ⌜ r ≡ plainLine task ⌝ }
 {
     let profile = profiles::no_profile();
     Line {
-        order: order,
+        task: task,
         profile: profile,
         count: 0,
         bytes: [0; 256],

@@ -47,8 +47,8 @@ returns-2 c =
     let p5 = c .before in
     rw (c .profile-line .ensures, p5 .numbers-at2 .ensures, sym (p1 .starts .ensures) ∙ p2 .if1 .left, sym (p3 .starts2 .ensures) ∙ p4 .if2 .taken)
 
-order-of-requires : tie.Need-order-of-requires
-order-of-requires c κs = search needs
+task-of-requires : tie.Need-task-of-requires
+task-of-requires c κs = search needs
 
 plain-line-requires : tie.Need-plain-line-requires
 plain-line-requires c κs = search needs
@@ -61,7 +61,7 @@ returns-3 c =
     let p3 = c .before .before .before in
     let p4 = c .before .before in
     let p5 = c .before in
-    rw (c .plain-line .ensures, p5 .order-of .ensures, sym (p1 .starts .ensures) ∙ p2 .if1 .left, sym (p3 .starts2 .ensures) ∙ p4 .if2 .left)
+    rw (c .plain-line .ensures, p5 .task-of .ensures, sym (p1 .starts .ensures) ∙ p2 .if1 .left, sym (p3 .starts2 .ensures) ∙ p4 .if2 .left)
 
 pub parse-spec : {M : Type 1} → statement M
 parse-spec =
@@ -77,6 +77,6 @@ parse-spec =
     numbers-at-requires-2
     profile-line-requires
     returns-2
-    order-of-requires
+    task-of-requires
     plain-line-requires
     returns-3)

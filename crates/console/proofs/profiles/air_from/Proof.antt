@@ -7,7 +7,8 @@ use lib.ListN.{length, drop}
 use borrow.Author.Needs.{needs}
 use Rattle.console.proofs.ByteLaws.{byte-here, rowsLeft, rows-start, rows-more, rows-end}
 use Rattle.console.specs.Bytes.{rowsFrom}
-use Rattle.console.specs.Profiles.{meaningOf, meaningFrom, airFrom}
+use Rattle.console.specs.Profiles.{meaningFrom, airFrom}
+use Rattle.profile.specs.Rules.{meaningOf}
 use Rattle.console.proofs.profiles.air_from.Statement.{statement}
 use Rattle.console.proofs.profiles.air_from.Tie as tie
 
@@ -26,8 +27,8 @@ add-byte-at c = search needs
 byte-at-requires : tie.Need-byte-at-requires Inv-loop μ-loop
 byte-at-requires c κs = search needs
 
-meaning-of-requires : tie.Need-meaning-of-requires Inv-loop μ-loop
-meaning-of-requires c κs = search needs
+meaning-from-requires : tie.Need-meaning-from-requires Inv-loop μ-loop
+meaning-from-requires c κs = search needs
 
 mul-meanings : tie.Need-mul-meanings Inv-loop μ-loop
 mul-meanings c = search needs
@@ -47,7 +48,7 @@ loop-again c =
     let l = b .before .before in
     let s = l .before .before in
     let p = 6 + l .loop .r in
-    (search needs, (search needs, rows-more _ _ _ _ _ _ _ _ (l .loop .inv .1 .1) p _ (search needs) (omega arith) (c .meaning-of .ensures ∙ ap meaningOf (b .byte-at .ensures ∙ sym (byte-here (now (s .args .l)) p)))))
+    (search needs, (search needs, rows-more _ _ _ _ _ _ _ _ (l .loop .inv .1 .1) p _ (search needs) (omega arith) (c .meaning-from .ensures ∙ ap meaningOf (b .byte-at .ensures ∙ sym (byte-here (now (s .args .l)) p)))))
 
 byte-at-requires-2 : tie.Need-byte-at-requires-2 Inv-loop μ-loop
 byte-at-requires-2 c κs = search needs
@@ -76,7 +77,7 @@ air-from-spec =
     loop-holds
     add-byte-at
     byte-at-requires
-    meaning-of-requires
+    meaning-from-requires
     mul-meanings
     array-set-from-meanings
     add-r

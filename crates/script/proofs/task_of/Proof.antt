@@ -1,9 +1,9 @@
--- Written by tools/proofs from tools/script.conf. `script::order_of` meets its contract. Assumes nothing.
+-- Written by tools/proofs from tools/script.conf. `script::task_of` meets its contract. Assumes nothing.
 use mathlib.Core.Path.{sym, _∙_}
 use borrow.Author.Needs.{needs}
-use Rattle.script.specs.Lines.{orderOf}
-use Rattle.script.proofs.order_of.Statement.{statement}
-use Rattle.script.proofs.order_of.Tie as tie
+use Rattle.script.specs.Lines.{taskOf}
+use Rattle.script.proofs.task_of.Statement.{statement}
+use Rattle.script.proofs.task_of.Tie as tie
 
 slice-aggregate-starts : tie.Need-slice-aggregate-starts
 slice-aggregate-starts c = search needs
@@ -18,7 +18,7 @@ set-up-requires : tie.Need-set-up-requires
 set-up-requires c κs = search needs
 
 returns : tie.Need-returns
-unfolding orderOf
+unfolding taskOf
 returns c =
     let p1 = c .before .before .before in
     let p2 = c .before .before in
@@ -38,7 +38,7 @@ reject-requires : tie.Need-reject-requires
 reject-requires c κs = search needs
 
 returns-2 : tie.Need-returns-2
-unfolding orderOf
+unfolding taskOf
 returns-2 c =
     let p1 = c .before .before .before .before .before .before in
     let p2 = c .before .before .before .before .before in
@@ -60,7 +60,7 @@ cancel-requires : tie.Need-cancel-requires
 cancel-requires c κs = search needs
 
 returns-3 : tie.Need-returns-3
-unfolding orderOf
+unfolding taskOf
 returns-3 c =
     let p1 = c .before .before .before .before .before .before .before .before .before in
     let p2 = c .before .before .before .before .before .before .before .before in
@@ -84,7 +84,7 @@ lend-requires : tie.Need-lend-requires
 lend-requires c κs = search needs
 
 returns-4 : tie.Need-returns-4
-unfolding orderOf
+unfolding taskOf
 returns-4 c =
     let p1 = c .before .before .before .before .before .before .before .before .before .before .before .before in
     let p2 = c .before .before .before .before .before .before .before .before .before .before .before in
@@ -110,7 +110,7 @@ room-requires : tie.Need-room-requires
 room-requires c κs = search needs
 
 returns-5 : tie.Need-returns-5
-unfolding orderOf
+unfolding taskOf
 returns-5 c =
     let p1 = c .before .before .before .before .before .before .before .before .before .before .before .before .before .before .before in
     let p2 = c .before .before .before .before .before .before .before .before .before .before .before .before .before .before in
@@ -138,7 +138,7 @@ fill-requires : tie.Need-fill-requires
 fill-requires c κs = search needs
 
 returns-6 : tie.Need-returns-6
-unfolding orderOf
+unfolding taskOf
 returns-6 c =
     let p1 = c .before .before .before .before .before .before .before .before .before .before .before .before .before .before .before .before .before .before in
     let p2 = c .before .before .before .before .before .before .before .before .before .before .before .before .before .before .before .before .before in
@@ -168,7 +168,7 @@ empty-requires : tie.Need-empty-requires
 empty-requires c κs = search needs
 
 returns-7 : tie.Need-returns-7
-unfolding orderOf
+unfolding taskOf
 returns-7 c =
     let p1 = c .before .before .before .before .before .before .before .before .before .before .before .before .before .before .before .before .before .before .before .before .before in
     let p2 = c .before .before .before .before .before .before .before .before .before .before .before .before .before .before .before .before .before .before .before .before in
@@ -197,7 +197,7 @@ dump-requires : tie.Need-dump-requires
 dump-requires c κs = search needs
 
 returns-8 : tie.Need-returns-8
-unfolding orderOf
+unfolding taskOf
 returns-8 c =
     let p1 = c .before .before .before .before .before .before .before .before .before .before .before .before .before .before .before .before .before .before .before .before .before .before .before in
     let p2 = c .before .before .before .before .before .before .before .before .before .before .before .before .before .before .before .before .before .before .before .before .before .before in
@@ -218,7 +218,7 @@ returns-8 c =
     rw (c .dump .ensures, sym (p1 .starts .ensures) ∙ p2 .if1 .left, sym (p3 .starts2 .ensures) ∙ p4 .if2 .left, sym (p5 .starts3 .ensures) ∙ p6 .if3 .left, sym (p7 .starts4 .ensures) ∙ p8 .if4 .left, sym (p9 .starts5 .ensures) ∙ p10 .if5 .left, sym (p11 .starts6 .ensures) ∙ p12 .if6 .left, sym (p13 .starts7 .ensures) ∙ p14 .if7 .left, sym (p15 .starts8 .ensures) ∙ p16 .if8 .taken)
 
 returns-9 : tie.Need-returns-9
-unfolding orderOf
+unfolding taskOf
 returns-9 c =
     let p1 = c .before .before .before .before .before .before .before .before .before .before .before .before .before .before .before .before .before .before .before .before .before .before in
     let p2 = c .before .before .before .before .before .before .before .before .before .before .before .before .before .before .before .before .before .before .before .before .before in
@@ -237,8 +237,8 @@ returns-9 c =
     let p15 = c .before in
     rw (sym (p1 .starts .ensures) ∙ p2 .if1 .left, sym (p3 .starts2 .ensures) ∙ p4 .if2 .left, sym (p5 .starts3 .ensures) ∙ p6 .if3 .left, sym (p7 .starts4 .ensures) ∙ p8 .if4 .left, sym (p9 .starts5 .ensures) ∙ p10 .if5 .left, sym (p11 .starts6 .ensures) ∙ p12 .if6 .left, sym (p13 .starts7 .ensures) ∙ p14 .if7 .left, sym (p15 .starts8 .ensures) ∙ c .if8 .left)
 
-pub order-of-spec : {M : Type 1} → statement M
-order-of-spec =
+pub task-of-spec : {M : Type 1} → statement M
+task-of-spec =
     tie.close
     (tie.spec
     slice-aggregate-starts

@@ -1,19 +1,19 @@
--- Written by tools/proofs from tools/script.conf. `script::orders::fill` meets its contract. Assumes nothing.
+-- Written by tools/proofs from tools/script.conf. `script::tasks::fill` meets its contract. Assumes nothing.
 use borrow.Author.Needs.{needs}
 use borrow.Author.Tests.{eq-eqb, ne-eqb, le-leb, lt-leb}
-use Rattle.script.specs.Lines.{placeOrder}
-use Rattle.script.proofs.orders.fill.Statement.{statement}
-use Rattle.script.proofs.orders.fill.Tie as tie
+use Rattle.script.specs.Lines.{placeTask}
+use Rattle.script.proofs.tasks.fill.Statement.{statement}
+use Rattle.script.proofs.tasks.fill.Tie as tie
 
 returns : tie.Need-returns
-unfolding placeOrder
+unfolding placeTask
 returns c = rw (ne-eqb _ _ (c .if1 .left))
 
 array-read-if2 : tie.Need-array-read-if2
 array-read-if2 c = search needs
 
 returns-2 : tie.Need-returns-2
-unfolding placeOrder
+unfolding placeTask
 returns-2 c =
     let p1 = c .before in
     rw (eq-eqb _ _ (p1 .if1 .taken), lt-leb _ _ (c .if2 .taken))
@@ -22,7 +22,7 @@ array-read-if3 : tie.Need-array-read-if3
 array-read-if3 c = search needs
 
 returns-3 : tie.Need-returns-3
-unfolding placeOrder
+unfolding placeTask
 returns-3 c =
     let p1 = c .before .before in
     let p2 = c .before in
@@ -32,7 +32,7 @@ array-read-if4 : tie.Need-array-read-if4
 array-read-if4 c = search needs
 
 returns-4 : tie.Need-returns-4
-unfolding placeOrder
+unfolding placeTask
 returns-4 c =
     let p1 = c .before .before .before in
     let p2 = c .before .before in
@@ -58,7 +58,7 @@ cast-t21 : tie.Need-cast-t21
 cast-t21 c = search needs
 
 returns-5 : tie.Need-returns-5
-unfolding placeOrder
+unfolding placeTask
 returns-5 c =
     let p1 = c .before .before .before in
     let p2 = c .before .before in

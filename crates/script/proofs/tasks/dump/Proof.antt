@@ -1,7 +1,7 @@
--- Written by tools/proofs from tools/script.conf. `script::orders::dump` meets its contract. Assumes nothing.
+-- Written by tools/proofs from tools/script.conf. `script::tasks::dump` meets its contract. Assumes nothing.
 use borrow.Author.Tests.{eq-eqb, ne-eqb}
-use Rattle.script.proofs.orders.dump.Statement.{statement}
-use Rattle.script.proofs.orders.dump.Tie as tie
+use Rattle.script.proofs.tasks.dump.Statement.{statement}
+use Rattle.script.proofs.tasks.dump.Tie as tie
 
 returns : tie.Need-returns
 returns c = rw (eq-eqb _ _ (c .if1 .taken))

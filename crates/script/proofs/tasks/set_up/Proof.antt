@@ -1,12 +1,12 @@
--- Written by tools/proofs from tools/script.conf. `script::orders::set_up` meets its contract. Assumes nothing.
+-- Written by tools/proofs from tools/script.conf. `script::tasks::set_up` meets its contract. Assumes nothing.
 use borrow.Author.Needs.{needs}
 use borrow.Author.Tests.{eq-eqb, ne-eqb}
-use Rattle.script.specs.Lines.{setUpOrder}
-use Rattle.script.proofs.orders.set_up.Statement.{statement}
-use Rattle.script.proofs.orders.set_up.Tie as tie
+use Rattle.script.specs.Lines.{setUpTask}
+use Rattle.script.proofs.tasks.set_up.Statement.{statement}
+use Rattle.script.proofs.tasks.set_up.Tie as tie
 
 returns : tie.Need-returns
-unfolding setUpOrder
+unfolding setUpTask
 returns c = rw (ne-eqb _ _ (c .if1 .left))
 
 array-read-t6 : tie.Need-array-read-t6
@@ -25,7 +25,7 @@ array-read-t20 : tie.Need-array-read-t20
 array-read-t20 c = search needs
 
 returns-2 : tie.Need-returns-2
-unfolding setUpOrder
+unfolding setUpTask
 returns-2 c = rw (eq-eqb _ _ (c .if1 .taken))
 
 pub set-up-spec : {M : Type 1} → statement M

@@ -1,34 +1,34 @@
 // The lines that are a keyword and numbers: how many there are, and the largest that each may be.
 ghost use mathlib.Core.Path.{_≡_};
 ghost use lib.Dec.{eqb};
-ghost use Rattle.script.specs.Lines.{when, recordOrder, setUpOrder, rejectOrder, cancelOrder, outOrder, placeOrder, unplaceOrder};
-use crate::Order;
+ghost use Rattle.script.specs.Lines.{when, recordTask, setUpTask, rejectTask, cancelTask, outTask, placeTask, unplaceTask};
+use crate::Task;
 use crate::shape::Numbers;
 use desk::Event;
 use places::Place;
 use records::Identity;
 use records::Record;
 
-pub(crate) fn lend(n: Numbers) -> Order
-    ensures { λ r. ⌜ r ≡ recordOrder n ⌝ }
+pub(crate) fn lend(n: Numbers) -> Task
+    ensures { λ r. ⌜ r ≡ recordTask n ⌝ }
 {
     let number = n.number;
     if n.count == 6 {} else {
-        return Order::Unknown;
+        return Task::Unknown;
     }
     if number[0] > 255 {
-        return Order::Unknown;
+        return Task::Unknown;
     }
     if number[1] > 1 {
-        return Order::Unknown;
+        return Task::Unknown;
     }
     if number[4] > 255 {
-        return Order::Unknown;
+        return Task::Unknown;
     }
     if number[5] > 1 {
-        return Order::Unknown;
+        return Task::Unknown;
     }
-    Order::Lend {
+    Task::Lend {
         at: number[0] as u8,
         record: Record {
             in_use: number[1] == 1,
@@ -40,14 +40,14 @@ pub(crate) fn lend(n: Numbers) -> Order
     }
 }
 
-pub(crate) fn set_up(n: Numbers) -> Order
-    ensures { λ r. ⌜ r ≡ setUpOrder n ⌝ }
+pub(crate) fn set_up(n: Numbers) -> Task
+    ensures { λ r. ⌜ r ≡ setUpTask n ⌝ }
 {
     let number = n.number;
     if n.count == 5 {} else {
-        return Order::Unknown;
+        return Task::Unknown;
     }
-    Order::Call(Event::SetUp {
+    Task::Call(Event::SetUp {
         caller: Identity {
             ssi: number[0],
             extension: number[1],
@@ -60,63 +60,63 @@ pub(crate) fn set_up(n: Numbers) -> Order
     })
 }
 
-pub(crate) fn reject(n: Numbers) -> Order
-    ensures { λ r. ⌜ r ≡ rejectOrder n ⌝ }
+pub(crate) fn reject(n: Numbers) -> Task
+    ensures { λ r. ⌜ r ≡ rejectTask n ⌝ }
 {
     let number = n.number;
     if n.count == 2 {} else {
-        return Order::Unknown;
+        return Task::Unknown;
     }
-    Order::Call(Event::Reject {
+    Task::Call(Event::Reject {
         post: number[0] as u64,
         identifier: number[1],
     })
 }
 
-pub(crate) fn cancel(n: Numbers) -> Order
-    ensures { λ r. ⌜ r ≡ cancelOrder n ⌝ }
+pub(crate) fn cancel(n: Numbers) -> Task
+    ensures { λ r. ⌜ r ≡ cancelTask n ⌝ }
 {
     let number = n.number;
     if n.count == 1 {} else {
-        return Order::Unknown;
+        return Task::Unknown;
     }
-    Order::Call(Event::Cancel {
+    Task::Call(Event::Cancel {
         identifier: number[0],
     })
 }
 
-pub(crate) fn room(n: Numbers) -> Order
-    ensures { λ r. ⌜ r ≡ outOrder n ⌝ }
+pub(crate) fn room(n: Numbers) -> Task
+    ensures { λ r. ⌜ r ≡ outTask n ⌝ }
 {
     let number = n.number;
     if n.count == 1 {} else {
-        return Order::Unknown;
+        return Task::Unknown;
     }
     if number[0] > 300 {
-        return Order::Unknown;
+        return Task::Unknown;
     }
-    Order::Room {
+    Task::Room {
         bytes: number[0] as u16,
     }
 }
 
-pub(crate) fn fill(n: Numbers) -> Order
-    ensures { λ r. ⌜ r ≡ placeOrder n ⌝ }
+pub(crate) fn fill(n: Numbers) -> Task
+    ensures { λ r. ⌜ r ≡ placeTask n ⌝ }
 {
     let number = n.number;
     if n.count == 3 {} else {
-        return Order::Unknown;
+        return Task::Unknown;
     }
     if number[0] > 31 {
-        return Order::Unknown;
+        return Task::Unknown;
     }
     if number[1] > 65535 {
-        return Order::Unknown;
+        return Task::Unknown;
     }
     if number[2] > 255 {
-        return Order::Unknown;
+        return Task::Unknown;
     }
-    Order::Fill {
+    Task::Fill {
         at: number[0] as u8,
         place: Place {
             used: true,
@@ -126,17 +126,17 @@ pub(crate) fn fill(n: Numbers) -> Order
     }
 }
 
-pub(crate) fn empty(n: Numbers) -> Order
-    ensures { λ r. ⌜ r ≡ unplaceOrder n ⌝ }
+pub(crate) fn empty(n: Numbers) -> Task
+    ensures { λ r. ⌜ r ≡ unplaceTask n ⌝ }
 {
     let number = n.number;
     if n.count == 1 {} else {
-        return Order::Unknown;
+        return Task::Unknown;
     }
     if number[0] > 31 {
-        return Order::Unknown;
+        return Task::Unknown;
     }
-    Order::Fill {
+    Task::Fill {
         at: number[0] as u8,
         place: Place {
             used: false,
@@ -147,11 +147,11 @@ pub(crate) fn empty(n: Numbers) -> Order
 }
 
 // The keyword is the whole line.
-pub(crate) fn dump(len: usize) -> Order
-    ensures { λ r. ⌜ r ≡ when (eqb len 4) Order.Dump ⌝ }
+pub(crate) fn dump(len: usize) -> Task
+    ensures { λ r. ⌜ r ≡ when (eqb len 4) Task.Dump ⌝ }
 {
     if len == 4 {
-        return Order::Dump;
+        return Task::Dump;
     }
-    Order::Unknown
+    Task::Unknown
 }

@@ -1,19 +1,19 @@
--- Written by tools/proofs from tools/script.conf. `script::orders::lend` meets its contract. Assumes nothing.
+-- Written by tools/proofs from tools/script.conf. `script::tasks::lend` meets its contract. Assumes nothing.
 use borrow.Author.Needs.{needs}
 use borrow.Author.Tests.{eq-eqb, ne-eqb, le-leb, lt-leb}
-use Rattle.script.specs.Lines.{recordOrder}
-use Rattle.script.proofs.orders.lend.Statement.{statement}
-use Rattle.script.proofs.orders.lend.Tie as tie
+use Rattle.script.specs.Lines.{recordTask}
+use Rattle.script.proofs.tasks.lend.Statement.{statement}
+use Rattle.script.proofs.tasks.lend.Tie as tie
 
 returns : tie.Need-returns
-unfolding recordOrder
+unfolding recordTask
 returns c = rw (ne-eqb _ _ (c .if1 .left))
 
 array-read-if2 : tie.Need-array-read-if2
 array-read-if2 c = search needs
 
 returns-2 : tie.Need-returns-2
-unfolding recordOrder
+unfolding recordTask
 returns-2 c =
     let p1 = c .before in
     rw (eq-eqb _ _ (p1 .if1 .taken), lt-leb _ _ (c .if2 .taken))
@@ -22,7 +22,7 @@ array-read-if3 : tie.Need-array-read-if3
 array-read-if3 c = search needs
 
 returns-3 : tie.Need-returns-3
-unfolding recordOrder
+unfolding recordTask
 returns-3 c =
     let p1 = c .before .before in
     let p2 = c .before in
@@ -32,7 +32,7 @@ array-read-if4 : tie.Need-array-read-if4
 array-read-if4 c = search needs
 
 returns-4 : tie.Need-returns-4
-unfolding recordOrder
+unfolding recordTask
 returns-4 c =
     let p1 = c .before .before .before in
     let p2 = c .before .before in
@@ -43,7 +43,7 @@ array-read-if5 : tie.Need-array-read-if5
 array-read-if5 c = search needs
 
 returns-5 : tie.Need-returns-5
-unfolding recordOrder
+unfolding recordTask
 returns-5 c =
     let p1 = c .before .before .before .before in
     let p2 = c .before .before .before in
@@ -76,7 +76,7 @@ array-read-t31 : tie.Need-array-read-t31
 array-read-t31 c = search needs
 
 returns-6 : tie.Need-returns-6
-unfolding recordOrder
+unfolding recordTask
 returns-6 c =
     let p1 = c .before .before .before .before in
     let p2 = c .before .before .before in
