@@ -263,9 +263,9 @@ pub fn element_of(place: u8) -> u8
 pub fn width_of(place: u8) -> usize
     ensures { λ r. ⌜ r ≡ widthOf place ⌝ }
 {
-    let i = place as usize;
-    if i < 12 {
-        return WIDTHS[i];
+    let at = place as usize;
+    if at < 12 {
+        return WIDTHS[at];
     }
     0
 }
