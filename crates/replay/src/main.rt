@@ -353,10 +353,16 @@ fn step(state: State, bytes: [u8; 256], count: usize, area: &mut [u8], event: Ev
     let low = state.low;
     let rows = low.row;
     let message: &[u8] = &bytes;
+    desk::step(desk, rows, state.lent, &message[..within(count)], area, event)
+}
+
+fn within(count: usize) -> usize
+    ensures { λ r. ⌜ r ≤ 256 ⌝ }
+{
     if count > 256 {
-        return desk::step(desk, rows, state.lent, message, area, event);
+        return 256;
     }
-    desk::step(desk, rows, state.lent, &message[..count], area, event)
+    count
 }
 
 // The desk as the call left it, and the marks that it set.

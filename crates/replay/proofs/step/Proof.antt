@@ -8,6 +8,12 @@ use Rattle.replay.proofs.step.Tie as tie
 slice-aggregate-message : tie.Need-slice-aggregate-message
 slice-aggregate-message c = search needs
 
+within-requires : tie.Need-within-requires
+within-requires c κs = search needs
+
+slice-aggregate-step : tie.Need-slice-aggregate-step
+slice-aggregate-step c = sym (length-take-le _ _ (search needs))
+
 step-requires : tie.Need-step-requires
 step-requires c κs = search needs
 
@@ -17,27 +23,13 @@ same-length c = search needs
 returns : tie.Need-returns
 returns c = search needs
 
-slice-aggregate-step : tie.Need-slice-aggregate-step
-slice-aggregate-step c = sym (length-take-le _ _ (search needs))
-
-step-requires-2 : tie.Need-step-requires-2
-step-requires-2 c κs = search needs
-
-same-length-2 : tie.Need-same-length-2
-same-length-2 c = search needs
-
-returns-2 : tie.Need-returns-2
-returns-2 c = search needs
-
 pub step-spec : {M : Type 1} → statement M
 step-spec =
     tie.close
     (tie.spec
     slice-aggregate-message
+    within-requires
+    slice-aggregate-step
     step-requires
     same-length
-    returns
-    slice-aggregate-step
-    step-requires-2
-    same-length-2
-    returns-2)
+    returns)
