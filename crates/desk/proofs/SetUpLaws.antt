@@ -67,7 +67,7 @@ module _ (d : Desk) (post identifier : ℕ) where
   pub admitted-is : (at : Spot) (x : Laid) (l m : List ℕ) (next : Places) (marks : Marks) → admitsOf (d .profile .shares) (placesOf d) post ≡ true
       → at ≡ lowestFree (placesOf d)
       → (x ≡ laidOf (d .profile .air) (blank 10 ∷ [])) × (m ≡ layAll (d .profile .air) l (blank 10 ∷ []))
-      → next ≡ record { place = takeOf (placesOf d) (at .place) identifier post } → marks ≡ noMarks
+      → next ≡ record { place = takeOf (placesOf d) (at .place) (record { identifier = identifier; post = post }) } → marks ≡ noMarks
       → (record { answer = answer.Admitted post (at .place); laid = x; desk = record { profile = d .profile; places = next }; marks = marks }
       ≡ plainStep d identifier (admitAnswer d post))
       × (m ≡ plainArea d l (admitAnswer d post))

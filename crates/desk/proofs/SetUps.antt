@@ -285,7 +285,7 @@ pub record AdmittedCall (d : Desk) (identifier post place : ℕ) : Type 0 where
 -- what it takes: the lowest free place, with the identifier and the post
 pub record Taken (d : Desk) (identifier post place : ℕ) (after : Desk) : Type 0 where
   pub first : FreeFirst (placesOf d) place
-  pub desk : after ≡ record { profile = d .profile; places = record { place = takeOf (placesOf d) place identifier post } }
+  pub desk : after ≡ record { profile = d .profile; places = record { place = takeOf (placesOf d) place (record { identifier = identifier; post = post }) } }
 
 module _ (d : Desk) (rows : List Record) (n : ℕ) (l area : List ℕ) (post place : ℕ) where
   not-admitted : {A : Type 0} (e : Event) → never (answerOf d rows n l (length area) e) ≡ true → stepOf d rows n l area e .answer ≡ answer.Admitted post place → A

@@ -11,6 +11,7 @@ use Rattle.message.specs.Reading.{readOf}
 use Rattle.message.specs.declared.Group.{Group}
 use Rattle.message.specs.declared.Value.{Value}
 use Rattle.places.specs.Spots.{placeOf, lowestFree, takeOf, clearOf}
+use Rattle.places.specs.declared.Call.{Call}
 use Rattle.places.specs.declared.Place.{Place}
 use Rattle.records.specs.Identities.{identitiesOf}
 use Rattle.records.specs.Outcomes.{outcomesOf, sortedOf}
@@ -32,7 +33,7 @@ use Rattle.desk.specs.declared.Stepped.{Stepped}
 -- what a call does to the waiting calls
 pub data Effect : Type 0 where
   nothing : Effect
-  begins : ℕ → ℕ → Effect  -- a call with this identifier waits at this post from now on
+  begins : Call → Effect  -- this call waits from now on
   ends : ℕ → Effect  -- the call with this identifier waits no more
 
 -- the message that was read
@@ -60,7 +61,7 @@ effectBy identifier (answer.Refused s) = nothing
 effectBy identifier answer.Acks = nothing
 effectBy identifier (answer.State k) = nothing
 effectBy identifier answer.Free = nothing
-effectBy identifier (answer.Admitted post place) = begins identifier post
+effectBy identifier (answer.Admitted post place) = begins (record { identifier = identifier; post = post })
 effectBy identifier answer.Proceed = ends identifier
 effectBy identifier answer.Diverted = ends identifier
 effectBy identifier answer.Rejected = ends identifier
@@ -72,7 +73,7 @@ effectOf p l e a = effectBy (identifierOf p l e) a
 -- the lowest free place is taken; a place that is freed is the one of the identifier
 abbrev pub placesAfter : List Place → Effect → List Place
 placesAfter places nothing = places
-placesAfter places (begins identifier post) = takeOf places (lowestFree places .place) identifier post
+placesAfter places (begins x) = takeOf places (lowestFree places .place) x
 placesAfter places (ends identifier) = clearOf places (placeOf places identifier .place)
 
 unfoldable pub deskAfter : Desk → Effect → Desk

@@ -10,6 +10,7 @@ use crate::Answer;
 use crate::Desk;
 use crate::Stepped;
 use crate::kept;
+use places::Call;
 use records::Identity;
 use records::Record;
 
@@ -66,7 +67,11 @@ fn admit(desk: Desk, post: u8, identifier: u32, out: &mut [u8]) -> Stepped
     let at = places::lowest_free(places);
     let intercepted = message::blank(10);
     let laid = sending::send(profile, sending::no_laid(), intercepted, out);
-    let next = places::take(places, at.place, identifier as u16, post);
+    let call = Call {
+        identifier: identifier as u16,
+        post: post,
+    };
+    let next = places::take(places, at.place, call);
     Stepped {
         answer: Answer::Admitted {
             post: post,

@@ -54,16 +54,16 @@ module _ (d : Desk) (w : List Waiting) (a : Along d w) (c : Call) where
         same = same-clear (d .profile .shares) (placesOf d) w (a .size) (a .sound) (a .same) _ identifier at;
       }
 
-  along-begins : (post place : ℕ) → stepFor d c .answer ≡ answer.Admitted post place → Along (deskAfter d (begins identifier post)) ((identifier, post) ∷ w)
+  along-begins : (post place : ℕ) → stepFor d c .answer ≡ answer.Admitted post place → Along (deskAfter d (begins (record { identifier = identifier; post = post }))) ((identifier, post) ∷ w)
   unfolding deskAfter
   along-begins post place z =
       let k = admitted-so d (c .rows) (c .count) (c .message) (c .area) post place (c .event) z in
       let at = spot-found (lowestFree (placesOf d)) (ap (λ (s : Spot). s .found) (k .spot)) in
       let f = lowest-free-exactly (placesOf d) (lowestFree (placesOf d) .place) at in
       record {
-        size = length-take (placesOf d) _ identifier post ∙ a .size;
-        sound = take-keeps (d .profile .shares) (placesOf d) (a .size) _ identifier post (a .sound) (k .small) (k .new) (k .below) (k .admits) at;
-        same = same-take (placesOf d) w (a .size) (a .same) _ identifier post (f .inside) (f .free);
+        size = length-take (placesOf d) _ _ ∙ a .size;
+        sound = take-keeps (d .profile .shares) (placesOf d) (a .size) _ _ (a .sound) (record { small = k .small; below = k .below }) (k .new) (k .admits) at;
+        same = same-take (placesOf d) w (a .size) (a .same) _ _ (f .inside) (f .free);
       }
 
   along-nothing : Along (deskAfter d nothing) w

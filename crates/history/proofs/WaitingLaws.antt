@@ -17,10 +17,11 @@ use Rattle.profile.specs.Rules.{shareIn}
 use Rattle.profile.specs.declared.Shares.{Shares}
 use Rattle.places.specs.Held.{noPlace, placeIn, noPlaces, waitsAt, heldOf, usedOf, freeOf, owedOf, owedOthers}
 use Rattle.places.specs.Grounds.{placesOk}
-use Rattle.places.specs.Spots.{spotAt, placeOf, takeOf, clearOf}
+use Rattle.places.specs.Spots.{spotAt, placeOf, placeFor, takeOf, clearOf}
+use Rattle.places.specs.declared.Call.{Call}
 use Rattle.places.specs.declared.Place.{Place}
 use Rattle.places.proofs.SumLaws.{sum-same, sum-bump, sum-zero, sum-without}
-use Rattle.places.proofs.HeldLaws.{call, count-set, count-clear, none-at, waiting-inside}
+use Rattle.places.proofs.HeldLaws.{count-set, count-clear, none-at, waiting-inside}
 use Rattle.places.proofs.SpotLaws.{place-of-exactly, no-place-exactly, spot-found}
 use Rattle.places.proofs.PlaceLaws.{passes}
 use Rattle.history.specs.Histories.{Waiting, without, countBy, isWaiting, heldBy, freeBy, owedBy, owedToOthers}
@@ -40,10 +41,10 @@ unfolding Same countBy hasSuch both
 same-none test = sym (sum-zero 32 (λ i. one (hasSuch test (placeIn noPlaces i))) (λ i. rw (none-at i) refl))
 
 module _ (l : List Place) (w : List Waiting) (n : length l ≡ 32) (s : Same l w) where
-  pub same-take : (i identifier post : ℕ) → i < 32 → placeIn l i .used ≡ false → Same (takeOf l i identifier post) ((identifier, post) ∷ w)
+  pub same-take : (i : ℕ) (x : Call) → i < 32 → placeIn l i .used ≡ false → Same (takeOf l i x) ((x .identifier, x .post) ∷ w)
   unfolding Same countBy takeOf hasSuch both
-  same-take i identifier post h free test =
-      let e = count-set (λ (p : Place). one (hasSuch test p)) l n i (call identifier post) h in
+  same-take i x h free test =
+      let e = count-set (λ (p : Place). one (hasSuch test p)) l n i (placeFor x) h in
       let z : one (hasSuch test (placeIn l i)) ≡ 0 = rw free refl in
       omega (arith, e, z, s test)
 

@@ -13,11 +13,12 @@ use Rattle.codec.proofs.Good.{not-both}
 use Rattle.profile.specs.declared.Shares.{Shares}
 use Rattle.places.specs.Held.{noPlace, placeIn}
 use Rattle.places.specs.Grounds.{placesOk}
-use Rattle.places.specs.Spots.{spotAt, hasCall, placeOf, takeOf, clearOf}
+use Rattle.places.specs.Spots.{spotAt, hasCall, placeOf, placeFor, takeOf, clearOf}
+use Rattle.places.specs.declared.Call.{Call}
 use Rattle.places.specs.declared.Place.{Place}
 use Rattle.places.specs.declared.Spot.{Spot}
 use Rattle.places.proofs.SpotLaws.{WaitsFirst, lowest-same, lowest-none, lowest-found, lowest-no, has-call, place-of-exactly}
-use Rattle.places.proofs.HeldLaws.{call, set-by, set-here, set-there, used-clear}
+use Rattle.places.proofs.HeldLaws.{set-by, set-here, set-there, used-clear}
 use Rattle.places.proofs.PlaceLaws.{passes}
 
 has-not : (p : Place) (identifier : ℕ) → (p .used ≡ true → p .identifier ≡ identifier → ⊥) → hasCall p identifier ≡ false
@@ -38,29 +39,29 @@ either j i d = go (ltb j i) refl
 
 -- ---- a place taken
 
-module _ (l : List Place) (n : length l ≡ 32) (i identifier post : ℕ) (h : i < 32) where
+module _ (l : List Place) (n : length l ≡ 32) (i : ℕ) (x : Call) (h : i < 32) where
   -- a call that waited nowhere waits there
-  pub place-take-own : placeOf l identifier .found ≡ false → placeOf (takeOf l i identifier post) identifier ≡ spotAt i
+  pub place-take-own : placeOf l (x .identifier) .found ≡ false → placeOf (takeOf l i x) (x .identifier) ≡ spotAt i
   unfolding placeOf takeOf hasCall both
   place-take-own none =
       lowest-found 32 i _
       (record {
         inside = h;
-        passes = rw (set-here l i (call identifier post) (omega arith)) (own identifier);
-        before = λ j k. rw (set-there l i j (call identifier post) (λ d. omega arith)) (lowest-no 32 _ none j (omega arith));
+        passes = rw (set-here l i (placeFor x) (omega arith)) (own (x .identifier));
+        before = λ j k. rw (set-there l i j (placeFor x) (λ d. omega arith)) (lowest-no 32 _ none j (omega arith));
       })
     where
       own : (a : ℕ) → eqb a a ≡ true
       own a = eq-eqb a a refl
 
   -- every other call waits where it did
-  pub place-take-other : placeIn l i .used ≡ false → (other : ℕ) → (other ≡ identifier → ⊥) → placeOf (takeOf l i identifier post) other ≡ placeOf l other
+  pub place-take-other : placeIn l i .used ≡ false → (other : ℕ) → (other ≡ x .identifier → ⊥) → placeOf (takeOf l i x) other ≡ placeOf l other
   unfolding placeOf takeOf
   place-take-other free other d =
       lowest-same 32 _ _
       (λ j k.
-      set-by l i (call identifier post) (omega arith) (λ (q : Place). hasCall q other ≡ hasCall (placeIn l j) other) j
-      (λ e. has-not (call identifier post) other (λ u z. d (sym z)) ∙ sym (rw e (has-not (placeIn l i) other (λ u z. not-both (sym free ∙ u)))))
+      set-by l i (placeFor x) (omega arith) (λ (q : Place). hasCall q other ≡ hasCall (placeIn l j) other) j
+      (λ e. has-not (placeFor x) other (λ u z. d (sym z)) ∙ sym (rw e (has-not (placeIn l i) other (λ u z. not-both (sym free ∙ u)))))
       (λ e. refl))
 
 -- ---- a place cleared

@@ -13,12 +13,19 @@ use Rattle.profile.specs.Sample.{sample, sampleShare}
 use Rattle.profile.specs.declared.Shares.{Shares}
 use Rattle.places.specs.Held.{noPlace, placeIn, noPlaces, waitsAt, heldOf, usedOf, freeOf, owedOf, owedAll, owedOthers, loadOf, admitsOf}
 use Rattle.places.specs.Grounds.{callOk, apart, aloneAt, underCeiling, placesOk}
-use Rattle.places.specs.Spots.{noSpot, spotAt, lowestFrom, hasCall, placeOf, lowestFree, takeOf, clearOf}
+use Rattle.places.specs.Spots.{noSpot, spotAt, lowestFrom, hasCall, placeOf, lowestFree, placeFor, takeOf, clearOf}
+use Rattle.places.specs.declared.Call as places
 use Rattle.places.specs.declared.Place.{Place}
 use Rattle.places.specs.declared.Spot.{Spot}
-use Rattle.places.proofs.HeldLaws.{call}
 
 -- ---- desks
+
+-- a call with this identifier, at this post, and the place where it waits
+abbrev pub at : ℕ → ℕ → places.Call
+at identifier post = record { identifier = identifier; post = post }
+
+abbrev pub call : ℕ → ℕ → Place
+call identifier post = placeFor (at identifier post)
 
 -- as many calls, waiting at a post, with identifiers from k on
 abbrev pub calls : ℕ → ℕ → ℕ → List Place
@@ -198,7 +205,7 @@ unfolding both lowestFrom placeIn noPlaces hasCall placeOf lowestFree clearOf
 spots-right = refl
 
 -- a place taken twice has the second call whole; number 32 is no place; a cleared place is all zero
-pub changes-right : takeOf (takeOf noPlaces 3 5 1) 3 6 0 ∷ takeOf noPlaces 32 5 1 ∷ clearOf (takeOf noPlaces 31 5 1) 31 ∷ clearOf (two 28 4) 32 ∷ []
+pub changes-right : takeOf (takeOf noPlaces 3 (at 5 1)) 3 (at 6 0) ∷ takeOf noPlaces 32 (at 5 1) ∷ clearOf (takeOf noPlaces 31 (at 5 1)) 31 ∷ clearOf (two 28 4) 32 ∷ []
     ≡ set noPlaces 3 (call 6 0) ∷ noPlaces ∷ noPlaces ∷ two 28 4 ∷ []
 unfolding noPlaces takeOf clearOf
 changes-right = refl

@@ -13,13 +13,10 @@ use Rattle.codec.specs.Codec.{both}
 use Rattle.codec.proofs.Good.{both-none, not-both}
 use Rattle.profile.specs.Counting.{sum, one}
 use Rattle.places.specs.Held.{noPlace, placeIn, noPlaces, waitsAt, heldOf, usedOf}
-use Rattle.places.specs.Spots.{takeOf, clearOf}
+use Rattle.places.specs.Spots.{placeFor, takeOf, clearOf}
+use Rattle.places.specs.declared.Call.{Call}
 use Rattle.places.specs.declared.Place.{Place}
 use Rattle.places.proofs.SumLaws.{sum-same, sum-bump, sum-few, sum-full, sum-zero, sum-swap}
-
--- the waiting call of this identifier and post
-abbrev pub call : ℕ → ℕ → Place
-call identifier post = record { used = true; identifier = identifier; post = post }
 
 pub one-few : (b : Bool) → one b ≤ 1
 one-few true = omega arith
@@ -86,10 +83,10 @@ module _ (F : Place → ℕ) (l : List Place) (n : length l ≡ 32) where
 
 -- ---- the place at j after take and after clear
 
-pub used-take : (l : List Place) (i identifier post : ℕ) → i < length l
-    → (j : ℕ) → placeIn (takeOf l i identifier post) j ≡ cond (eqb j i) (call identifier post) (placeIn l j)
+pub used-take : (l : List Place) (i : ℕ) (x : Call) → i < length l
+    → (j : ℕ) → placeIn (takeOf l i x) j ≡ cond (eqb j i) (placeFor x) (placeIn l j)
 unfolding takeOf
-used-take l i identifier post h j = set-is l i (call identifier post) h j
+used-take l i x h j = set-is l i (placeFor x) h j
 
 pub used-clear : (l : List Place) (i j : ℕ) → placeIn (clearOf l i) j ≡ cond (eqb j i) noPlace (placeIn l j)
 unfolding clearOf
@@ -103,9 +100,9 @@ used-clear l i j =
     by-eqb true e h = let d = eqb-true j i e in past-free l j (rw d h)
     by-eqb false e h = refl
 
-pub length-take : (l : List Place) (i identifier post : ℕ) → length (takeOf l i identifier post) ≡ length l
+pub length-take : (l : List Place) (i : ℕ) (x : Call) → length (takeOf l i x) ≡ length l
 unfolding takeOf
-length-take l i identifier post = length-set l i (call identifier post)
+length-take l i x = length-set l i (placeFor x)
 
 pub length-clear : (l : List Place) (i : ℕ) → length (clearOf l i) ≡ length l
 unfolding clearOf
@@ -117,9 +114,9 @@ pub waits-not : (p : Place) (post : ℕ) → p .used ≡ false → waitsAt p pos
 unfolding waitsAt both
 waits-not p post e = rw e
 
-pub waits-call : (identifier post q : ℕ) → waitsAt (call identifier post) q ≡ eqb post q
+pub waits-call : (x : Call) (q : ℕ) → waitsAt (placeFor x) q ≡ eqb (x .post) q
 unfolding waitsAt both
-waits-call identifier post q = refl
+waits-call x q = refl
 
 pub waits-other : (p : Place) (q : ℕ) → (q ≡ p .post → ⊥) → waitsAt p q ≡ false
 unfolding waitsAt
@@ -143,27 +140,27 @@ used-all l h = sum-full 32 (λ i. one (placeIn l i .used)) (λ j k. rw (h j k))
 
 module _ (l : List Place) (n : length l ≡ 32) (i : ℕ) where
   -- a free place taken
-  module _ (h : i < 32) (free : placeIn l i .used ≡ false) (identifier post : ℕ) where
-    pub held-take : (q : ℕ) → heldOf (takeOf l i identifier post) q ≡ heldOf l q + one (eqb post q)
+  module _ (h : i < 32) (free : placeIn l i .used ≡ false) (x : Call) where
+    pub held-take : (q : ℕ) → heldOf (takeOf l i x) q ≡ heldOf l q + one (eqb (x .post) q)
     unfolding heldOf takeOf
     held-take q =
-        let e = count-set (λ (p : Place). one (waitsAt p q)) l n i (call identifier post) h in
+        let e = count-set (λ (p : Place). one (waitsAt p q)) l n i (placeFor x) h in
         let z : one (waitsAt (placeIn l i) q) ≡ 0 = rw (waits-not (placeIn l i) q free) in
-        let w : one (waitsAt (call identifier post) q) ≡ one (eqb post q) = rw (waits-call identifier post q) in
+        let w : one (waitsAt (placeFor x) q) ≡ one (eqb (x .post) q) = rw (waits-call x q) in
         omega (arith, e, z, w)
 
-    pub held-take-own : heldOf (takeOf l i identifier post) post ≡ heldOf l post + 1
-    held-take-own = let z : one (eqb post post) ≡ 1 = rw (eq-eqb post post refl) in omega (arith, held-take post, z)
+    pub held-take-own : heldOf (takeOf l i x) (x .post) ≡ heldOf l (x .post) + 1
+    held-take-own = let z : one (eqb (x .post) (x .post)) ≡ 1 = rw (eq-eqb (x .post) (x .post) refl) in omega (arith, held-take (x .post), z)
 
-    pub held-take-other : (q : ℕ) → (q ≡ post → ⊥) → heldOf (takeOf l i identifier post) q ≡ heldOf l q
+    pub held-take-other : (q : ℕ) → (q ≡ x .post → ⊥) → heldOf (takeOf l i x) q ≡ heldOf l q
     held-take-other q d =
-        let z : one (eqb post q) ≡ 0 = rw (ne-eqb post q (λ k. d (sym k))) in
+        let z : one (eqb (x .post) q) ≡ 0 = rw (ne-eqb (x .post) q (λ k. d (sym k))) in
         omega (arith, held-take q, z)
 
-    pub all-take : usedOf (takeOf l i identifier post) ≡ usedOf l + 1
+    pub all-take : usedOf (takeOf l i x) ≡ usedOf l + 1
     unfolding usedOf takeOf
     all-take =
-        let e = count-set (λ (p : Place). one (p .used)) l n i (call identifier post) h in
+        let e = count-set (λ (p : Place). one (p .used)) l n i (placeFor x) h in
         let z : one (placeIn l i .used) ≡ 0 = rw free in
         omega (arith, e, z)
 

@@ -17,27 +17,33 @@ use Rattle.profile.specs.declared.Shares.{Shares}
 use Rattle.profile.proofs.CountLaws.{every-at}
 use Rattle.places.specs.Held.{noPlace, placeIn, noPlaces, waitsAt, heldOf, usedOf, freeOf, owedOf, owedAll, owedOthers, loadOf, admitsOf}
 use Rattle.places.specs.Grounds.{callOk, apart, aloneAt, underCeiling, placesOk}
-use Rattle.places.specs.Spots.{spotAt, placeOf, lowestFree, takeOf, clearOf}
+use Rattle.places.specs.Spots.{spotAt, placeOf, lowestFree, placeFor, takeOf, clearOf}
+use Rattle.places.specs.declared.Call.{Call}
 use Rattle.places.specs.declared.Place.{Place}
 use Rattle.places.proofs.SumLaws.{every-all, sum-same, sum-bump, sum-without}
 use Rattle.places.proofs.SpotLaws.{lowest-free-exactly, none-free-exactly, no-place-exactly}
-use Rattle.places.proofs.HeldLaws.{call, one-few, set-by, waits-not, waits-other, waiting-inside, used-all, used-clear, held-take-own, held-take-other, all-take, held-clear, all-clear, none-at, none-held, none-used, all-held}
+use Rattle.places.proofs.HeldLaws.{one-few, set-by, waits-not, waits-other, waiting-inside, used-all, used-clear, held-take-own, held-take-other, all-take, held-clear, all-clear, none-at, none-held, none-used, all-held}
 
 -- ---- the tests, as facts
 
-call-ok : (posts : ℕ) (p : Place) → (p .used ≡ true → (p .identifier < 2 ^ 14) × (p .post < posts)) → callOk posts p ≡ true
+-- a call that 1 passes
+pub record Sound (posts : ℕ) (p : Place) : Type 0 where
+  pub small : p .identifier < 2 ^ 14
+  pub below : p .post < posts
+
+call-ok : (posts : ℕ) (p : Place) → (p .used ≡ true → Sound posts p) → callOk posts p ≡ true
 unfolding callOk
 call-ok posts p h = go (p .used) refl
   where
     go : (b : Bool) → p .used ≡ b → cond b (both (ltb (p .identifier) (2 ^ 14)) (ltb (p .post) posts)) true ≡ true
-    go true e = let w = h e in both-true _ _ (lt-ltb _ _ (w .0)) (lt-ltb _ _ (w .1))
+    go true e = let w = h e in both-true _ _ (lt-ltb _ _ (w .small)) (lt-ltb _ _ (w .below))
     go false e = refl
 
-call-fact : (posts : ℕ) (p : Place) → callOk posts p ≡ true → p .used ≡ true → (p .identifier < 2 ^ 14) × (p .post < posts)
+call-fact : (posts : ℕ) (p : Place) → callOk posts p ≡ true → p .used ≡ true → Sound posts p
 unfolding callOk
 call-fact posts p e u =
     let k : both (ltb (p .identifier) (2 ^ 14)) (ltb (p .post) posts) ≡ true = rw u at e in
-    (ltb-true _ _ (both-left _ _ k), ltb-true _ _ (both-right (ltb (p .identifier) (2 ^ 14)) _ k))
+    record { small = ltb-true _ _ (both-left _ _ k); below = ltb-true _ _ (both-right (ltb (p .identifier) (2 ^ 14)) _ k) }
 
 abbrev Differ : Place → Place → Type 0
 Differ p q = p .used ≡ true → q .used ≡ true → p .identifier ≡ q .identifier → ⊥
@@ -58,7 +64,7 @@ apart-fact p q e u v d = not-both (rw (u, v, eq-eqb _ _ d) at e)
 
 -- what `placesOk` says, as facts
 pub record Passes (shares : Shares) (l : List Place) : Type 0 where
-  pub calls : (i : ℕ) → i < 32 → placeIn l i .used ≡ true → (placeIn l i .identifier < 2 ^ 14) × (placeIn l i .post < shares .posts)
+  pub calls : (i : ℕ) → i < 32 → placeIn l i .used ≡ true → Sound (shares .posts) (placeIn l i)
   pub alone : (i j : ℕ) → i < 32 → j < i → placeIn l i .used ≡ true → placeIn l j .used ≡ true → placeIn l i .identifier ≡ placeIn l j .identifier → ⊥
   pub under : (p : ℕ) → p < shares .posts → heldOf l p ≤ shareIn (shares .share) p .ceiling
   pub load : loadOf shares l ≤ 32
@@ -150,74 +156,67 @@ module _ (shares : Shares) (l : List Place) where
 -- ---- a call takes a place
 
 module _ (shares : Shares) (l : List Place) (n : length l ≡ 32) where
-  module _ (i identifier post : ℕ) (h : i < 32) (free : placeIn l i .used ≡ false) (a : admitsOf shares l post ≡ true) (p : post < shares .posts) (w : Passes shares l) where
-    take-under : (q : ℕ) → q < shares .posts → heldOf (takeOf l i identifier post) q ≤ shareIn (shares .share) q .ceiling
-    take-under q k = go (eqb q post) refl
+  module _ (i : ℕ) (x : Call) (h : i < 32) (free : placeIn l i .used ≡ false) (a : admitsOf shares l (x .post) ≡ true) (s : Sound (shares .posts) (placeFor x)) (w : Passes shares l) where
+    take-under : (q : ℕ) → q < shares .posts → heldOf (takeOf l i x) q ≤ shareIn (shares .share) q .ceiling
+    take-under q k = go (eqb q (x .post)) refl
       where
-        go : (b : Bool) → eqb q post ≡ b → heldOf (takeOf l i identifier post) q ≤ shareIn (shares .share) q .ceiling
+        go : (b : Bool) → eqb q (x .post) ≡ b → heldOf (takeOf l i x) q ≤ shareIn (shares .share) q .ceiling
         go true e =
-            let d = eqb-true q post e in
-            let c = admits-rule shares l post a .0 in
-            rw (d, held-take-own l n i h free identifier post) (omega arith)
-        go false e = rw (held-take-other l n i h free identifier post q (λ d. not-both (sym e ∙ eq-eqb q post d))) (w .under q k)
+            let d = eqb-true q (x .post) e in
+            let c = admits-rule shares l (x .post) a .0 in
+            rw (d, held-take-own l n i h free x) (omega arith)
+        go false e = rw (held-take-other l n i h free x q (λ d. not-both (sym e ∙ eq-eqb q (x .post) d))) (w .under q k)
 
-    take-owed : owedAll shares (takeOf l i identifier post) + owedOf shares l post ≡ owedAll shares l + owedOf shares (takeOf l i identifier post) post
+    take-owed : owedAll shares (takeOf l i x) + owedOf shares l (x .post) ≡ owedAll shares l + owedOf shares (takeOf l i x) (x .post)
     unfolding owedAll owedOf
     take-owed =
-        sum-bump (shares .posts) post (λ q. owedOf shares l q) (λ q. owedOf shares (takeOf l i identifier post) q) p
-        (λ q d. rw (held-take-other l n i h free identifier post q d))
+        sum-bump (shares .posts) (x .post) (λ q. owedOf shares l q) (λ q. owedOf shares (takeOf l i x) q) (s .below)
+        (λ q d. rw (held-take-other l n i h free x q d))
 
-    take-load : loadOf shares (takeOf l i identifier post) ≤ 32
+    take-load : loadOf shares (takeOf l i x) ≤ 32
     unfolding loadOf owedOf freeOf
     take-load =
-        let o = held-take-own l n i h free identifier post in
-        let u = all-take l n i h free identifier post in
+        let o = held-take-own l n i h free x in
+        let u = all-take l n i h free x in
         ⊎-elim
         (λ k. omega (arith, k, o, u, take-owed, w .load))
-        (λ k. omega (arith, k, o, u, take-owed, w .load, owed-parts shares l post p))
-        (admits-rule shares l post a .1)
+        (λ k. omega (arith, k, o, u, take-owed, w .load, owed-parts shares l (x .post) (s .below)))
+        (admits-rule shares l (x .post) a .1)
 
-    take-calls : identifier < 2 ^ 14 → (j : ℕ) → j < 32 → placeIn (takeOf l i identifier post) j .used ≡ true
-        → (placeIn (takeOf l i identifier post) j .identifier < 2 ^ 14) × (placeIn (takeOf l i identifier post) j .post < shares .posts)
+    take-calls : (j : ℕ) → j < 32 → placeIn (takeOf l i x) j .used ≡ true → Sound (shares .posts) (placeIn (takeOf l i x) j)
     unfolding takeOf
-    take-calls small j k =
-        set-by l i (call identifier post) (omega arith)
-        (λ (q : Place). q .used ≡ true → (q .identifier < 2 ^ 14) × (q .post < shares .posts)) j
-        (λ d u. (small, p))
-        (λ d. w .calls j k)
+    take-calls j k = set-by l i (placeFor x) (omega arith) (λ (q : Place). q .used ≡ true → Sound (shares .posts) q) j (λ d u. s) (λ d. w .calls j k)
 
-    take-alone : ((j : ℕ) → j < 32 → placeIn l j .used ≡ true → placeIn l j .identifier ≡ identifier → ⊥)
-        → (j k : ℕ) → j < 32 → k < j → Differ (placeIn (takeOf l i identifier post) j) (placeIn (takeOf l i identifier post) k)
+    take-alone : ((j : ℕ) → j < 32 → placeIn l j .used ≡ true → placeIn l j .identifier ≡ x .identifier → ⊥)
+        → (j k : ℕ) → j < 32 → k < j → Differ (placeIn (takeOf l i x) j) (placeIn (takeOf l i x) k)
     unfolding takeOf
     take-alone none j k s t =
-        set-by l i (call identifier post) (omega arith) (λ (q : Place). Differ q (placeIn (set l i (call identifier post)) k)) j
-        (λ d. set-by l i (call identifier post) (omega arith) (λ (q : Place). Differ (call identifier post) q) k
+        set-by l i (placeFor x) (omega arith) (λ (q : Place). Differ q (placeIn (set l i (placeFor x)) k)) j
+        (λ d. set-by l i (placeFor x) (omega arith) (λ (q : Place). Differ (placeFor x) q) k
         (λ f. absurd (omega arith))
         (λ f u v z. none k (omega arith) v (sym z)))
-        (λ d. set-by l i (call identifier post) (omega arith) (λ (q : Place). Differ (placeIn l j) q) k
+        (λ d. set-by l i (placeFor x) (omega arith) (λ (q : Place). Differ (placeIn l j) q) k
         (λ f u v z. none j s u z)
         (λ f. w .alone j k s t))
 
   -- an admitted call at any free place, and at the lowest
-  pub take-keeps-at : (i identifier post : ℕ) → placesOk shares l ≡ true → identifier < 2 ^ 14 → placeOf l identifier .found ≡ false
-      → post < shares .posts → admitsOf shares l post ≡ true → i < 32 → placeIn l i .used ≡ false
-      → placesOk shares (takeOf l i identifier post) ≡ true
-  take-keeps-at i identifier post e small none p a h free =
+  pub take-keeps-at : (i : ℕ) (x : Call) → placesOk shares l ≡ true → Sound (shares .posts) (placeFor x) → placeOf l (x .identifier) .found ≡ false
+      → admitsOf shares l (x .post) ≡ true → i < 32 → placeIn l i .used ≡ false → placesOk shares (takeOf l i x) ≡ true
+  take-keeps-at i x e s none a h free =
       let w = passes shares l e in
-      passed shares (takeOf l i identifier post)
+      passed shares (takeOf l i x)
       (record {
-        calls = take-calls i identifier post h free a p w small;
-        alone = take-alone i identifier post h free a p w (no-place-exactly l identifier none);
-        under = take-under i identifier post h free a p w;
-        load = take-load i identifier post h free a p w;
+        calls = take-calls i x h free a s w;
+        alone = take-alone i x h free a s w (no-place-exactly l (x .identifier) none);
+        under = take-under i x h free a s w;
+        load = take-load i x h free a s w;
       })
 
-  pub take-keeps : (i identifier post : ℕ) → placesOk shares l ≡ true → identifier < 2 ^ 14 → placeOf l identifier .found ≡ false
-      → post < shares .posts → admitsOf shares l post ≡ true → lowestFree l ≡ spotAt i
-      → placesOk shares (takeOf l i identifier post) ≡ true
-  take-keeps i identifier post e small none p a at =
+  pub take-keeps : (i : ℕ) (x : Call) → placesOk shares l ≡ true → Sound (shares .posts) (placeFor x) → placeOf l (x .identifier) .found ≡ false
+      → admitsOf shares l (x .post) ≡ true → lowestFree l ≡ spotAt i → placesOk shares (takeOf l i x) ≡ true
+  take-keeps i x e s none a at =
       let f = lowest-free-exactly l i at in
-      take-keeps-at i identifier post e small none p a (f .inside) (f .free)
+      take-keeps-at i x e s none a (f .inside) (f .free)
 
   -- ---- a place is freed
 
@@ -230,10 +229,8 @@ module _ (shares : Shares) (l : List Place) (n : length l ≡ 32) where
       go false = g
 
   module _ (i : ℕ) (w : Passes shares l) where
-    clear-calls : (j : ℕ) → j < 32 → placeIn (clearOf l i) j .used ≡ true
-        → (placeIn (clearOf l i) j .identifier < 2 ^ 14) × (placeIn (clearOf l i) j .post < shares .posts)
-    clear-calls j k =
-        clear-by i (λ (q : Place). q .used ≡ true → (q .identifier < 2 ^ 14) × (q .post < shares .posts)) j (λ u. not-both u) (w .calls j k)
+    clear-calls : (j : ℕ) → j < 32 → placeIn (clearOf l i) j .used ≡ true → Sound (shares .posts) (placeIn (clearOf l i) j)
+    clear-calls j k = clear-by i (λ (q : Place). q .used ≡ true → Sound (shares .posts) q) j (λ u. not-both u) (w .calls j k)
 
     clear-alone : (j k : ℕ) → j < 32 → k < j → Differ (placeIn (clearOf l i) j) (placeIn (clearOf l i) k)
     clear-alone j k s t =
@@ -257,7 +254,7 @@ module _ (shares : Shares) (l : List Place) (n : length l ≡ 32) where
     clear-load-used : placeIn l i .used ≡ true → i < 32 → loadOf shares (clearOf l i) ≤ 32
     unfolding loadOf owedAll owedOf
     clear-load-used u h =
-        let c = w .calls i h u .1 in
+        let c = w .calls i h u .below in
         let o = sum-bump (shares .posts) (placeIn l i .post) (λ q. owedOf shares l q) (λ q. owedOf shares (clearOf l i) q) c (λ q d. rw (clear-other q d)) in
         let z : one (placeIn l i .used) ≡ 1 = rw u in
         let m = one-few (waitsAt (placeIn l i) (placeIn l i .post)) in
@@ -314,4 +311,4 @@ module _ (shares : Shares) (e : sharesOk shares ≡ true) where
 -- ---- on a desk that passes, all held is the sum of what its posts hold
 
 pub used-is-held : (shares : Shares) (l : List Place) → placesOk shares l ≡ true → usedOf l ≡ sum (shares .posts) (λ q. heldOf l q)
-used-is-held shares l e = let w = passes shares l e in all-held l (shares .posts) (λ i h u. w .calls i h u .1)
+used-is-held shares l e = let w = passes shares l e in all-held l (shares .posts) (λ i h u. w .calls i h u .below)

@@ -6,6 +6,7 @@ use lib.Dec.{eqb, ltb}
 use lib.ListN.{set}
 use Rattle.codec.specs.Codec.{both}
 use Rattle.places.specs.Held.{noPlace, placeIn}
+use Rattle.places.specs.declared.Call.{Call}
 use Rattle.places.specs.declared.Place.{Place}
 use Rattle.places.specs.declared.Spot.{Spot}
 
@@ -42,9 +43,13 @@ numberIn s = cond (s .found) (s .place) 32
 unfoldable pub spotOf : ℕ → Spot
 spotOf n = cond (ltb n 32) (spotAt n) noSpot
 
+-- the place where this call waits
+abbrev pub placeFor : Call → Place
+placeFor x = record { used = true; identifier = x .identifier; post = x .post }
+
 -- a place taken is overwritten whole, one that is freed becomes all zero; there is no place from number 32 on
-unfoldable pub takeOf : List Place → ℕ → ℕ → ℕ → List Place
-takeOf places at identifier post = set places at (record { used = true; identifier = identifier; post = post })
+unfoldable pub takeOf : List Place → ℕ → Call → List Place
+takeOf places at x = set places at (placeFor x)
 
 unfoldable pub clearOf : List Place → ℕ → List Place
 clearOf places at = set places at noPlace

@@ -21,6 +21,12 @@ pub struct Place {
     pub post: u8,
 }
 
+// A waiting call: its identifier, and the post where it waits.
+pub struct Call {
+    pub identifier: u16,
+    pub post: u8,
+}
+
 pub struct Places {
     pub place: [Place; 32],
 }
@@ -81,17 +87,17 @@ pub fn lowest_free(places: Places) -> Spot
     search::spot_of(search::free_number(list))
 }
 
-// A call waits at the place from now on, whatever was there; a number of no place changes nothing.
-pub fn take(places: Places, at: u8, identifier: u16, post: u8) -> Places
-    ensures { λ r. ⌜ r ≡ record { place = takeOf (places .place) at identifier post } ⌝ }
+// The call waits at the place from now on, whatever was there; a number of no place changes nothing.
+pub fn take(places: Places, at: u8, call: Call) -> Places
+    ensures { λ r. ⌜ r ≡ record { place = takeOf (places .place) at call } ⌝ }
 {
     let list = places.place;
-    let call = Place {
+    let waiting = Place {
         used: true,
-        identifier: identifier,
-        post: post,
+        identifier: call.identifier,
+        post: call.post,
     };
-    put(list, at, call)
+    put(list, at, waiting)
 }
 
 // The place is free from now on, and all zero; a number of no place changes nothing.
