@@ -17,32 +17,34 @@ use Rattle.message.specs.Reading.{readOf, isReading}
 use Rattle.message.specs.declared.Group.{Group}
 use Rattle.message.specs.declared.Value.{Value}
 use Rattle.message.proofs.StopLaws.{read-known}
-use Rattle.places.specs.Held.{admitsOf}
+use Rattle.places.specs.Held.{placeIn, admitsOf}
+use Rattle.places.specs.Spots.{placeOf, clearOf}
 use Rattle.records.specs.Records.{recordsOk, restrictedOf}
 use Rattle.records.specs.declared.Identity.{Identity}
 use Rattle.records.specs.declared.Party.{Party}
 use Rattle.records.specs.declared.Record.{Record}
 use Rattle.desk.specs.Desks.{deskOk}
 use Rattle.desk.specs.Grounds.{waits, waitsHere}
-use Rattle.desk.specs.Orders.{unless, postsOf, placesOf, namesDispatchers, activateAnswer, interrogateAnswer, endAnswer, decideAnswer, sentAnswer, readAnswer, messageAnswer, identifierOk, setUpOk, admitAnswer, partyAnswer, setUpAnswer, rejectAnswer, cancelAnswer, eventAnswer, answerOf}
-use Rattle.desk.specs.Steps.{plainStep, acksStep, stepBy, stepOf}
+use Rattle.desk.specs.Orders.{unless, postsOf, placesOf, namesDispatchers, activateAnswer, interrogateAnswer, endAnswer, moveAnswer, acceptAnswer, decideAnswer, sentAnswer, readAnswer, messageAnswer, identifierOk, setUpOk, admitAnswer, partyAnswer, setUpAnswer, rejectAnswer, cancelAnswer, eventAnswer, answerOf}
+use Rattle.desk.specs.Steps.{Spoken, plainStep, acksStep, stepBy, stepOf}
 use Rattle.desk.specs.declared.Answer.{Answer}
 use Rattle.desk.specs.declared.Answer.the-variants as answer
 use Rattle.desk.specs.declared.Desk.{Desk}
 use Rattle.desk.specs.declared.Event.{Event}
 use Rattle.desk.specs.declared.Event.the-variants as event
 
-by-answer : (d : Desk) (rows : List Record) (post : ℕ) (users : Group) (identifier : ℕ) (a : Answer) → stepBy d rows post users identifier a .answer ≡ a
+by-answer : (d : Desk) (rows : List Record) (post : ℕ) (users : Group) (spoken : Spoken) (a : Answer) → stepBy d rows post users spoken a .answer ≡ a
 unfolding stepBy plainStep acksStep
-by-answer d rows post users identifier (answer.Refused s) = refl
-by-answer d rows post users identifier answer.Acks = refl
-by-answer d rows post users identifier (answer.State k) = refl
-by-answer d rows post users identifier answer.Free = refl
-by-answer d rows post users identifier (answer.Admitted p i) = refl
-by-answer d rows post users identifier answer.Proceed = refl
-by-answer d rows post users identifier answer.Diverted = refl
-by-answer d rows post users identifier answer.Rejected = refl
-by-answer d rows post users identifier answer.Cancelled = refl
+by-answer d rows post users spoken (answer.Refused s) = refl
+by-answer d rows post users spoken answer.Acks = refl
+by-answer d rows post users spoken (answer.State k) = refl
+by-answer d rows post users spoken answer.Free = refl
+by-answer d rows post users spoken (answer.Admitted p i) = refl
+by-answer d rows post users spoken answer.Proceed = refl
+by-answer d rows post users spoken answer.Diverted = refl
+by-answer d rows post users spoken answer.Rejected = refl
+by-answer d rows post users spoken answer.Cancelled = refl
+by-answer d rows post users spoken (answer.Moved p) = refl
 
 -- the answer of the step is the one that the order gives
 pub step-answer : (d : Desk) (rows : List Record) (n : ℕ) (l area : List ℕ) (e : Event) → stepOf d rows n l area e .answer ≡ answerOf d rows n l (length area) e
@@ -107,17 +109,25 @@ module _ (ok : Answer → Bool) (refused : (s : Stop) → pastOne (s .number) �
         (unless-ok (not (recordsOk rows n (postsOf d))) 15 _ refl
         (unless-ok (waits d identifier) 17 _ refl (party-ok (restrictedOf (take n rows) (caller ∷ called ∷ [])) free admitted))))
 
+    accept-ok : (place : ℕ) → ok answer.Proceed ≡ true → ((post : ℕ) → ok (answer.Moved post) ≡ true) → ok (acceptAnswer d place) ≡ true
+    unfolding acceptAnswer moveAnswer pastOne both
+    accept-ok place proceed moved = go (placeIn (placesOf d) place .more)
+      where
+        go : (b : Bool) → ok (cond b (moveAnswer d place (placeIn (placesOf d) place .second)) answer.Proceed) ≡ true
+        go true = unless-ok (not (admitsOf (d .profile .shares) (clearOf (placesOf d) place) (placeIn (placesOf d) place .second))) 18 _ refl (moved _)
+        go false = proceed
+
     module _ (rows : List Record) (n : ℕ) (acks : ok answer.Acks ≡ true) (state : (k : ℕ) → ok (answer.State k) ≡ true) (proceed : ok answer.Proceed ≡ true)
-        (diverted : ok answer.Diverted ≡ true) (passes : profileOk (d .profile) ≡ true) where
+        (diverted : ok answer.Diverted ≡ true) (moved : (post : ℕ) → ok (answer.Moved post) ≡ true) (passes : profileOk (d .profile) ≡ true) where
       type-ok : (room post : ℕ) (v : Value) (a b c e : Bool)
           → ok (cond a (activateAnswer d rows n room v) (cond b (interrogateAnswer d rows n post v)
-          (cond c (decideAnswer d room post (identifierIn v) answer.Proceed) (cond e (decideAnswer d room post (identifierIn v) answer.Diverted) (answer.Refused (refusal 8)))))) ≡ true
+          (cond c (decideAnswer d room post (identifierIn v) (acceptAnswer d (placeOf (placesOf d) (identifierIn v) .place))) (cond e (decideAnswer d room post (identifierIn v) answer.Diverted) (answer.Refused (refusal 8)))))) ≡ true
       unfolding activateAnswer interrogateAnswer decideAnswer pastOne both refusal
       type-ok room post v true b c e =
           unless-ok (ltb room 300) 14 _ refl
           (unless-ok (not (recordsOk rows n (postsOf d))) 15 _ refl (unless-ok (namesDispatchers (d .profile .air) v) 21 answer.Acks refl acks))
       type-ok room post v false true c e = unless-ok (not (recordsOk rows n (postsOf d))) 15 _ refl (state _)
-      type-ok room post v false false true e = unless-ok (ltb room 300) 14 _ refl (end-ok post (identifierIn v) answer.Proceed proceed)
+      type-ok room post v false false true e = unless-ok (ltb room 300) 14 _ refl (end-ok post (identifierIn v) _ (accept-ok _ proceed moved))
       type-ok room post v false false false true = unless-ok (ltb room 300) 14 _ refl (end-ok post (identifierIn v) answer.Diverted diverted)
       type-ok room post v false false false false = refused (refusal 8) refl
 
@@ -131,7 +141,7 @@ module _ (ok : Answer → Bool) (refused : (s : Stop) → pastOne (s .number) �
 
 -- what an event can be answered but a refusal passes the test
 abbrev pub Can : (Answer → Bool) → Event → Type 0
-Can ok (event.Message post bits) = (ok answer.Acks ≡ true) × (((k : ℕ) → ok (answer.State k) ≡ true) × ((ok answer.Proceed ≡ true) × (ok answer.Diverted ≡ true)))
+Can ok (event.Message post bits) = (ok answer.Acks ≡ true) × (((k : ℕ) → ok (answer.State k) ≡ true) × ((ok answer.Proceed ≡ true) × ((ok answer.Diverted ≡ true) × ((post : ℕ) → ok (answer.Moved post) ≡ true))))
 Can ok (event.SetUp caller called identifier) = (ok answer.Free ≡ true) × ((post place : ℕ) → ok (answer.Admitted post place) ≡ true)
 Can ok (event.Reject post identifier) = ok answer.Rejected ≡ true
 Can ok (event.Cancel identifier) = ok answer.Cancelled ≡ true
@@ -139,7 +149,7 @@ Can ok (event.Cancel identifier) = ok answer.Cancelled ≡ true
 -- every call, once 1 does not come, and every call
 module _ (ok : Answer → Bool) (refused : (s : Stop) → pastOne (s .number) ≡ true → ok (answer.Refused s) ≡ true) (d : Desk) (rows : List Record) (n : ℕ) (l : List ℕ) (room : ℕ) where
   pub event-ok : (e : Event) → profileOk (d .profile) ≡ true → Can ok e → ok (eventAnswer d rows n l room e) ≡ true
-  event-ok (event.Message post bits) p h = message-ok ok refused d rows n (h .0) (h .1 .0) (h .1 .1 .0) (h .1 .1 .1) p l room post bits
+  event-ok (event.Message post bits) p h = message-ok ok refused d rows n (h .0) (h .1 .0) (h .1 .1 .0) (h .1 .1 .1 .0) (h .1 .1 .1 .1) p l room post bits
   event-ok (event.SetUp caller called identifier) p h = setup-ok ok refused d rows n room caller called identifier (h .0) (h .1)
   event-ok (event.Reject post identifier) p h = reject-ok ok refused d post identifier h
   event-ok (event.Cancel identifier) p h = cancel-ok ok refused d identifier h

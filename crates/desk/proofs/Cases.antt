@@ -24,18 +24,18 @@ use Rattle.message.specs.Messages.{bodyC, isKnown, isCarried, headerC, messageC
 use Rattle.message.specs.Reading.{wholeOf, lengthOk, readBits, readOf}
 use Rattle.writing.specs.Writing.{bitsOf, padded, layOf}
 use Rattle.places.specs.Held.{noPlace, placeIn, noPlaces, waitsAt, heldOf, usedOf, freeOf, owedOf, owedAll, owedOthers, loadOf, admitsOf}
-use Rattle.places.specs.Grounds.{callOk, apart, aloneAt, underCeiling, placesOk}
-use Rattle.places.specs.Spots.{lowestFrom, hasCall, placeOf, lowestFree, takeOf, clearOf}
+use Rattle.places.specs.Grounds.{secondOk, callOk, apart, aloneAt, underCeiling, placesOk}
+use Rattle.places.specs.Spots.{lowestFrom, hasCall, placeOf, lowestFree, takeOf, clearOf, moveOf}
 use Rattle.places.specs.declared.Place.{Place}
 use Rattle.records.specs.Identities.{identityOf, later, identityIn, identityAt, countOf, each, identitiesOf}
-use Rattle.records.specs.Records.{noRecord, rowOf, is, recordFrom, recordOf, recordOk, allOk, recordsOk, stateOf, restricts, partyOf, restrictedOf}
+use Rattle.records.specs.Records.{noRecord, rowOf, is, recordFrom, recordOf, recordOk, allOk, recordsOk, stateOf, restricts, partyOf, restrictedOf, isRestricted, postFor, secondOf}
 use Rattle.records.specs.Outcomes.{outcomeOf, outcomesOf, has, maskOf, someOf, sortedOf}
 use Rattle.records.specs.Marking.{acceptedOf, unmarked, noMarks, withMark, markAll, marksOf}
 use Rattle.records.specs.declared.Record.{Record}
 use Rattle.sending.specs.Sending.{layFrom, layAll, noLaid, laidFrom, laidOf}
 use Rattle.sending.specs.Acks.{resultOf, reasonOf, severalIn, ackV, ackOf, acksOf}
 use Rattle.desk.specs.Desks.{deskOk}
-use Rattle.desk.specs.Orders.{namesDispatchers, activateAnswer, sentAnswer, messageAnswer, partyOk, setUpOk, admitAnswer, setUpAnswer, answerOf}
+use Rattle.desk.specs.Orders.{namesDispatchers, activateAnswer, endAnswer, moveAnswer, acceptAnswer, decideAnswer, sentAnswer, messageAnswer, partyOk, setUpOk, admitAnswer, setUpAnswer, answerOf}
 use Rattle.desk.specs.Steps.{deskAfter, plainStep, plainArea, acksFor, acksStep, acksArea, stepBy, areaBy, stepOf, areaAfter}
 use Rattle.desk.specs.declared.Answer.{Answer}
 use Rattle.desk.specs.declared.Answer.the-variants as answer
@@ -56,7 +56,7 @@ rows l = l ++ replicate (128 - length l) noRecord
 -- as many calls, waiting at a post, with identifiers from k on
 abbrev pub calls : ℕ → ℕ → ℕ → List Place
 calls zero post k = []
-calls (suc n) post k = record { used = true; identifier = k; post = post } ∷ calls n post (suc k)
+calls (suc n) post k = record { used = true; identifier = k; post = post; more = false; second = 0 } ∷ calls n post (suc k)
 
 abbrev pub desk : List Place → Desk
 desk l = record { profile = sample; places = record { place = l ++ replicate (32 - length l) noPlace } }
@@ -71,6 +71,14 @@ restricted = user 1001 0 true ∷ user 1004 1 true ∷ []
 
 abbrev pub setUp : ℕ → ℕ → Event
 setUp caller called = event.SetUp (record { ssi = caller; extension = 0 }) (record { ssi = called; extension = 0 }) 100
+
+-- a call that waits at a post and has a second
+abbrev pub call-then : ℕ → ℕ → ℕ → Place
+call-then identifier post second = record { used = true; identifier = identifier; post = post; more = true; second = second }
+
+-- ACCEPT, identifier 5
+abbrev pub accept-5 : List ℕ
+accept-5 = 0x25 ∷ 0x80 ∷ 0x02 ∷ 0x80 ∷ []
 
 -- the marks of the first records, and none beyond
 abbrev pub marked : List Bool → List Bool
@@ -113,8 +121,15 @@ cases =
     ∷ on (desk (calls 28 0 0)) restricted [] (setUp 1004 2000) (answer.Admitted 1 28) (17 ∷ []) (desk (calls 28 0 0 ++ calls 1 1 100)) (marked []) ((0x25 ∷ 0x40 ∷ 0x00 ∷ []) ++ untouched 297)
     -- 12: post 1 holds 8, post 0 none: 18 for post 1, by its ceiling
     ∷ on (desk (calls 8 1 0)) restricted [] (setUp 1004 2000) (answer.Refused (refusal 18)) [] (desk (calls 8 1 0)) (marked []) (untouched 300)
+    -- document 02, (iii): both are restricted, at different posts; post 0's ACCEPT moves the call, its second gets 20, post 1's lets it proceed
+    ∷ on (desk []) restricted [] (setUp 1001 1004) (answer.Admitted 0 0) (17 ∷ []) (desk (call-then 100 0 1 ∷ [])) (marked []) ((0x25 ∷ 0x40 ∷ 0x00 ∷ []) ++ untouched 297)
+    ∷ on (desk (call-then 5 0 1 ∷ [])) [] accept-5 (event.Message 0 25) (answer.Moved 1) [] (desk (calls 1 1 5)) (marked []) (untouched 300)
+    ∷ on (desk (calls 1 1 5)) [] accept-5 (event.Message 0 25) (answer.Refused (refusal 20)) [] (desk (calls 1 1 5)) (marked []) (untouched 300)
+    ∷ on (desk (calls 1 1 5)) [] accept-5 (event.Message 1 25) answer.Proceed (11 ∷ []) (desk []) (marked []) ((0x25 ∷ 0xA0 ∷ []) ++ untouched 298)
+    -- 18 at a move, by the second post's ceiling: the call stays
+    ∷ on (desk (call-then 5 0 1 ∷ calls 8 1 100)) [] accept-5 (event.Message 0 25) (answer.Refused (refusal 18)) [] (desk (call-then 5 0 1 ∷ calls 8 1 100)) (marked []) (untouched 300)
     ∷ []
 
 pub cases-right : list.map gives cases ≡ list.map wants cases
-unfolding bitAt fieldAt withDigit binary setBit putBits spare both number vecRead flag every sum meaningOk meaningIn airOk shareOk shareIn sharesOk profileOk sample sampleMeanings sampleShare kindC extensionC addressC addressesIn allowedIn nobodies placesC rangeOk endsOk addressesC rangeC groupC noGroup oneGroup spanIn spanOf maskC maskedC resultC elements elementOf widths widthOf blank ackV table rowIn row.rowOf partsC puts gets eachC optionsC putOptions getOptions firstParts bodyC isKnown isCarried headerC messageC wholeOf lengthOk readBits readOf bitsOf padded layOf placeIn noPlaces waitsAt heldOf usedOf freeOf owedOf owedAll owedOthers loadOf admitsOf callOk apart aloneAt underCeiling placesOk lowestFrom hasCall placeOf lowestFree takeOf clearOf identityOf later identityIn identityAt countOf each identitiesOf rowOf is recordFrom recordOf recordOk allOk recordsOk stateOf restricts partyOf restrictedOf outcomeOf outcomesOf has maskOf someOf sortedOf acceptedOf unmarked noMarks withMark markAll marksOf layFrom layAll noLaid laidFrom laidOf resultOf reasonOf severalIn ackOf acksOf deskOk namesDispatchers activateAnswer sentAnswer messageAnswer partyOk setUpOk admitAnswer setUpAnswer answerOf deskAfter plainStep plainArea acksFor acksStep acksArea stepBy areaBy stepOf areaAfter
+unfolding bitAt fieldAt withDigit binary setBit putBits spare both number vecRead flag every sum meaningOk meaningIn airOk shareOk shareIn sharesOk profileOk sample sampleMeanings sampleShare kindC extensionC addressC addressesIn allowedIn nobodies placesC rangeOk endsOk addressesC rangeC groupC noGroup oneGroup spanIn spanOf maskC maskedC resultC elements elementOf widths widthOf blank ackV table rowIn row.rowOf partsC puts gets eachC optionsC putOptions getOptions firstParts bodyC isKnown isCarried headerC messageC wholeOf lengthOk readBits readOf bitsOf padded layOf placeIn noPlaces waitsAt heldOf usedOf freeOf owedOf owedAll owedOthers loadOf admitsOf secondOk callOk apart aloneAt underCeiling placesOk lowestFrom hasCall placeOf lowestFree takeOf clearOf moveOf identityOf later identityIn identityAt countOf each identitiesOf rowOf is recordFrom recordOf recordOk allOk recordsOk stateOf restricts partyOf restrictedOf isRestricted postFor secondOf outcomeOf outcomesOf has maskOf someOf sortedOf acceptedOf unmarked noMarks withMark markAll marksOf layFrom layAll noLaid laidFrom laidOf resultOf reasonOf severalIn ackOf acksOf deskOk namesDispatchers activateAnswer endAnswer moveAnswer acceptAnswer decideAnswer sentAnswer messageAnswer partyOk setUpOk admitAnswer setUpAnswer answerOf deskAfter plainStep plainArea acksFor acksStep acksArea stepBy areaBy stepOf areaAfter
 cases-right = refl

@@ -7,17 +7,19 @@ use lib.Dec.{eqb}
 use borrow.Author.Tests.{eq-eqb, ne-eqb, lt-ltb, le-ltb}
 use Rattle.codec.specs.Stops.{refusal, noStop}
 use Rattle.codec.proofs.Good.{not-both}
-use lib.ListN.{length, List·getD-eq-default}
-use Rattle.places.specs.Held.{noPlace, placeIn}
+use Rattle.places.specs.Held.{placeIn, admitsOf}
+use Rattle.places.specs.Spots.{placeOf, clearOf, moveOf}
 use Rattle.places.specs.declared.Place.{Place}
-use Rattle.places.specs.Spots.{placeOf}
+use Rattle.places.specs.declared.Places.{Places}
 use Rattle.places.specs.declared.Spot.{Spot}
+use Rattle.records.specs.Marking.{noMarks}
+use Rattle.records.specs.declared.Marks.{Marks}
 use Rattle.profile.specs.declared.Air.{Air}
 use Rattle.codec.specs.declared.Stop.{Stop}
-use Rattle.sending.specs.Sending.{layAll, noLaid, laidFrom, laidOf}
+use Rattle.sending.specs.Sending.{layFrom, layAll, noLaid, laidFrom, laidOf}
 use Rattle.sending.specs.declared.Laid.{Laid}
-use Rattle.desk.specs.Orders.{postsOf, placesOf, endAnswer, decideAnswer, rejectAnswer, cancelAnswer, endingOf}
-use Rattle.desk.specs.Steps.{ends, effectBy, messagesBy, deskAfter, plainStep, plainArea, endedStep}
+use Rattle.desk.specs.Orders.{unless, postsOf, placesOf, endAnswer, moveAnswer, acceptAnswer, decideAnswer, rejectAnswer, cancelAnswer, endingOf}
+use Rattle.desk.specs.Steps.{named, ends, effectBy, messagesBy, isAcks, deskAfter, plainStep, plainArea, keeps, endedStep, movedStep, acceptedStep}
 use Rattle.desk.specs.declared.Answer.{Answer}
 use Rattle.desk.specs.declared.Answer.the-variants as answer
 use Rattle.desk.specs.declared.Desk.{Desk}
@@ -56,8 +58,8 @@ module _ (d : Desk) (post identifier : ℕ) (a : Answer) where
       go false g z h = ap (λ (x : Ending). answer.Refused (x .stop)) (sym z)
 
 -- an answer that ends a call frees its place
-pub ended-is : (d : Desk) (identifier place : ℕ) (a : Answer) (x : Laid) → effectBy identifier a ≡ ends identifier → place ≡ placeOf (placesOf d) identifier .place
-    → x ≡ laidOf (d .profile .air) (messagesBy a) → endedStep d place a x ≡ plainStep d identifier a
+pub ended-is : (d : Desk) (identifier place : ℕ) (a : Answer) (x : Laid) → effectBy (named identifier) a ≡ ends identifier → place ≡ placeOf (placesOf d) identifier .place
+    → x ≡ laidOf (d .profile .air) (messagesBy a) → endedStep d place a x ≡ plainStep d (named identifier) a
 unfolding endedStep plainStep deskAfter
 ended-is d identifier place a x e h z = rw (e, h, z) refl
 
@@ -130,19 +132,92 @@ pub none-laid : (air : Air) (x : Laid) → x ≡ noLaid → x ≡ laidOf air []
 unfolding laidOf laidFrom
 none-laid air x e = e
 
-pub ends-by : (d : Desk) (identifier place : ℕ) (a b : Answer) (x : Laid) (r : Stepped) → b ≡ a → effectBy identifier a ≡ ends identifier
-    → place ≡ placeOf (placesOf d) identifier .place → x ≡ laidOf (d .profile .air) (messagesBy a) → r ≡ endedStep d place a x → r ≡ plainStep d identifier b
-ends-by d identifier place a b x r q e h z w = w ∙ ended-is d identifier place a x e h z ∙ ap (λ (y : Answer). plainStep d identifier y) (sym q)
+pub ends-by : (d : Desk) (identifier place : ℕ) (a b : Answer) (x : Laid) (r : Stepped) → b ≡ a → effectBy (named identifier) a ≡ ends identifier
+    → place ≡ placeOf (placesOf d) identifier .place → x ≡ laidOf (d .profile .air) (messagesBy a) → r ≡ endedStep d place a x → r ≡ plainStep d (named identifier) b
+ends-by d identifier place a b x r q e h z w = w ∙ ended-is d identifier place a x e h z ∙ ap (λ (y : Answer). plainStep d (named identifier) y) (sym q)
 
-pub decided : (d : Desk) (identifier place : ℕ) (a b : Answer) (x : Laid) (r : Stepped) (l m : List ℕ) → b ≡ a → effectBy identifier a ≡ ends identifier
+pub decided : (d : Desk) (identifier place : ℕ) (a b : Answer) (x : Laid) (r : Stepped) (l m : List ℕ) → b ≡ a → effectBy (named identifier) a ≡ ends identifier
     → place ≡ placeOf (placesOf d) identifier .place
     → (x ≡ laidOf (d .profile .air) (messagesBy a)) × (m ≡ layAll (d .profile .air) l (messagesBy a)) → r ≡ endedStep d place a x
-    → (r ≡ plainStep d identifier b) × (m ≡ plainArea d l b)
+    → (r ≡ plainStep d (named identifier) b) × (m ≡ plainArea d l b)
 unfolding plainArea
 decided d identifier place a b x r l m q e h z w =
     (ends-by d identifier place a b x r q e h (z .0) w, z .1 ∙ ap (λ (y : Answer). layAll (d .profile .air) l (messagesBy y)) (sym q))
 
--- a number of no place
-pub post-past : (l : List Place) (i : ℕ) → length l ≤ i → 0 ≡ placeIn l i .post
-unfolding placeIn
-post-past l i h = ap (λ (p : Place). p .post) (sym (List·getD-eq-default l noPlace h))
+-- ---- an ACCEPT by the post where the call waits: it proceeds, or moves
+
+module _ (d : Desk) (place : ℕ) where
+  pub accept-plain : isAcks (acceptAnswer d place) ≡ false
+  unfolding acceptAnswer moveAnswer
+  accept-plain = go (placeIn (placesOf d) place .more) (admitsOf (d .profile .shares) (clearOf (placesOf d) place) (placeIn (placesOf d) place .second))
+    where
+      go : (b c : Bool) → isAcks (cond b (unless (not c) 18 (answer.Moved (placeIn (placesOf d) place .second))) answer.Proceed) ≡ false
+      go true true = refl
+      go true false = refl
+      go false c = refl
+
+  -- 18, or the call is moved
+  module _ (second : ℕ) (rest : Places) (b : Bool) (cleared : rest ≡ record { place = clearOf (placesOf d) place }) (rule : b ≡ admitsOf (d .profile .shares) (rest .place) second) where
+    by-rule : admitsOf (d .profile .shares) (clearOf (placesOf d) place) second ≡ b
+    by-rule = ap (λ (x : Places). admitsOf (d .profile .shares) (x .place) second) (sym cleared) ∙ sym rule
+
+    pub moved-18 : b ≡ false → (s : Stop) (r : Stepped) → r ≡ keeps d (answer.Refused s) → s ≡ refusal 18 → r ≡ movedStep d place second
+    unfolding movedStep
+    moved-18 e s r z q = rw (by-rule ∙ e) (z ∙ ap (λ (x : Stop). keeps d (answer.Refused x)) q)
+
+    pub moved-is : b ≡ true → (x : Laid) (next : Places) (marks : Marks) → next ≡ record { place = moveOf (placesOf d) place } → x ≡ noLaid → marks ≡ noMarks
+        → record { answer = answer.Moved second; laid = x; desk = record { profile = d .profile; places = next }; marks = marks } ≡ movedStep d place second
+    unfolding movedStep
+    moved-is e x next marks z q m = rw (by-rule ∙ e, z, q, m) refl
+
+  module _ (p : Place) (z : p ≡ placeIn (placesOf d) place) (area : List ℕ) where
+    pub accepted-moves : p .more ≡ true → (r : Stepped) → r ≡ movedStep d place (p .second)
+        → (r ≡ acceptedStep d place) × (area ≡ plainArea d area (acceptAnswer d place))
+    unfolding acceptedStep acceptAnswer moveAnswer plainArea layAll layFrom
+    accepted-moves h r e =
+        let two : placeIn (placesOf d) place .more ≡ true = ap (λ (x : Place). x .more) (sym z) ∙ h in
+        (rw two (e ∙ ap (λ (x : Place). movedStep d place (x .second)) z),
+        rw two (go (admitsOf (d .profile .shares) (clearOf (placesOf d) place) (placeIn (placesOf d) place .second))))
+      where
+        go : (b : Bool) → area ≡ plainArea d area (unless (not b) 18 (answer.Moved (placeIn (placesOf d) place .second)))
+        go true = refl
+        go false = refl
+
+    pub accepted-proceeds : p .more ≡ false → (x : Laid) (m : List ℕ) (r : Stepped)
+        → (x ≡ laidOf (d .profile .air) (messagesBy answer.Proceed)) × (m ≡ layAll (d .profile .air) area (messagesBy answer.Proceed))
+        → r ≡ endedStep d place answer.Proceed x → (r ≡ acceptedStep d place) × (m ≡ plainArea d area (acceptAnswer d place))
+    unfolding acceptedStep acceptAnswer plainArea
+    accepted-proceeds h x m r w e =
+        let one : placeIn (placesOf d) place .more ≡ false = ap (λ (y : Place). y .more) (sym z) ∙ h in
+        (rw one (e ∙ ap (λ (y : Laid). endedStep d place answer.Proceed y) (w .0)), rw one (w .1))
+
+-- what it does is what its answer says
+accepted-step : (d : Desk) (identifier : ℕ) → acceptedStep d (placeOf (placesOf d) identifier .place) ≡ plainStep d (named identifier) (acceptAnswer d (placeOf (placesOf d) identifier .place))
+unfolding acceptedStep movedStep endedStep keeps acceptAnswer moveAnswer plainStep deskAfter laidOf laidFrom
+accepted-step d identifier = go (placeIn (placesOf d) place .more) (admitsOf (d .profile .shares) (clearOf (placesOf d) place) (placeIn (placesOf d) place .second))
+  where
+    place : ℕ
+    place = placeOf (placesOf d) identifier .place
+
+    second : ℕ
+    second = placeIn (placesOf d) place .second
+
+    moving : Bool → Stepped
+    moving c =
+        cond c
+        (record { answer = answer.Moved second; laid = noLaid; desk = record { profile = d .profile; places = record { place = moveOf (placesOf d) place } }; marks = noMarks })
+        (keeps d (answer.Refused (refusal 18)))
+
+    go : (b c : Bool)
+        → cond b (moving c) (endedStep d place answer.Proceed (laidOf (d .profile .air) (messagesBy answer.Proceed)))
+        ≡ plainStep d (named identifier) (cond b (unless (not c) 18 (answer.Moved second)) answer.Proceed)
+    go true true = refl
+    go true false = refl
+    go false c = refl
+
+pub accepted-by : (d : Desk) (identifier place : ℕ) (b : Answer) (r : Stepped) (l m : List ℕ) → b ≡ acceptAnswer d (placeOf (placesOf d) identifier .place)
+    → place ≡ placeOf (placesOf d) identifier .place → (r ≡ acceptedStep d place) × (m ≡ plainArea d l (acceptAnswer d place))
+    → (r ≡ plainStep d (named identifier) b) × (m ≡ plainArea d l b)
+accepted-by d identifier place b r l m q h z =
+    (z .0 ∙ ap (λ (i : ℕ). acceptedStep d i) h ∙ accepted-step d identifier ∙ ap (λ (y : Answer). plainStep d (named identifier) y) (sym q),
+    z .1 ∙ ap (λ (i : ℕ). plainArea d l (acceptAnswer d i)) h ∙ ap (λ (y : Answer). plainArea d l y) (sym q))

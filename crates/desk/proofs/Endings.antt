@@ -11,11 +11,12 @@ use Rattle.codec.proofs.Good.{not-both}
 use Rattle.message.specs.Values.{identifierIn}
 use Rattle.message.specs.Reading.{readOf}
 use Rattle.message.specs.declared.Value.{Value}
+use Rattle.places.specs.Spots.{placeOf}
 use Rattle.records.specs.Records.{recordsOk}
 use Rattle.records.specs.declared.Record.{Record}
 use Rattle.desk.specs.Desks.{deskOk}
 use Rattle.desk.specs.Grounds.{waits}
-use Rattle.desk.specs.Orders.{unless, postsOf, namesDispatchers, activateAnswer, interrogateAnswer, endAnswer, decideAnswer, sentAnswer, readAnswer, messageAnswer, identifierOk, rejectAnswer, cancelAnswer, eventAnswer, answerOf}
+use Rattle.desk.specs.Orders.{unless, postsOf, placesOf, namesDispatchers, activateAnswer, interrogateAnswer, endAnswer, acceptAnswer, decideAnswer, sentAnswer, readAnswer, messageAnswer, identifierOk, rejectAnswer, cancelAnswer, eventAnswer, answerOf}
 use Rattle.desk.specs.Steps.{valueBy, identifierOf, stepOf}
 use Rattle.desk.specs.declared.Answer.{Answer}
 use Rattle.desk.specs.declared.Answer.the-variants as answer
@@ -36,6 +37,7 @@ isEnding answer.Proceed = true
 isEnding answer.Diverted = true
 isEnding answer.Rejected = true
 isEnding answer.Cancelled = true
+isEnding (answer.Moved post) = false
 
 unless-not : (b : Bool) (c : ℕ) (a : Answer) → isEnding a ≡ false → isEnding (unless b c a) ≡ false
 unless-not true c a e = refl
@@ -59,12 +61,12 @@ module _ (d : Desk) where
   module _ (rows : List Record) (n room post : ℕ) where
     type-not : (v : Value) (a b c e : Bool) → waits d (identifierIn v) ≡ false
         → isEnding (cond a (activateAnswer d rows n room v) (cond b (interrogateAnswer d rows n post v)
-        (cond c (decideAnswer d room post (identifierIn v) answer.Proceed) (cond e (decideAnswer d room post (identifierIn v) answer.Diverted) (answer.Refused (refusal 8)))))) ≡ false
+        (cond c (decideAnswer d room post (identifierIn v) (acceptAnswer d (placeOf (placesOf d) (identifierIn v) .place))) (cond e (decideAnswer d room post (identifierIn v) answer.Diverted) (answer.Refused (refusal 8)))))) ≡ false
     unfolding activateAnswer interrogateAnswer decideAnswer
     type-not v true b c e w =
         unless-not (ltb room 300) 14 _ (unless-not (not (recordsOk rows n (postsOf d))) 15 _ (unless-not (namesDispatchers (d .profile .air) v) 21 answer.Acks refl))
     type-not v false true c e w = unless-not (not (recordsOk rows n (postsOf d))) 15 _ refl
-    type-not v false false true e w = unless-not (ltb room 300) 14 _ (end-not post (identifierIn v) answer.Proceed w)
+    type-not v false false true e w = unless-not (ltb room 300) 14 _ (end-not post (identifierIn v) _ w)
     type-not v false false false true w = unless-not (ltb room 300) 14 _ (end-not post (identifierIn v) answer.Diverted w)
     type-not v false false false false w = refl
 

@@ -21,7 +21,8 @@ use Rattle.message.proofs.OrderLaws.{reading-exact}
 use Rattle.profile.specs.declared.Air.{Air}
 use Rattle.profile.specs.declared.Profile.{Profile}
 use Rattle.reading.specs.Answers.{readingOf}
-use Rattle.places.specs.Held.{admitsOf}
+use Rattle.places.specs.Held.{placeIn, admitsOf}
+use Rattle.places.specs.Spots.{placeOf, clearOf}
 use Rattle.records.specs.Records.{recordsOk, restrictedOf}
 use Rattle.records.specs.declared.Identity.{Identity}
 use Rattle.records.specs.declared.Party.{Party}
@@ -29,9 +30,9 @@ use Rattle.records.specs.declared.Record.{Record}
 use Rattle.writing.proofs.RoundTrips.{read-valid}
 use Rattle.validity.specs.Validity.{validOf}
 use Rattle.desk.specs.Desks.{deskOk}
-use Rattle.desk.specs.Grounds.{notSent, waits, waitsHere, noPlaceFor, typeOrder, messageOrder, setUpOrder, rejectOrder, cancelOrder, orderOf}
+use Rattle.desk.specs.Grounds.{notSent, waits, waitsHere, noPlaceFor, noPlaceThere, typeOrder, messageOrder, setUpOrder, rejectOrder, cancelOrder, orderOf}
 use Rattle.desk.specs.Numbers.{numberOf}
-use Rattle.desk.specs.Orders.{unless, postsOf, placesOf, namesDispatchers, activateAnswer, interrogateAnswer, endAnswer, decideAnswer, sentAnswer, readAnswer, messageAnswer, identifierOk, setUpOk, admitAnswer, partyAnswer, setUpAnswer, rejectAnswer, cancelAnswer, answerOf}
+use Rattle.desk.specs.Orders.{unless, postsOf, placesOf, namesDispatchers, activateAnswer, interrogateAnswer, endAnswer, moveAnswer, acceptAnswer, decideAnswer, sentAnswer, readAnswer, messageAnswer, identifierOk, setUpOk, admitAnswer, partyAnswer, setUpAnswer, rejectAnswer, cancelAnswer, answerOf}
 use Rattle.desk.specs.declared.Answer.{Answer}
 use Rattle.desk.specs.declared.Answer.the-variants as answer
 use Rattle.desk.specs.declared.Desk.{Desk}
@@ -74,10 +75,26 @@ unfolding readingOf
 read-carried p l n v q e = valid-carried (p .air) v (read-valid p l n (readingOf (got v q)) (ap readingOf (sym e)) refl)
 
 module _ (d : Desk) (rows : List Record) (n : ℕ) where
-  end-first : (post identifier : ℕ) (a : Answer) → numberOf a ≡ 0
-      → numberOf (endAnswer d post identifier a) ≡ firstOf ((19, not (waits d identifier)) ∷ (20, not (waitsHere d post identifier)) ∷ [])
+  end-first : (post identifier : ℕ) (a : Answer) (rest : List Ground) → numberOf a ≡ firstOf rest
+      → numberOf (endAnswer d post identifier a) ≡ firstOf ((19, not (waits d identifier)) ∷ (20, not (waitsHere d post identifier)) ∷ rest)
   unfolding endAnswer
-  end-first post identifier a e = before (not (waits d identifier)) 19 _ _ (last (not (waitsHere d post identifier)) 20 a e)
+  end-first post identifier a rest e = before (not (waits d identifier)) 19 _ _ (before (not (waitsHere d post identifier)) 20 a rest e)
+
+  end-last : (post identifier : ℕ) (a : Answer) → numberOf a ≡ 0
+      → numberOf (endAnswer d post identifier a) ≡ firstOf ((19, not (waits d identifier)) ∷ (20, not (waitsHere d post identifier)) ∷ [])
+  unfolding firstOf
+  end-last post identifier a e = end-first post identifier a [] e
+
+  accept-first : (place : ℕ) → numberOf (acceptAnswer d place) ≡ firstOf (noPlaceThere d place)
+  unfolding acceptAnswer moveAnswer firstOf
+  accept-first place = go (placeIn (placesOf d) place .more)
+    where
+      rule : Bool
+      rule = admitsOf (d .profile .shares) (clearOf (placesOf d) place) (placeIn (placesOf d) place .second)
+
+      go : (b : Bool) → numberOf (cond b (moveAnswer d place (placeIn (placesOf d) place .second)) answer.Proceed) ≡ firstOf (cond b ((18, not rule) ∷ []) [])
+      go true = last (not rule) 18 _ refl
+      go false = refl
 
   admit-first : (p : Party) → numberOf (partyAnswer d p) ≡ firstOf (noPlaceFor d p)
   unfolding admitAnswer firstOf
@@ -102,7 +119,7 @@ module _ (d : Desk) (rows : List Record) (n : ℕ) where
   reject-first : (post identifier : ℕ) → numberOf (rejectAnswer d post identifier) ≡ firstOf (rejectOrder d post identifier)
   unfolding rejectAnswer rejectOrder
   reject-first post identifier =
-      before (not (ltb post (postsOf d))) 2 _ _ (before (not (identifierOk identifier)) 16 _ _ (end-first post identifier answer.Rejected refl))
+      before (not (ltb post (postsOf d))) 2 _ _ (before (not (identifierOk identifier)) 16 _ _ (end-last post identifier answer.Rejected refl))
 
   cancel-first : (identifier : ℕ) → numberOf (cancelAnswer d identifier) ≡ firstOf (cancelOrder d identifier)
   unfolding cancelAnswer cancelOrder
@@ -121,26 +138,31 @@ module _ (d : Desk) (rows : List Record) (n : ℕ) where
     unfolding interrogateAnswer
     interrogate-first = last (not (recordsOk rows n (postsOf d))) 15 _ refl
 
-    decide-first : (a : Answer) → numberOf a ≡ 0
+    decide-first : (a : Answer) (rest : List Ground) → numberOf a ≡ firstOf rest
         → numberOf (decideAnswer d room post (identifierIn v) a)
-        ≡ firstOf ((14, ltb room 300) ∷ (19, not (waits d (identifierIn v))) ∷ (20, not (waitsHere d post (identifierIn v))) ∷ [])
+        ≡ firstOf ((14, ltb room 300) ∷ (19, not (waits d (identifierIn v))) ∷ (20, not (waitsHere d post (identifierIn v))) ∷ rest)
     unfolding decideAnswer
-    decide-first a e = before (ltb room 300) 14 _ _ (end-first post (identifierIn v) a e)
+    decide-first a rest e = before (ltb room 300) 14 _ _ (end-first post (identifierIn v) a rest e)
+
+    -- where the call that it names waits
+    abbrev place : ℕ
+    place = placeOf (placesOf d) (identifierIn v) .place
 
     -- the types that are carried are the four that posts send and the four that they don't
     sent-first : isCarried (v .pdu) ≡ true → numberOf (sentAnswer d rows n room post v) ≡ firstOf (notSent v ∷ typeOrder d rows n room post v)
     unfolding sentAnswer refusal firstOf
     sent-first h =
-        carried-cases By (v .pdu) activate-first refl interrogate-first refl (decide-first answer.Proceed refl) refl (decide-first answer.Diverted refl) refl h
+        carried-cases By (v .pdu) activate-first refl interrogate-first refl (decide-first (acceptAnswer d place) (noPlaceThere d place) (accept-first place)) refl (decide-first answer.Diverted [] refl) refl h
       where
         By : ℕ → Type 0
         By t =
             numberOf (cond (eqb t 2) (activateAnswer d rows n room v) (cond (eqb t 8) (interrogateAnswer d rows n post v)
-            (cond (eqb t 12) (decideAnswer d room post (identifierIn v) answer.Proceed) (cond (eqb t 15) (decideAnswer d room post (identifierIn v) answer.Diverted) (answer.Refused (refusal 8))))))
+            (cond (eqb t 12) (decideAnswer d room post (identifierIn v) (acceptAnswer d place)) (cond (eqb t 15) (decideAnswer d room post (identifierIn v) answer.Diverted) (answer.Refused (refusal 8))))))
             ≡ firstOf ((8, eqb t 3 || (eqb t 10 || (eqb t 13 || eqb t 16)))
             ∷ cond (eqb t 2) ((14, ltb room 300) ∷ (15, not (recordsOk rows n (postsOf d))) ∷ (21, namesDispatchers (d .profile .air) v) ∷ [])
             (cond (eqb t 8) ((15, not (recordsOk rows n (postsOf d))) ∷ [])
-            (cond (eqb t 12 || eqb t 15) ((14, ltb room 300) ∷ (19, not (waits d (identifierIn v))) ∷ (20, not (waitsHere d post (identifierIn v))) ∷ []) [])))
+            (cond (eqb t 12) ((14, ltb room 300) ∷ (19, not (waits d (identifierIn v))) ∷ (20, not (waitsHere d post (identifierIn v))) ∷ noPlaceThere d place)
+            (cond (eqb t 15) ((14, ltb room 300) ∷ (19, not (waits d (identifierIn v))) ∷ (20, not (waitsHere d post (identifierIn v))) ∷ []) []))))
 
   after-reading : (room post : ℕ) (g : List Ground) (r : Read Value) → Told g r → ((v : Value) (p : ℕ) → r ≡ got v p → isCarried (v .pdu) ≡ true)
       → numberOf (readAnswer r (λ v. sentAnswer d rows n room post v)) ≡ firstOf (g ++ afterwards r (λ v p. notSent v ∷ typeOrder d rows n room post v))

@@ -4,43 +4,43 @@ use mathlib.Core.Path.{_≡_, refl, sym, ap, _∙_}
 use mathlib.Core.List.{List}
 use Rattle.codec.specs.declared.Stop.{Stop}
 use Rattle.sending.specs.Sending.{layFrom, layAll, laidFrom, laidOf}
-use Rattle.desk.specs.Steps.{plainStep, plainArea, deskAfter, keeps}
+use Rattle.desk.specs.Steps.{Spoken, plainStep, plainArea, deskAfter, keeps}
 use Rattle.desk.specs.declared.Answer.{Answer}
 use Rattle.desk.specs.declared.Answer.the-variants as answer
 use Rattle.desk.specs.declared.Desk.{Desk}
 use Rattle.desk.specs.declared.Stepped.{Stepped}
 
-module _ (d : Desk) (identifier : ℕ) where
-  pub refused-step : (s : Stop) → plainStep d identifier (answer.Refused s) ≡ keeps d (answer.Refused s)
+module _ (d : Desk) (spoken : Spoken) where
+  pub refused-step : (s : Stop) → plainStep d spoken (answer.Refused s) ≡ keeps d (answer.Refused s)
   unfolding plainStep keeps laidOf laidFrom deskAfter
   refused-step s = refl
 
-  pub state-step : (k : ℕ) → plainStep d identifier (answer.State k) ≡ keeps d (answer.State k)
+  pub state-step : (k : ℕ) → plainStep d spoken (answer.State k) ≡ keeps d (answer.State k)
   unfolding plainStep keeps laidOf laidFrom deskAfter
   state-step k = refl
 
-  pub free-step : plainStep d identifier answer.Free ≡ keeps d answer.Free
+  pub free-step : plainStep d spoken answer.Free ≡ keeps d answer.Free
   unfolding plainStep keeps laidOf laidFrom deskAfter
   free-step = refl
 
   -- a refusal, of whatever call
   pub refused-plain : (area : List ℕ) (a : Answer) (s t : Stop) (r : Stepped) → r ≡ keeps d (answer.Refused s) → s ≡ t → a ≡ answer.Refused t
-      → (r ≡ plainStep d identifier a) × (area ≡ plainArea d area a)
+      → (r ≡ plainStep d spoken a) × (area ≡ plainArea d area a)
   unfolding plainArea layAll layFrom
   refused-plain area a s t r e z q = (
-    e ∙ ap (λ (x : Stop). keeps d (answer.Refused x)) z ∙ sym (refused-step t) ∙ ap (λ (x : Answer). plainStep d identifier x) (sym q),
+    e ∙ ap (λ (x : Stop). keeps d (answer.Refused x)) z ∙ sym (refused-step t) ∙ ap (λ (x : Answer). plainStep d spoken x) (sym q),
     ap (λ (x : Answer). plainArea d area x) (sym q),
   )
 
-  pub free-plain : (area : List ℕ) (a : Answer) (r : Stepped) → r ≡ keeps d answer.Free → a ≡ answer.Free → (r ≡ plainStep d identifier a) × (area ≡ plainArea d area a)
+  pub free-plain : (area : List ℕ) (a : Answer) (r : Stepped) → r ≡ keeps d answer.Free → a ≡ answer.Free → (r ≡ plainStep d spoken a) × (area ≡ plainArea d area a)
   unfolding plainArea layAll layFrom
-  free-plain area a r e q = (e ∙ sym free-step ∙ ap (λ (x : Answer). plainStep d identifier x) (sym q), ap (λ (x : Answer). plainArea d area x) (sym q))
+  free-plain area a r e q = (e ∙ sym free-step ∙ ap (λ (x : Answer). plainStep d spoken x) (sym q), ap (λ (x : Answer). plainArea d area x) (sym q))
 
-  pub state-plain : (area : List ℕ) (a : Answer) (k : ℕ) → a ≡ answer.State k → (keeps d (answer.State k) ≡ plainStep d identifier a) × (area ≡ plainArea d area a)
+  pub state-plain : (area : List ℕ) (a : Answer) (k : ℕ) → a ≡ answer.State k → (keeps d (answer.State k) ≡ plainStep d spoken a) × (area ≡ plainArea d area a)
   unfolding plainArea layAll layFrom
-  state-plain area a k q = (sym (state-step k) ∙ ap (λ (x : Answer). plainStep d identifier x) (sym q), ap (λ (x : Answer). plainArea d area x) (sym q))
+  state-plain area a k q = (sym (state-step k) ∙ ap (λ (x : Answer). plainStep d spoken x) (sym q), ap (λ (x : Answer). plainArea d area x) (sym q))
 
   -- the same answer under another name
-  pub same-plain : (area m : List ℕ) (a b : Answer) (r : Stepped) → b ≡ a → (r ≡ plainStep d identifier a) × (m ≡ plainArea d area a)
-      → (r ≡ plainStep d identifier b) × (m ≡ plainArea d area b)
+  pub same-plain : (area m : List ℕ) (a b : Answer) (r : Stepped) → b ≡ a → (r ≡ plainStep d spoken a) × (m ≡ plainArea d area a)
+      → (r ≡ plainStep d spoken b) × (m ≡ plainArea d area b)
   same-plain area m a b r q z = rw q z

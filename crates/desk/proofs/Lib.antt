@@ -5,6 +5,7 @@ pub mod SetUpLaws
 pub mod ActivateLaws
 pub mod PostLaws
 pub mod AnswerLaws
+pub mod Moves
 pub mod Exactly
 pub mod Refusals
 pub mod SetUps

@@ -19,7 +19,7 @@ use Rattle.records.specs.declared.search.Found.{Found}
 use Rattle.records.specs.declared.search.Found.the-variants as found
 use Rattle.records.proofs.MarkLaws.{marks-at}
 use Rattle.desk.specs.Orders.{answerOf}
-use Rattle.desk.specs.Steps.{usersOf, identifierOf, plainStep, acksStep, isAcks, stepBy, postOf, stepOf}
+use Rattle.desk.specs.Steps.{usersOf, spokenOf, plainStep, acksStep, isAcks, stepBy, postOf, stepOf}
 use Rattle.desk.specs.declared.Answer.{Answer}
 use Rattle.desk.specs.declared.Desk.{Desk}
 use Rattle.desk.specs.declared.Event.{Event}
@@ -68,7 +68,7 @@ module _ (d : Desk) (rows : List Record) (n : ℕ) (l area : List ℕ) (e : Even
   marked-exactly i = go (isAcks (answerOf d rows n l (length area) e)) ∙ ap (λ (a : Answer). both (isAcks a) (both (ltb i 128) (wanted (take n rows) (postOf e) (identitiesOf (d .profile .air) (usersOf (d .profile) l e)) i))) (sym (step-answer d rows n l area e))
     where
       go : (b : Bool)
-          → getD (cond b (acksStep d (take n rows) (postOf e) (usersOf (d .profile) l e)) (plainStep d (identifierOf (d .profile) l e) (answerOf d rows n l (length area) e)) .marks .at) i false
+          → getD (cond b (acksStep d (take n rows) (postOf e) (usersOf (d .profile) l e)) (plainStep d (spokenOf (d .profile) (take n rows) l e) (answerOf d rows n l (length area) e)) .marks .at) i false
           ≡ both b (both (ltb i 128) (wanted (take n rows) (postOf e) (identitiesOf (d .profile .air) (usersOf (d .profile) l e)) i))
       go true = marks-there (take n rows) (postOf e) (identitiesOf (d .profile .air) (usersOf (d .profile) l e)) i
       go false = none-there i

@@ -17,7 +17,8 @@ answerFor x =
     (cond (eqb (x .plain) 4) (answer.Admitted (getD (x .values) 0 0) (getD (x .values) 1 0))
     (cond (eqb (x .plain) 5) answer.Proceed
     (cond (eqb (x .plain) 6) answer.Diverted
-    (cond (eqb (x .plain) 7) answer.Rejected answer.Cancelled)))))))
+    (cond (eqb (x .plain) 7) answer.Rejected
+    (cond (eqb (x .plain) 8) answer.Cancelled (answer.Moved (getD (x .values) 0 0))))))))))
 
 back : (a : Answer) → answerFor (paperOf a) ≡ a
 back (answer.Refused s) = refl
@@ -29,6 +30,7 @@ back answer.Proceed = refl
 back answer.Diverted = refl
 back answer.Rejected = refl
 back answer.Cancelled = refl
+back (answer.Moved post) = refl
 
 pub paper-one : (a b : Answer) → paperOf a ≡ paperOf b → a ≡ b
 paper-one a b e = sym (back a) ∙ ap (λ (x : Paper). answerFor x) e ∙ back b

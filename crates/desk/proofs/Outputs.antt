@@ -23,8 +23,8 @@ use Rattle.message.specs.declared.Value.{Value}
 use Rattle.reading.specs.Answers.{readingOf}
 use Rattle.validity.specs.Validity.{validOf}
 use Rattle.writing.proofs.RoundTrips.{read-valid}
-use Rattle.places.specs.Held.{admitsOf}
-use Rattle.places.specs.Spots.{lowestFree}
+use Rattle.places.specs.Held.{placeIn, admitsOf}
+use Rattle.places.specs.Spots.{placeOf, lowestFree, clearOf}
 use Rattle.records.specs.Records.{recordsOk, restrictedOf}
 use Rattle.records.specs.declared.Identity.{Identity}
 use Rattle.records.specs.declared.Party.{Party}
@@ -35,8 +35,8 @@ use Rattle.sending.proofs.SentLaws.{AllSend}
 use Rattle.sending.proofs.AckLaws.{acks-send, acks-few, intercepted-sends, accepted-sends, diverted-sends}
 use Rattle.desk.specs.Desks.{deskOk}
 use Rattle.desk.specs.Grounds.{waits, waitsHere}
-use Rattle.desk.specs.Orders.{unless, postsOf, placesOf, namesDispatchers, activateAnswer, interrogateAnswer, endAnswer, decideAnswer, sentAnswer, readAnswer, messageAnswer, identifierOk, setUpOk, admitAnswer, partyAnswer, setUpAnswer, rejectAnswer, cancelAnswer, eventAnswer, answerOf}
-use Rattle.desk.specs.Steps.{valueBy, usersOf, identifierOf, messagesBy, plainStep, plainArea, acksFor, acksStep, acksArea, isAcks, stepBy, areaBy, postOf, stepOf, areaAfter}
+use Rattle.desk.specs.Orders.{unless, postsOf, placesOf, namesDispatchers, activateAnswer, interrogateAnswer, endAnswer, moveAnswer, acceptAnswer, decideAnswer, sentAnswer, readAnswer, messageAnswer, identifierOk, setUpOk, admitAnswer, partyAnswer, setUpAnswer, rejectAnswer, cancelAnswer, eventAnswer, answerOf}
+use Rattle.desk.specs.Steps.{valueBy, usersOf, spokenOf, messagesBy, plainStep, plainArea, acksFor, acksStep, acksArea, isAcks, stepBy, areaBy, postOf, stepOf, areaAfter}
 use Rattle.desk.specs.Outputs.{messagesFor, sentBy, Unfilled, ReadBack}
 use Rattle.desk.specs.declared.Answer.{Answer}
 use Rattle.desk.specs.declared.Answer.the-variants as answer
@@ -56,7 +56,7 @@ module _ (d : Desk) (rows : List Record) (n : ℕ) (l area : List ℕ) (e : Even
       a : Answer
       a = answerOf d rows n l (length area) e
 
-      go : (b : Bool) → cond b (acksStep d (take n rows) (postOf e) (usersOf (d .profile) l e)) (plainStep d (identifierOf (d .profile) l e) a) .laid ≡ laidOf (d .profile .air) (cond b (acksFor d (take n rows) (postOf e) (usersOf (d .profile) l e)) (messagesBy a))
+      go : (b : Bool) → cond b (acksStep d (take n rows) (postOf e) (usersOf (d .profile) l e)) (plainStep d (spokenOf (d .profile) (take n rows) l e) a) .laid ≡ laidOf (d .profile .air) (cond b (acksFor d (take n rows) (postOf e) (usersOf (d .profile) l e)) (messagesBy a))
       go true = refl
       go false = refl
 
@@ -107,6 +107,15 @@ module _ (d : Desk) (rows : List Record) (post : ℕ) (users : Group) (room : �
 
     proceed-fits : 300 ≤ room → Fit answer.Proceed
     proceed-fits h = record { few = omega arith; sends = (accepted-sends (d .profile) passes, tt); room-for = λ z. h }
+
+    accept-fits : 300 ≤ room → (place : ℕ) → Fit (acceptAnswer d place)
+    unfolding acceptAnswer moveAnswer
+    accept-fits h place = go (placeIn (placesOf d) place .more)
+      where
+        go : (b : Bool) → Fit (cond b (moveAnswer d place (placeIn (placesOf d) place .second)) answer.Proceed)
+        go true =
+            plain-fits (not (admitsOf (d .profile .shares) (clearOf (placesOf d) place) (placeIn (placesOf d) place .second))) 18 (answer.Moved (placeIn (placesOf d) place .second)) (nothing-fits (d .profile) room)
+        go false = proceed-fits h
 
     diverted-fits : 300 ≤ room → Fit answer.Diverted
     diverted-fits h = record { few = omega arith; sends = (diverted-sends (d .profile) passes, tt); room-for = λ z. h }
@@ -161,10 +170,10 @@ module _ (d : Desk) (rows : List Record) (n : ℕ) (room post : ℕ) (passes : p
     where
       go : (a : Bool) → eqb (v .pdu) 2 ≡ a → (b c e : Bool)
           → Fit d (take n rows) post (v .users) room (cond a (activateAnswer d rows n room v) (cond b (interrogateAnswer d rows n post v)
-          (cond c (decideAnswer d room post (identifierIn v) answer.Proceed) (cond e (decideAnswer d room post (identifierIn v) answer.Diverted) (answer.Refused (refusal 8))))))
+          (cond c (decideAnswer d room post (identifierIn v) (acceptAnswer d (placeOf (placesOf d) (identifierIn v) .place))) (cond e (decideAnswer d room post (identifierIn v) answer.Diverted) (answer.Refused (refusal 8))))))
       go true z b c e = activate-fits d (take n rows) post (v .users) room passes rows n v (activate-users (d .profile .air) v ok (eqb-true _ _ z))
       go false z true c e = plain-fits d (take n rows) post (v .users) room (not (recordsOk rows n (postsOf d))) 15 _ (nothing-fits (d .profile) room)
-      go false z false true e = decide-fits d (take n rows) post (v .users) room passes post (identifierIn v) answer.Proceed (proceed-fits d (take n rows) post (v .users) room passes)
+      go false z false true e = decide-fits d (take n rows) post (v .users) room passes post (identifierIn v) _ (λ h. accept-fits d (take n rows) post (v .users) room passes h (placeOf (placesOf d) (identifierIn v) .place))
       go false z false false true = decide-fits d (take n rows) post (v .users) room passes post (identifierIn v) answer.Diverted (diverted-fits d (take n rows) post (v .users) room passes)
       go false z false false false = nothing-fits (d .profile) room
 

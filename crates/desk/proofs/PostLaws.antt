@@ -28,29 +28,29 @@ use Rattle.places.specs.Held.{placeIn, admitsOf}
 use Rattle.places.specs.Spots.{placeOf}
 use Rattle.desk.specs.Desks.{deskOk}
 use Rattle.desk.specs.Orders.{postsOf, placesOf, unless, interrogateAnswer, endAnswer, decideAnswer, sentAnswer, readAnswer, messageAnswer, identifierOk, setUpOk, admitAnswer, partyAnswer, setUpAnswer, rejectAnswer, cancelAnswer}
-use Rattle.desk.specs.Steps.{valueBy, isAcks, plainStep, plainArea, acksStep, acksArea, stepBy, areaBy, keeps}
+use Rattle.desk.specs.Steps.{Spoken, named, valueBy, isAcks, plainStep, plainArea, acksStep, acksArea, stepBy, areaBy, keeps}
 use Rattle.desk.specs.declared.Answer.{Answer}
 use Rattle.desk.specs.declared.Answer.the-variants as answer
 use Rattle.desk.specs.declared.Desk.{Desk}
 use Rattle.desk.specs.declared.Stepped.{Stepped}
 use Rattle.desk.proofs.KeepLaws.{refused-plain, state-plain}
 
-module _ (d : Desk) (rows : List Record) (post : ℕ) (users : Group) (identifier : ℕ) (area m : List ℕ) (a : Answer) (r : Stepped) where
-  pub plain-by : isAcks a ≡ false → (r ≡ plainStep d identifier a) × (m ≡ plainArea d area a) → (r ≡ stepBy d rows post users identifier a) × (m ≡ areaBy d rows post users area a)
+module _ (d : Desk) (rows : List Record) (post : ℕ) (users : Group) (spoken : Spoken) (area m : List ℕ) (a : Answer) (r : Stepped) where
+  pub plain-by : isAcks a ≡ false → (r ≡ plainStep d spoken a) × (m ≡ plainArea d area a) → (r ≡ stepBy d rows post users spoken a) × (m ≡ areaBy d rows post users area a)
   unfolding stepBy areaBy
   plain-by e z = rw e z
 
   pub acks-by : a ≡ answer.Acks → (r ≡ acksStep d rows post users) × (m ≡ acksArea d rows post users area)
-      → (r ≡ stepBy d rows post users identifier a) × (m ≡ areaBy d rows post users area a)
+      → (r ≡ stepBy d rows post users spoken a) × (m ≡ areaBy d rows post users area a)
   unfolding stepBy areaBy
   acks-by e z = rw e z
 
 -- a refusal, of whatever call
-pub refused-by : (d : Desk) (rows : List Record) (post : ℕ) (users : Group) (identifier : ℕ) (area : List ℕ) (a : Answer) (s t : Stop) (r : Stepped)
+pub refused-by : (d : Desk) (rows : List Record) (post : ℕ) (users : Group) (spoken : Spoken) (area : List ℕ) (a : Answer) (s t : Stop) (r : Stepped)
     → r ≡ keeps d (answer.Refused s) → s ≡ t → a ≡ answer.Refused t
-    → (r ≡ stepBy d rows post users identifier a) × (area ≡ areaBy d rows post users area a)
-refused-by d rows post users identifier area a s t r e z q =
-    plain-by d rows post users identifier area area a r (ap isAcks q) (refused-plain d identifier area a s t r e z q)
+    → (r ≡ stepBy d rows post users spoken a) × (area ≡ areaBy d rows post users area a)
+refused-by d rows post users spoken area a s t r e z q =
+    plain-by d rows post users spoken area area a r (ap isAcks q) (refused-plain d spoken area a s t r e z q)
 
 -- ---- answers that are no ACKs
 
@@ -77,9 +77,9 @@ module _ (d : Desk) (rows : List Record) (n post : ℕ) (v : Value) where
   unfolding interrogateAnswer
   interrogate-state k e z = rw (e, z) refl
 
-  pub interrogated : (identifier k : ℕ) → recordsOk rows n (postsOf d) ≡ true → k ≡ stateOf (take n rows) post (identityOf (d .profile .air) (firstOf (v .users)))
-      → keeps d (answer.State k) ≡ plainStep d identifier (interrogateAnswer d rows n post v)
-  interrogated identifier k e z = state-plain d identifier [] (interrogateAnswer d rows n post v) k (interrogate-state k e z) .0
+  pub interrogated : (spoken : Spoken) (k : ℕ) → recordsOk rows n (postsOf d) ≡ true → k ≡ stateOf (take n rows) post (identityOf (d .profile .air) (firstOf (v .users)))
+      → keeps d (answer.State k) ≡ plainStep d spoken (interrogateAnswer d rows n post v)
+  interrogated spoken k e z = state-plain d spoken [] (interrogateAnswer d rows n post v) k (interrogate-state k e z) .0
 
   pub interrogate-plain : isAcks (interrogateAnswer d rows n post v) ≡ false
   unfolding interrogateAnswer
@@ -112,17 +112,17 @@ module _ (d : Desk) (rows : List Record) (n : ℕ) (l : List ℕ) (room post bit
 
     -- what was read is answered by its type
     pub message-sent : r .found ≡ true → (area m : List ℕ) (s : Stepped)
-        → (s ≡ stepBy d (take n rows) post (r .value .users) (identifierIn (r .value)) (sentAnswer d rows n room post (r .value)))
+        → (s ≡ stepBy d (take n rows) post (r .value .users) (named (identifierIn (r .value))) (sentAnswer d rows n room post (r .value)))
         × (m ≡ areaBy d (take n rows) post (r .value .users) area (sentAnswer d rows n room post (r .value)))
-        → (s ≡ stepBy d (take n rows) post (valueBy (readOf (d .profile) l bits) .users) (identifierIn (valueBy (readOf (d .profile) l bits))) (messageAnswer d rows n l room post bits))
+        → (s ≡ stepBy d (take n rows) post (valueBy (readOf (d .profile) l bits) .users) (named (identifierIn (valueBy (readOf (d .profile) l bits)))) (messageAnswer d rows n l room post bits))
         × (m ≡ areaBy d (take n rows) post (valueBy (readOf (d .profile) l bits) .users) area (messageAnswer d rows n l room post bits))
     unfolding messageAnswer readingOf
     message-sent f area m s = rw (lt-ltb post (postsOf d) h) (go (readOf (d .profile) l bits) z)
       where
         go : (x : Read Value) → r ≡ readingOf x
-            → (s ≡ stepBy d (take n rows) post (r .value .users) (identifierIn (r .value)) (sentAnswer d rows n room post (r .value)))
+            → (s ≡ stepBy d (take n rows) post (r .value .users) (named (identifierIn (r .value))) (sentAnswer d rows n room post (r .value)))
             × (m ≡ areaBy d (take n rows) post (r .value .users) area (sentAnswer d rows n room post (r .value)))
-            → (s ≡ stepBy d (take n rows) post (valueBy x .users) (identifierIn (valueBy x)) (readAnswer x (λ v. sentAnswer d rows n room post v)))
+            → (s ≡ stepBy d (take n rows) post (valueBy x .users) (named (identifierIn (valueBy x))) (readAnswer x (λ v. sentAnswer d rows n room post v)))
             × (m ≡ areaBy d (take n rows) post (valueBy x .users) area (readAnswer x (λ v. sentAnswer d rows n room post v)))
         go (got v q) e p = rw (ap (λ (y : Reading). y .value) e) at p
         go (no t) e p = not-both (sym (ap (λ (y : Reading). y .found) e) ∙ f)

@@ -13,7 +13,7 @@ use Rattle.sending.specs.Sending.{noLaid}
 use Rattle.desk.specs.Grounds.{orderOf}
 use Rattle.desk.specs.Numbers.{numberOf}
 use Rattle.desk.specs.Orders.{answerOf}
-use Rattle.desk.specs.Steps.{keeps, postOf, usersOf, identifierOf, stepOf, areaAfter}
+use Rattle.desk.specs.Steps.{keeps, postOf, usersOf, spokenOf, stepOf, areaAfter}
 use Rattle.desk.specs.declared.Answer.{Answer}
 use Rattle.desk.specs.declared.Answer.the-variants as answer
 use Rattle.desk.specs.declared.Desk.{Desk}
@@ -42,6 +42,7 @@ known answer.Proceed = true
 known answer.Diverted = true
 known answer.Rejected = true
 known answer.Cancelled = true
+known (answer.Moved post) = true
 
 one-known : known (answer.Refused (refusal 1)) ≡ true
 unfolding refusal published
@@ -53,7 +54,7 @@ module _ (d : Desk) (rows : List Record) (n : ℕ) (l area : List ℕ) (e : Even
   unfolding stepOf areaAfter keeps
   refused-keeps s h =
       let z : answerOf d rows n l (length area) e ≡ answer.Refused s = sym (step-answer d rows n l area e) ∙ h in
-      let k = refused-by d (take n rows) (postOf e) (usersOf (d .profile) l e) (identifierOf (d .profile) l e) area (answerOf d rows n l (length area) e) s s (keeps d (answer.Refused s)) refl refl z in
+      let k = refused-by d (take n rows) (postOf e) (usersOf (d .profile) l e) (spokenOf (d .profile) (take n rows) l e) area (answerOf d rows n l (length area) e) s s (keeps d (answer.Refused s)) refl refl z in
       record {
         desk = ap (λ (x : Stepped). x .desk) (sym (k .0));
         marks = ap (λ (x : Stepped). x .marks) (sym (k .0));
@@ -65,7 +66,7 @@ module _ (d : Desk) (rows : List Record) (n : ℕ) (l area : List ℕ) (e : Even
   refused-known s h = ap known (sym (sym (step-answer d rows n l area e) ∙ h)) ∙ answer-ok known (λ t p. past-published (t .number) p) d rows n l (length area) one-known e (can e)
     where
       can : (x : Event) → Can known x
-      can (event.Message post bits) = (refl, ((λ k. refl), (refl, refl)))
+      can (event.Message post bits) = (refl, ((λ k. refl), (refl, (refl, λ k. refl))))
       can (event.SetUp caller called identifier) = (refl, λ post place. refl)
       can (event.Reject post identifier) = refl
       can (event.Cancel identifier) = refl
@@ -141,7 +142,7 @@ module _ (d : Desk) (rows : List Record) (n : ℕ) (l area : List ℕ) (e : Even
   pub exact-17 : Exact 17
   exact-17 = exact 17 (omega arith)
 
-  -- set-up
+  -- set-up, ACCEPT for a move
   pub exact-18 : Exact 18
   exact-18 = exact 18 (omega arith)
 

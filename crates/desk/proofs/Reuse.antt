@@ -7,7 +7,7 @@ use mathlib.Core.Logic.{⊎-elim}
 use native.Mathlib.Nat.{eq-or-lt-of-le}
 use native.Mathlib.Omega.{arith}
 use lib.Dec.{eqb, ltb}
-use lib.ListN.{length}
+use lib.ListN.{length, take}
 use borrow.Author.Tests.{eq-eqb, ne-eqb}
 use Rattle.bits.proofs.SetLaws.{eq-or, lt-or}
 use Rattle.codec.specs.Stops.{refusal}
@@ -27,7 +27,7 @@ use Rattle.desk.specs.Desks.{deskOk}
 use Rattle.desk.specs.Grounds.{waits, partyFor}
 use Rattle.desk.specs.Numbers.{numberOf}
 use Rattle.desk.specs.Orders.{unless, postsOf, placesOf, setUpOk, admitAnswer, setUpAnswer, answerOf}
-use Rattle.desk.specs.Steps.{ends, effectBy, effectOf, identifierOf, deskAfter, stepOf}
+use Rattle.desk.specs.Steps.{Spoken, spokenOf, ends, effectBy, effectOf, identifierOf, deskAfter, stepOf}
 use Rattle.desk.specs.declared.Answer.{Answer}
 use Rattle.desk.specs.declared.Answer.the-variants as answer
 use Rattle.desk.specs.declared.Desk.{Desk}
@@ -82,16 +82,17 @@ cleared-gone shares l ok identifier i at = go (placeOf (clearOf l i) identifier 
 
 -- ---- after a call that ended one
 
-ending-ends : (identifier : ℕ) (a : Answer) → isEnding a ≡ true → effectBy identifier a ≡ ends identifier
-ending-ends identifier (answer.Refused s) e = not-both e
-ending-ends identifier answer.Acks e = not-both e
-ending-ends identifier (answer.State k) e = not-both e
-ending-ends identifier answer.Free e = not-both e
-ending-ends identifier (answer.Admitted post place) e = not-both e
-ending-ends identifier answer.Proceed e = refl
-ending-ends identifier answer.Diverted e = refl
-ending-ends identifier answer.Rejected e = refl
-ending-ends identifier answer.Cancelled e = refl
+ending-ends : (spoken : Spoken) (a : Answer) → isEnding a ≡ true → effectBy spoken a ≡ ends (spoken .identifier)
+ending-ends spoken (answer.Refused s) e = not-both e
+ending-ends spoken answer.Acks e = not-both e
+ending-ends spoken (answer.State k) e = not-both e
+ending-ends spoken answer.Free e = not-both e
+ending-ends spoken (answer.Admitted post place) e = not-both e
+ending-ends spoken answer.Proceed e = refl
+ending-ends spoken answer.Diverted e = refl
+ending-ends spoken answer.Rejected e = refl
+ending-ends spoken answer.Cancelled e = refl
+ending-ends spoken (answer.Moved post) e = not-both e
 
 -- the call with the identifier is gone: its place is free, the lowest free one if every lower one is used, and the identifier is not waiting
 pub record Freed (d after : Desk) (identifier place : ℕ) : Type 0 where
@@ -123,7 +124,7 @@ module _ (d : Desk) (rows : List Record) (n : ℕ) (l area : List ℕ) (e : Even
 
   after-is : placesOf after ≡ clearOf (placesOf d) place
   unfolding effectOf deskAfter
-  after-is = ap (λ (x : Desk). placesOf x) (step-desk d rows n l area e) ∙ rw (ending-ends identifier (stepOf d rows n l area e .answer) ended) refl
+  after-is = ap (λ (x : Desk). placesOf x) (step-desk d rows n l area e) ∙ rw (ending-ends (spokenOf (d .profile) (take n rows) l e) (stepOf d rows n l area e .answer) ended) refl
 
   pub freed : Freed d after identifier place
   unfolding deskOk

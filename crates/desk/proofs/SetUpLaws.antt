@@ -21,7 +21,7 @@ use Rattle.records.specs.declared.Record.{Record}
 use Rattle.sending.specs.Sending.{layAll, laidOf}
 use Rattle.sending.specs.declared.Laid.{Laid}
 use Rattle.desk.specs.Orders.{postsOf, placesOf, setUpOk, admitAnswer, partyAnswer, setUpAnswer}
-use Rattle.desk.specs.Steps.{deskAfter, plainStep, plainArea}
+use Rattle.desk.specs.Steps.{Spoken, callFor, deskAfter, plainStep, plainArea}
 use Rattle.desk.specs.declared.Answer.the-variants as answer
 use Rattle.desk.specs.declared.Desk.{Desk}
 
@@ -59,17 +59,17 @@ party-admit d p e = rw e refl
 
 -- ---- the places rule
 
-module _ (d : Desk) (post identifier : ℕ) where
-  pub admit-18 : admitsOf (d .profile .shares) (placesOf d) post ≡ false → admitAnswer d post ≡ answer.Refused (refusal 18)
-  unfolding admitAnswer
-  admit-18 e = rw e refl
+pub admit-18 : (d : Desk) (post : ℕ) → admitsOf (d .profile .shares) (placesOf d) post ≡ false → admitAnswer d post ≡ answer.Refused (refusal 18)
+unfolding admitAnswer
+admit-18 d post e = rw e refl
 
+module _ (d : Desk) (post : ℕ) (spoken : Spoken) where
   pub admitted-is : (at : Spot) (x : Laid) (l m : List ℕ) (next : Places) (marks : Marks) → admitsOf (d .profile .shares) (placesOf d) post ≡ true
       → at ≡ lowestFree (placesOf d)
       → (x ≡ laidOf (d .profile .air) (blank 10 ∷ [])) × (m ≡ layAll (d .profile .air) l (blank 10 ∷ []))
-      → next ≡ record { place = takeOf (placesOf d) (at .place) (record { identifier = identifier; post = post }) } → marks ≡ noMarks
+      → next ≡ record { place = takeOf (placesOf d) (at .place) (callFor spoken post) } → marks ≡ noMarks
       → (record { answer = answer.Admitted post (at .place); laid = x; desk = record { profile = d .profile; places = next }; marks = marks }
-      ≡ plainStep d identifier (admitAnswer d post))
+      ≡ plainStep d spoken (admitAnswer d post))
       × (m ≡ plainArea d l (admitAnswer d post))
   unfolding admitAnswer plainStep plainArea deskAfter
   admitted-is at x l m next marks e z s q r = rw (e, sym z) (rw (s .0, q, r) refl, s .1)

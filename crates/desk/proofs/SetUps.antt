@@ -16,11 +16,11 @@ use Rattle.records.specs.Records.{recordsOk, isRestricted, noParty, postFor}
 use Rattle.records.specs.declared.Identity.{Identity}
 use Rattle.records.specs.declared.Party.{Party}
 use Rattle.records.specs.declared.Record.{Record}
-use Rattle.records.proofs.PartyLaws.{restricted-is, party-below}
+use Rattle.records.proofs.PartyLaws.{restricted-is, party-below, second-other, second-below}
 use Rattle.desk.specs.Desks.{deskOk}
 use Rattle.desk.specs.Grounds.{waits, partyFor, setUpGrounds, isNew, isFreeCall}
 use Rattle.desk.specs.Orders.{unless, postsOf, placesOf, setUpOk, admitAnswer, partyAnswer, setUpAnswer, answerOf}
-use Rattle.desk.specs.Steps.{effectBy, effectOf, deskAfter, identifierOf, plainStep, acksStep, stepBy, stepOf}
+use Rattle.desk.specs.Steps.{Spoken, spokenOf, callFor, effectBy, effectOf, deskAfter, plainStep, acksStep, stepBy, stepOf}
 use Rattle.desk.specs.declared.Answer.{Answer}
 use Rattle.desk.specs.declared.Answer.the-variants as answer
 use Rattle.desk.specs.declared.Desk.{Desk}
@@ -31,29 +31,30 @@ use Rattle.desk.proofs.SetUpLaws.{setup-identifier}
 
 -- ---- the desk after any call: what the answer says of the waiting calls, and nothing else
 
-by-desk : (d : Desk) (rows : List Record) (post : ℕ) (users : Group) (identifier : ℕ) (a : Answer)
-    → stepBy d rows post users identifier a .desk ≡ deskAfter d (effectBy identifier a)
+by-desk : (d : Desk) (rows : List Record) (post : ℕ) (users : Group) (spoken : Spoken) (a : Answer)
+    → stepBy d rows post users spoken a .desk ≡ deskAfter d (effectBy spoken a)
 unfolding stepBy plainStep acksStep deskAfter
-by-desk d rows post users identifier (answer.Refused s) = refl
-by-desk d rows post users identifier answer.Acks = refl
-by-desk d rows post users identifier (answer.State k) = refl
-by-desk d rows post users identifier answer.Free = refl
-by-desk d rows post users identifier (answer.Admitted p i) = refl
-by-desk d rows post users identifier answer.Proceed = refl
-by-desk d rows post users identifier answer.Diverted = refl
-by-desk d rows post users identifier answer.Rejected = refl
-by-desk d rows post users identifier answer.Cancelled = refl
+by-desk d rows post users spoken (answer.Refused s) = refl
+by-desk d rows post users spoken answer.Acks = refl
+by-desk d rows post users spoken (answer.State k) = refl
+by-desk d rows post users spoken answer.Free = refl
+by-desk d rows post users spoken (answer.Admitted p i) = refl
+by-desk d rows post users spoken answer.Proceed = refl
+by-desk d rows post users spoken answer.Diverted = refl
+by-desk d rows post users spoken answer.Rejected = refl
+by-desk d rows post users spoken answer.Cancelled = refl
+by-desk d rows post users spoken (answer.Moved p) = refl
 
 order-desk : (d : Desk) (rows : List Record) (n : ℕ) (l area : List ℕ) (e : Event)
-    → stepOf d rows n l area e .desk ≡ deskAfter d (effectBy (identifierOf (d .profile) l e) (answerOf d rows n l (length area) e))
+    → stepOf d rows n l area e .desk ≡ deskAfter d (effectBy (spokenOf (d .profile) (take n rows) l e) (answerOf d rows n l (length area) e))
 unfolding stepOf
 order-desk d rows n l area e = by-desk d (take n rows) _ _ _ (answerOf d rows n l (length area) e)
 
 pub step-desk : (d : Desk) (rows : List Record) (n : ℕ) (l area : List ℕ) (e : Event)
-    → stepOf d rows n l area e .desk ≡ deskAfter d (effectOf (d .profile) l e (stepOf d rows n l area e .answer))
+    → stepOf d rows n l area e .desk ≡ deskAfter d (effectOf (d .profile) (take n rows) l e (stepOf d rows n l area e .answer))
 unfolding effectOf
 step-desk d rows n l area e =
-    order-desk d rows n l area e ∙ ap (λ (a : Answer). deskAfter d (effectBy (identifierOf (d .profile) l e) a)) (sym (step-answer d rows n l area e))
+    order-desk d rows n l area e ∙ ap (λ (a : Answer). deskAfter d (effectBy (spokenOf (d .profile) (take n rows) l e) a)) (sym (step-answer d rows n l area e))
 
 -- ---- a row of grounds
 
@@ -77,6 +78,7 @@ isRefused answer.Proceed = false
 isRefused answer.Diverted = false
 isRefused answer.Rejected = false
 isRefused answer.Cancelled = false
+isRefused (answer.Moved post) = false
 
 some-holds : (gs : List Ground) (a : Answer) → noneOf gs ≡ false → isRefused (unlessAny gs a) ≡ true
 unfolding both noneOf unlessAny
@@ -94,6 +96,7 @@ isFree answer.Proceed = false
 isFree answer.Diverted = false
 isFree answer.Rejected = false
 isFree answer.Cancelled = false
+isFree (answer.Moved post) = false
 
 refused-not-free : (a : Answer) → isRefused a ≡ true → isFree a ≡ false
 refused-not-free (answer.Refused s) e = refl
@@ -105,6 +108,7 @@ refused-not-free answer.Proceed e = refl
 refused-not-free answer.Diverted e = refl
 refused-not-free answer.Rejected e = refl
 refused-not-free answer.Cancelled e = refl
+refused-not-free (answer.Moved post) e = refl
 
 pub not-true : (b : Bool) → not b ≡ true → b ≡ false
 not-true true e = not-both e
@@ -130,6 +134,7 @@ isAdmitted answer.Proceed = false
 isAdmitted answer.Diverted = false
 isAdmitted answer.Rejected = false
 isAdmitted answer.Cancelled = false
+isAdmitted (answer.Moved post) = false
 
 abbrev never : Answer → Bool
 never a = not (isAdmitted a)
@@ -145,6 +150,7 @@ admission answer.Proceed = (0, 0)
 admission answer.Diverted = (0, 0)
 admission answer.Rejected = (0, 0)
 admission answer.Cancelled = (0, 0)
+admission (answer.Moved post) = (0, 0)
 
 not-not : (b : Bool) → not (not b) ≡ true → b ≡ true
 not-not true e = refl
@@ -269,43 +275,48 @@ module _ (d : Desk) (rows : List Record) (n : ℕ) (l area : List ℕ) (e : Even
       never a = not (isFree a)
 
       go : (x : Event) → isFree (answerOf d rows n l (length area) x) ≡ isFreeCall d rows n (length area) x
-      go (event.Message post bits) = not-true _ (answer-ok never (λ s p. refl) d rows n l (length area) refl (event.Message post bits) (refl, ((λ k. refl), (refl, refl))))
+      go (event.Message post bits) = not-true _ (answer-ok never (λ s p. refl) d rows n l (length area) refl (event.Message post bits) (refl, ((λ k. refl), (refl, (refl, λ k. refl)))))
       go (event.SetUp caller called identifier) = setup-free d rows n l (length area) caller called identifier
       go (event.Reject post identifier) = not-true _ (answer-ok never (λ s p. refl) d rows n l (length area) refl (event.Reject post identifier) refl)
       go (event.Cancel identifier) = not-true _ (answer-ok never (λ s p. refl) d rows n l (length area) refl (event.Cancel identifier) refl)
 
--- an admission, of whatever call: a new identifier of 14 bits, for a post that the places rule admits, at the lowest free place
-pub record AdmittedCall (d : Desk) (identifier post place : ℕ) : Type 0 where
-  pub small : identifier < 2 ^ 14
-  pub new : waits d identifier ≡ false
+-- an admission, of whatever call: a new identifier of 14 bits, for a post that the places rule admits, at the lowest free place; a post
+-- that is asked second is another one
+pub record AdmittedCall (d : Desk) (spoken : Spoken) (post place : ℕ) : Type 0 where
+  pub small : spoken .identifier < 2 ^ 14
+  pub new : waits d (spoken .identifier) ≡ false
   pub below : post < postsOf d
+  pub second : spoken .second .found ≡ true → spoken .second .post < postsOf d
+  pub other : spoken .second .found ≡ true → post ≡ spoken .second .post → ⊥
   pub admits : admitsOf (d .profile .shares) (placesOf d) post ≡ true
   pub spot : lowestFree (placesOf d) ≡ spotAt place
 
--- what it takes: the lowest free place, with the identifier and the post
-pub record Taken (d : Desk) (identifier post place : ℕ) (after : Desk) : Type 0 where
+-- what it takes: the lowest free place, with the identifier, the post and the post that is asked second
+pub record Taken (d : Desk) (spoken : Spoken) (post place : ℕ) (after : Desk) : Type 0 where
   pub first : FreeFirst (placesOf d) place
-  pub desk : after ≡ record { profile = d .profile; places = record { place = takeOf (placesOf d) place (record { identifier = identifier; post = post }) } }
+  pub desk : after ≡ record { profile = d .profile; places = record { place = takeOf (placesOf d) place (callFor spoken post) } }
 
 module _ (d : Desk) (rows : List Record) (n : ℕ) (l area : List ℕ) (post place : ℕ) where
   not-admitted : {A : Type 0} (e : Event) → never (answerOf d rows n l (length area) e) ≡ true → stepOf d rows n l area e .answer ≡ answer.Admitted post place → A
   not-admitted e h z = not-both (ap never (sym (sym (step-answer d rows n l area e) ∙ z)) ∙ h)
 
-  pub admitted-so : (e : Event) → stepOf d rows n l area e .answer ≡ answer.Admitted post place → AdmittedCall d (identifierOf (d .profile) l e) post place
+  pub admitted-so : (e : Event) → stepOf d rows n l area e .answer ≡ answer.Admitted post place → AdmittedCall d (spokenOf (d .profile) (take n rows) l e) post place
   admitted-so (event.SetUp caller called identifier) z =
       let a = setup-admitted d rows n l (length area) caller called identifier post place (sym (step-answer d rows n l area (event.SetUp caller called identifier)) ∙ z) in
       record {
         small = setup-identifier caller called identifier (a .new .call);
         new = a .new .waiting;
         below = a .below;
+        second = λ z. second-below rows n (postsOf d) caller called (a .new .records) z;
+        other = λ z e. second-other (take n rows) caller called z (ap (λ (p : Party). p .post) (a .restricted) ∙ e);
         admits = a .admits;
         spot = a .spot;
       }
-  admitted-so (event.Message p bits) z = not-admitted (event.Message p bits) (answer-ok never (λ s p. refl) d rows n l (length area) refl (event.Message p bits) (refl, ((λ k. refl), (refl, refl)))) z
+  admitted-so (event.Message p bits) z = not-admitted (event.Message p bits) (answer-ok never (λ s p. refl) d rows n l (length area) refl (event.Message p bits) (refl, ((λ k. refl), (refl, (refl, λ k. refl))))) z
   admitted-so (event.Reject p identifier) z = not-admitted (event.Reject p identifier) (answer-ok never (λ s p. refl) d rows n l (length area) refl (event.Reject p identifier) refl) z
   admitted-so (event.Cancel identifier) z = not-admitted (event.Cancel identifier) (answer-ok never (λ s p. refl) d rows n l (length area) refl (event.Cancel identifier) refl) z
 
-  pub place-lowest : (e : Event) → stepOf d rows n l area e .answer ≡ answer.Admitted post place → Taken d (identifierOf (d .profile) l e) post place (stepOf d rows n l area e .desk)
+  pub place-lowest : (e : Event) → stepOf d rows n l area e .answer ≡ answer.Admitted post place → Taken d (spokenOf (d .profile) (take n rows) l e) post place (stepOf d rows n l area e .desk)
   unfolding effectOf deskAfter
   place-lowest e z =
       let a = admitted-so e z in

@@ -10,7 +10,7 @@ use Rattle.message.specs.Values.{identifierIn}
 use Rattle.message.specs.Reading.{readOf, readingOrder}
 use Rattle.message.specs.declared.Value.{Value}
 use Rattle.places.specs.Held.{placeIn, admitsOf}
-use Rattle.places.specs.Spots.{placeOf}
+use Rattle.places.specs.Spots.{placeOf, clearOf}
 use Rattle.records.specs.Records.{recordsOk, restrictedOf, isRestricted}
 use Rattle.records.specs.declared.Identity.{Identity}
 use Rattle.records.specs.declared.Party.{Party}
@@ -74,18 +74,26 @@ notWaiting d identifier = (19, not (waits d identifier))
 abbrev pub waitsElsewhere : Desk → ℕ → ℕ → Ground
 waitsElsewhere d post identifier = (20, not (waitsHere d post identifier))
 
+-- the places rule says no for the second post of a call that has one, its own place taken as free
+abbrev pub noPlaceThere : Desk → ℕ → List Ground
+noPlaceThere d place =
+    cond (placeIn (placesOf d) place .more)
+    ((18, not (admitsOf (d .profile .shares) (clearOf (placesOf d) place) (placeIn (placesOf d) place .second))) ∷ []) []
+
 -- dispatcher addresses given
 abbrev pub dispatchersGiven : Desk → Value → Ground
 dispatchersGiven d v = (21, namesDispatchers (d .profile .air) v)
 
 -- ---- the orders, call by call
 
--- after the type: ACTIVATE 14, 15, 21; INTERROGATE 15; ACCEPT, DIVERT 14, 19, 20
+-- after the type: ACTIVATE 14, 15, 21; INTERROGATE 15; ACCEPT 14, 19, 20, and 18 for a move; DIVERT 14, 19, 20
 abbrev pub typeOrder : Desk → List Record → ℕ → ℕ → ℕ → Value → List Ground
 typeOrder d rows n room post v =
     cond (eqb (v .pdu) 2) (shortArea room ∷ badRecords d rows n ∷ dispatchersGiven d v ∷ [])
     (cond (eqb (v .pdu) 8) (badRecords d rows n ∷ [])
-    (cond (eqb (v .pdu) 12 || eqb (v .pdu) 15) (shortArea room ∷ notWaiting d (identifierIn v) ∷ waitsElsewhere d post (identifierIn v) ∷ []) []))
+    (cond (eqb (v .pdu) 12)
+    (shortArea room ∷ notWaiting d (identifierIn v) ∷ waitsElsewhere d post (identifierIn v) ∷ noPlaceThere d (placeOf (placesOf d) (identifierIn v) .place))
+    (cond (eqb (v .pdu) 15) (shortArea room ∷ notWaiting d (identifierIn v) ∷ waitsElsewhere d post (identifierIn v) ∷ []) [])))
 
 -- a post's message: 2, reading, 8, then by its type
 unfoldable pub messageOrder : Desk → List Record → ℕ → List ℕ → ℕ → ℕ → ℕ → List Ground

@@ -17,7 +17,7 @@ refusedAs n = record { number = n; plain = 0; values = [] }
 abbrev pub plainAs : ℕ → List ℕ → Paper
 plainAs k values = record { number = 0; plain = k; values = values }
 
--- a state: 0 no record, 1 another post's, 2 active, 3 not active; an admission: the post and the place
+-- a state: 0 no record, 1 another post's, 2 active, 3 not active; an admission: the post and the place; a move: the post
 abbrev pub paperOf : Answer → Paper
 paperOf (answer.Refused s) = refusedAs (s .number)
 paperOf answer.Acks = plainAs 1 []
@@ -28,6 +28,7 @@ paperOf answer.Proceed = plainAs 5 []
 paperOf answer.Diverted = plainAs 6 []
 paperOf answer.Rejected = plainAs 7 []
 paperOf answer.Cancelled = plainAs 8 []
+paperOf (answer.Moved post) = plainAs 9 (post ∷ [])
 
 abbrev pub numberOf : Answer → ℕ
 numberOf a = paperOf a .number

@@ -16,7 +16,7 @@ use Rattle.message.specs.Values.{identifierIn, givenAt}
 use Rattle.message.specs.Reading.{readOf}
 use Rattle.message.specs.declared.Value.{Value}
 use Rattle.places.specs.Held.{placeIn, admitsOf}
-use Rattle.places.specs.Spots.{placeOf, lowestFree}
+use Rattle.places.specs.Spots.{placeOf, lowestFree, clearOf}
 use Rattle.places.specs.declared.Place.{Place}
 use Rattle.records.specs.Identities.{identityOf}
 use Rattle.records.specs.Records.{recordsOk, stateOf, restrictedOf}
@@ -69,7 +69,16 @@ endAnswer d post identifier ended =
     unless (not (placeOf (placesOf d) identifier .found)) 19
     (unless (not (eqb (placeIn (placesOf d) (placeOf (placesOf d) identifier .place) .post) post)) 20 ended)
 
--- ACCEPT, DIVERT: 14, 19, 20
+-- an ACCEPT of the call in this place by the post where it waits: it proceeds. If it has a second post it moves there; 18 where the places
+-- rule says no for that post, the call's own place taken as free (document 02, iii)
+unfoldable pub moveAnswer : Desk → ℕ → ℕ → Answer
+moveAnswer d place second = unless (not (admitsOf (d .profile .shares) (clearOf (placesOf d) place) second)) 18 (answer.Moved second)
+
+unfoldable pub acceptAnswer : Desk → ℕ → Answer
+acceptAnswer d place =
+    cond (placeIn (placesOf d) place .more) (moveAnswer d place (placeIn (placesOf d) place .second)) answer.Proceed
+
+-- ACCEPT, DIVERT: 14, 19, 20, and then what the post decided
 unfoldable pub decideAnswer : Desk → ℕ → ℕ → ℕ → Answer → Answer
 decideAnswer d room post identifier ended = unless (ltb room 300) 14 (endAnswer d post identifier ended)
 
@@ -78,7 +87,7 @@ unfoldable pub sentAnswer : Desk → List Record → ℕ → ℕ → ℕ → Val
 sentAnswer d rows n room post v =
     cond (eqb (v .pdu) 2) (activateAnswer d rows n room v)
     (cond (eqb (v .pdu) 8) (interrogateAnswer d rows n post v)
-    (cond (eqb (v .pdu) 12) (decideAnswer d room post (identifierIn v) answer.Proceed)
+    (cond (eqb (v .pdu) 12) (decideAnswer d room post (identifierIn v) (acceptAnswer d (placeOf (placesOf d) (identifierIn v) .place)))
     (cond (eqb (v .pdu) 15) (decideAnswer d room post (identifierIn v) answer.Diverted) (answer.Refused (refusal 8)))))
 
 abbrev pub readAnswer : Read Value → (Value → Answer) → Answer

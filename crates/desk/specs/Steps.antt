@@ -4,18 +4,22 @@ use mathlib.Core.Bool.{Bool, true, false, cond}
 use mathlib.Core.List.{List, [], _∷_}
 use lib.ListN.{take, length}
 use Rattle.codec.specs.Codec.{Read, got, no}
+use Rattle.codec.specs.Stops.{refusal}
 use Rattle.profile.specs.declared.Profile.{Profile}
 use Rattle.message.specs.Groups.{noGroup}
 use Rattle.message.specs.Values.{blank, noValue, identifierIn}
 use Rattle.message.specs.Reading.{readOf}
 use Rattle.message.specs.declared.Group.{Group}
 use Rattle.message.specs.declared.Value.{Value}
-use Rattle.places.specs.Spots.{placeOf, lowestFree, takeOf, clearOf}
+use Rattle.places.specs.Held.{placeIn, admitsOf}
+use Rattle.places.specs.Spots.{placeOf, lowestFree, takeOf, clearOf, moveOf}
 use Rattle.places.specs.declared.Call.{Call}
 use Rattle.places.specs.declared.Place.{Place}
 use Rattle.records.specs.Identities.{identitiesOf}
 use Rattle.records.specs.Outcomes.{outcomesOf, sortedOf}
 use Rattle.records.specs.Marking.{marksOf, noMarks}
+use Rattle.records.specs.Records.{noParty, secondOf}
+use Rattle.records.specs.declared.Party.{Party}
 use Rattle.records.specs.declared.Record.{Record}
 use Rattle.sending.specs.Sending.{layAll, noLaid, laidOf}
 use Rattle.sending.specs.declared.Laid.{Laid}
@@ -34,6 +38,7 @@ use Rattle.desk.specs.declared.Stepped.{Stepped}
 pub data Effect : Type 0 where
   nothing : Effect
   begins : Call → Effect  -- this call waits from now on
+  moves : ℕ → Effect  -- the call with this identifier waits at its second post from now on
   ends : ℕ → Effect  -- the call with this identifier waits no more
 
 -- the message that was read
@@ -55,25 +60,48 @@ identifierOf p l (event.SetUp caller called identifier) = identifier
 identifierOf p l (event.Reject post identifier) = identifier
 identifierOf p l (event.Cancel identifier) = identifier
 
--- an admission begins, an accept, a divert, a reject, a cancel that was answered so ends; everything else changes nothing
-abbrev pub effectBy : ℕ → Answer → Effect
-effectBy identifier (answer.Refused s) = nothing
-effectBy identifier answer.Acks = nothing
-effectBy identifier (answer.State k) = nothing
-effectBy identifier answer.Free = nothing
-effectBy identifier (answer.Admitted post place) = begins (record { identifier = identifier; post = post })
-effectBy identifier answer.Proceed = ends identifier
-effectBy identifier answer.Diverted = ends identifier
-effectBy identifier answer.Rejected = ends identifier
-effectBy identifier answer.Cancelled = ends identifier
+-- what is said of the call that an event speaks of: its identifier, and, of a call being set up, the post that is asked second
+pub record Spoken : Type 0 where
+  pub identifier : ℕ
+  pub second : Party
 
-unfoldable pub effectOf : Profile → List ℕ → Event → Answer → Effect
-effectOf p l e a = effectBy (identifierOf p l e) a
+abbrev pub named : ℕ → Spoken
+named identifier = record { identifier = identifier; second = noParty }
 
--- the lowest free place is taken; a place that is freed is the one of the identifier
+abbrev pub secondFor : List Record → Event → Party
+secondFor rows (event.Message post bits) = noParty
+secondFor rows (event.SetUp caller called identifier) = secondOf rows caller called
+secondFor rows (event.Reject post identifier) = noParty
+secondFor rows (event.Cancel identifier) = noParty
+
+abbrev pub spokenOf : Profile → List Record → List ℕ → Event → Spoken
+spokenOf p rows l e = record { identifier = identifierOf p l e; second = secondFor rows e }
+
+-- the call that begins to wait at a post
+abbrev pub callFor : Spoken → ℕ → Call
+callFor s post = record { identifier = s .identifier; post = post; more = s .second .found; second = s .second .post }
+
+-- an admission begins, a move moves, an accept, a divert, a reject, a cancel that was answered so ends; everything else changes nothing
+abbrev pub effectBy : Spoken → Answer → Effect
+effectBy s (answer.Refused t) = nothing
+effectBy s answer.Acks = nothing
+effectBy s (answer.State k) = nothing
+effectBy s answer.Free = nothing
+effectBy s (answer.Admitted post place) = begins (callFor s post)
+effectBy s answer.Proceed = ends (s .identifier)
+effectBy s answer.Diverted = ends (s .identifier)
+effectBy s answer.Rejected = ends (s .identifier)
+effectBy s answer.Cancelled = ends (s .identifier)
+effectBy s (answer.Moved post) = moves (s .identifier)
+
+unfoldable pub effectOf : Profile → List Record → List ℕ → Event → Answer → Effect
+effectOf p rows l e a = effectBy (spokenOf p rows l e) a
+
+-- the lowest free place is taken; a place that is kept at a move, or freed, is the one of the identifier
 abbrev pub placesAfter : List Place → Effect → List Place
 placesAfter places nothing = places
 placesAfter places (begins x) = takeOf places (lowestFree places .place) x
+placesAfter places (moves identifier) = moveOf places (placeOf places identifier .place)
 placesAfter places (ends identifier) = clearOf places (placeOf places identifier .place)
 
 unfoldable pub deskAfter : Desk → Effect → Desk
@@ -92,10 +120,10 @@ messagesBy answer.Proceed = blank 13 ∷ []
 messagesBy answer.Diverted = blank 16 ∷ []
 messagesBy answer.Rejected = []
 messagesBy answer.Cancelled = []
+messagesBy (answer.Moved post) = []
 
-unfoldable pub plainStep : Desk → ℕ → Answer → Stepped
-plainStep d identifier a =
-    record { answer = a; laid = laidOf (d .profile .air) (messagesBy a); desk = deskAfter d (effectBy identifier a); marks = noMarks }
+unfoldable pub plainStep : Desk → Spoken → Answer → Stepped
+plainStep d s a = record { answer = a; laid = laidOf (d .profile .air) (messagesBy a); desk = deskAfter d (effectBy s a); marks = noMarks }
 
 unfoldable pub plainArea : Desk → List ℕ → Answer → List ℕ
 plainArea d area a = layAll (d .profile .air) area (messagesBy a)
@@ -129,10 +157,11 @@ isAcks answer.Proceed = false
 isAcks answer.Diverted = false
 isAcks answer.Rejected = false
 isAcks answer.Cancelled = false
+isAcks (answer.Moved post) = false
 
--- to a call from a post, of these users and this identifier
-unfoldable pub stepBy : Desk → List Record → ℕ → Group → ℕ → Answer → Stepped
-stepBy d rows post users identifier a = cond (isAcks a) (acksStep d rows post users) (plainStep d identifier a)
+-- to a call from a post, of these users, that speaks of this call
+unfoldable pub stepBy : Desk → List Record → ℕ → Group → Spoken → Answer → Stepped
+stepBy d rows post users s a = cond (isAcks a) (acksStep d rows post users) (plainStep d s a)
 
 unfoldable pub areaBy : Desk → List Record → ℕ → Group → List ℕ → Answer → List ℕ
 areaBy d rows post users area a = cond (isAcks a) (acksArea d rows post users area) (plainArea d area a)
@@ -147,7 +176,7 @@ postOf (event.Cancel identifier) = 0
 
 unfoldable pub stepOf : Desk → List Record → ℕ → List ℕ → List ℕ → Event → Stepped
 stepOf d rows n l area e =
-    stepBy d (take n rows) (postOf e) (usersOf (d .profile) l e) (identifierOf (d .profile) l e) (answerOf d rows n l (length area) e)
+    stepBy d (take n rows) (postOf e) (usersOf (d .profile) l e) (spokenOf (d .profile) (take n rows) l e) (answerOf d rows n l (length area) e)
 
 unfoldable pub areaAfter : Desk → List Record → ℕ → List ℕ → List ℕ → Event → List ℕ
 areaAfter d rows n l area e = areaBy d (take n rows) (postOf e) (usersOf (d .profile) l e) area (answerOf d rows n l (length area) e)
@@ -161,3 +190,21 @@ keeps d a = record { answer = a; laid = noLaid; desk = d; marks = noMarks }
 -- an answer that frees a place
 unfoldable pub endedStep : Desk → ℕ → Answer → Laid → Stepped
 endedStep d place a x = record { answer = a; laid = x; desk = record { profile = d .profile; places = record { place = clearOf (placesOf d) place } }; marks = noMarks }
+
+-- the call in the place moves to its second post, or is refused with 18 and stays
+unfoldable pub movedStep : Desk → ℕ → ℕ → Stepped
+movedStep d place second =
+    cond (admitsOf (d .profile .shares) (clearOf (placesOf d) place) second)
+    (record {
+      answer = answer.Moved second;
+      laid = noLaid;
+      desk = record { profile = d .profile; places = record { place = moveOf (placesOf d) place } };
+      marks = noMarks;
+    })
+    (keeps d (answer.Refused (refusal 18)))
+
+-- the post where it waits accepts the call in the place
+unfoldable pub acceptedStep : Desk → ℕ → Stepped
+acceptedStep d place =
+    cond (placeIn (placesOf d) place .more) (movedStep d place (placeIn (placesOf d) place .second))
+    (endedStep d place answer.Proceed (laidOf (d .profile .air) (messagesBy answer.Proceed)))

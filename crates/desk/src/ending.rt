@@ -1,19 +1,19 @@
-// How a waiting call ends: by ACCEPT or DIVERT from its post, by a reject from it, by a cancel from the switch.
+// How a waiting call ends: by ACCEPT or DIVERT from its post, by a reject from it, by a cancel from the switch. A call that has a second
+// post is moved there by the first ACCEPT.
 ghost use mathlib.Core.Path.{_≡_};
 ghost use mathlib.Core.Bool.{true, false};
 ghost use lib.ListN.{length};
 ghost use Rattle.profile.specs.Rules.{profileOk};
-ghost use Rattle.places.specs.Held.{placeIn};
-ghost use Rattle.desk.specs.Orders.{decideAnswer, rejectAnswer, cancelAnswer, endingOf};
-ghost use Rattle.desk.specs.Steps.{plainStep, plainArea, endedStep};
+ghost use Prim.Native.Nat.{_≤_};
+ghost use Rattle.places.specs.Spots.{placeOf};
+ghost use Rattle.desk.specs.Orders.{placesOf, acceptAnswer, decideAnswer, rejectAnswer, cancelAnswer, endingOf};
+ghost use Rattle.desk.specs.Steps.{named, plainStep, plainArea, endedStep, movedStep, acceptedStep};
 ghost use Rattle.desk.specs.declared.Answer.the-variants as answer;
 use crate::Answer;
 use crate::Desk;
 use crate::Stepped;
 use crate::kept;
 use codec::Stop;
-use places::Place;
-use profile::Shares;
 use sending::Laid;
 
 // The place of a call that its post may end, or 19 or 20.
@@ -25,26 +25,64 @@ pub struct Ending {
 
 pub(crate) fn accept(desk: Desk, post: u8, identifier: u32, out: &mut [u8]) -> Stepped
     requires { ⌜ profileOk (desk .profile) ≡ true ⌝ }
-    ensures { λ r. ⌜ (r ≡ plainStep desk identifier (decideAnswer desk (length (now (out .entry))) post identifier answer.Proceed))
-        × (now (out .exit) ≡ plainArea desk (now (out .entry)) (decideAnswer desk (length (now (out .entry))) post identifier answer.Proceed)) ⌝ }
+    ensures { λ r. ⌜ (r ≡ plainStep desk (named identifier) (decideAnswer desk (length (now (out .entry))) post identifier (acceptAnswer desk (placeOf (placesOf desk) identifier .place))))
+        × (now (out .exit) ≡ plainArea desk (now (out .entry)) (decideAnswer desk (length (now (out .entry))) post identifier (acceptAnswer desk (placeOf (placesOf desk) identifier .place)))) ⌝ }
 {
     if out.len() < 300 {
         return kept::refused(desk, codec::refuse(14));
     }
     let e = ending_of(desk, post, identifier);
     if e.found {
-        let profile = desk.profile;
-        let accepted = message::blank(13);
-        let laid = sending::send(profile, sending::no_laid(), accepted, out);
-        return ended(desk, e.place, Answer::Proceed, laid);
+        return accepted(desk, e.place, out);
     }
     let s = e.stop;
     kept::refused(desk, s)
 }
 
+// The post where it waits accepts the call in the place: it proceeds, or moves on to its second post.
+fn accepted(desk: Desk, place: u8, out: &mut [u8]) -> Stepped
+    requires { ⌜ (profileOk (desk .profile) ≡ true) × (300 ≤ length (now out)) ⌝ }
+    ensures { λ r. ⌜ (r ≡ acceptedStep desk place) × (now (out .exit) ≡ plainArea desk (now (out .entry)) (acceptAnswer desk place)) ⌝ }
+{
+    let places = desk.places;
+    let p = places::place_at(places, place);
+    if p.more {
+        return moved(desk, place, p.second);
+    }
+    let profile = desk.profile;
+    let accepted = message::blank(13);
+    let laid = sending::send(profile, sending::no_laid(), accepted, out);
+    ended(desk, place, Answer::Proceed, laid)
+}
+
+// The places rule for the second post, the call's own place taken as free.
+fn moved(desk: Desk, place: u8, second: u8) -> Stepped
+    ensures { λ r. ⌜ r ≡ movedStep desk place second ⌝ }
+{
+    let profile = desk.profile;
+    let shares = profile.shares;
+    let places = desk.places;
+    let rest = places::clear(places, place);
+    if places::admits(shares, rest, second) {} else {
+        return kept::refused(desk, codec::refuse(18));
+    }
+    let next = places::move_on(places, place);
+    Stepped {
+        answer: Answer::Moved {
+            post: second,
+        },
+        laid: sending::no_laid(),
+        desk: Desk {
+            profile: profile,
+            places: next,
+        },
+        marks: records::no_marks(),
+    }
+}
+
 pub(crate) fn divert(desk: Desk, post: u8, identifier: u32, out: &mut [u8]) -> Stepped
     requires { ⌜ profileOk (desk .profile) ≡ true ⌝ }
-    ensures { λ r. ⌜ (r ≡ plainStep desk identifier (decideAnswer desk (length (now (out .entry))) post identifier answer.Diverted))
+    ensures { λ r. ⌜ (r ≡ plainStep desk (named identifier) (decideAnswer desk (length (now (out .entry))) post identifier answer.Diverted))
         × (now (out .exit) ≡ plainArea desk (now (out .entry)) (decideAnswer desk (length (now (out .entry))) post identifier answer.Diverted)) ⌝ }
 {
     if out.len() < 300 {
@@ -62,7 +100,7 @@ pub(crate) fn divert(desk: Desk, post: u8, identifier: u32, out: &mut [u8]) -> S
 }
 
 pub(crate) fn reject(desk: Desk, post: u64, identifier: u32) -> Stepped
-    ensures { λ r. ⌜ r ≡ plainStep desk identifier (rejectAnswer desk post identifier) ⌝ }
+    ensures { λ r. ⌜ r ≡ plainStep desk (named identifier) (rejectAnswer desk post identifier) ⌝ }
 {
     let profile = desk.profile;
     let shares = profile.shares;
@@ -81,7 +119,7 @@ pub(crate) fn reject(desk: Desk, post: u64, identifier: u32) -> Stepped
 }
 
 pub(crate) fn cancel(desk: Desk, identifier: u32) -> Stepped
-    ensures { λ r. ⌜ r ≡ plainStep desk identifier (cancelAnswer desk identifier) ⌝ }
+    ensures { λ r. ⌜ r ≡ plainStep desk (named identifier) (cancelAnswer desk identifier) ⌝ }
 {
     if identifier >= 0x4000 {
         return kept::refused(desk, codec::refuse(16));
@@ -100,8 +138,8 @@ fn ending_of(desk: Desk, post: u8, identifier: u32) -> Ending
     let places = desk.places;
     let at = places::place_of(places, identifier);
     if at.found {
-        let list = places.place;
-        if post_at(list, at.place) == post {
+        let p = places::place_at(places, at.place);
+        if p.post == post {
             return Ending {
                 found: true,
                 stop: codec::no_stop(),
@@ -121,18 +159,6 @@ fn no_ending(stop: Stop) -> Ending
         stop: stop,
         place: 0,
     }
-}
-
-// The post of the call in a place; of no place 0.
-fn post_at(list: [Place; 32], at: u8) -> u8
-    ensures { λ r. ⌜ r ≡ placeIn list at .post ⌝ }
-{
-    let i = at as usize;
-    if i < Shares::PLACES {
-        let p = list[i];
-        return p.post;
-    }
-    0
 }
 
 // The call in the place waits no more.

@@ -9,7 +9,6 @@ ghost use Rattle.places.specs.Held.{noPlaces};
 ghost use Rattle.desk.specs.Desks.{openOf, deskOk};
 ghost use Rattle.desk.specs.Steps.{stepOf, areaAfter};
 use codec::Stop;
-use places::Place;
 use places::Places;
 use profile::Profile;
 use records::Identity;
@@ -66,6 +65,7 @@ pub enum Answer {
     Diverted,
     Rejected,
     Cancelled,
+    Moved { post: u8 },
 }
 
 pub struct Stepped {
@@ -129,11 +129,7 @@ fn no_places() -> Places
     ensures { λ r. ⌜ r ≡ record { place = noPlaces } ⌝ }
 {
     Places {
-        place: [Place {
-            used: false,
-            identifier: 0,
-            post: 0,
-        }; 32],
+        place: [places::FREE; 32],
     }
 }
 

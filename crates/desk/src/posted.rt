@@ -7,7 +7,7 @@ ghost use Rattle.message.specs.Values.{identifierIn};
 ghost use Rattle.message.specs.Reading.{readOf};
 ghost use Rattle.validity.specs.Validity.{validOf};
 ghost use Rattle.desk.specs.Orders.{interrogateAnswer, sentAnswer, messageAnswer};
-ghost use Rattle.desk.specs.Steps.{valueBy, plainStep, stepBy, areaBy};
+ghost use Rattle.desk.specs.Steps.{valueBy, named, plainStep, stepBy, areaBy};
 use crate::Answer;
 use crate::Desk;
 use crate::Stepped;
@@ -27,7 +27,7 @@ pub(crate) fn post_message(
     bits: u64,
 ) -> Stepped
     requires { ⌜ profileOk (desk .profile) ≡ true ⌝ }
-    ensures { λ r. ⌜ (r ≡ stepBy desk (take count rows) post (valueBy (readOf (desk .profile) (now (message .entry)) bits) .users) (identifierIn (valueBy (readOf (desk .profile) (now (message .entry)) bits))) (messageAnswer desk rows count (now (message .entry)) (length (now (out .entry))) post bits))
+    ensures { λ r. ⌜ (r ≡ stepBy desk (take count rows) post (valueBy (readOf (desk .profile) (now (message .entry)) bits) .users) (named (identifierIn (valueBy (readOf (desk .profile) (now (message .entry)) bits)))) (messageAnswer desk rows count (now (message .entry)) (length (now (out .entry))) post bits))
         × (now (out .exit) ≡ areaBy desk (take count rows) post (valueBy (readOf (desk .profile) (now (message .entry)) bits) .users) (now (out .entry)) (messageAnswer desk rows count (now (message .entry)) (length (now (out .entry))) post bits)) ⌝ }
 {
     let profile = desk.profile;
@@ -54,7 +54,7 @@ fn sent(
     value: Value,
 ) -> Stepped
     requires { ⌜ (profileOk (desk .profile) ≡ true) × (validOf (desk .profile .air) value ≡ true) ⌝ }
-    ensures { λ r. ⌜ (r ≡ stepBy desk (take count rows) post (value .users) (identifierIn value) (sentAnswer desk rows count (length (now (out .entry))) post value))
+    ensures { λ r. ⌜ (r ≡ stepBy desk (take count rows) post (value .users) (named (identifierIn value)) (sentAnswer desk rows count (length (now (out .entry))) post value))
         × (now (out .exit) ≡ areaBy desk (take count rows) post (value .users) (now (out .entry)) (sentAnswer desk rows count (length (now (out .entry))) post value)) ⌝ }
 {
     let pdu = value.pdu;
@@ -84,7 +84,7 @@ fn sent(
 }
 
 fn interrogate(desk: Desk, rows: [Record; 128], count: usize, post: u8, value: Value) -> Stepped
-    ensures { λ r. ⌜ r ≡ plainStep desk (identifierIn value) (interrogateAnswer desk rows count post value) ⌝ }
+    ensures { λ r. ⌜ r ≡ plainStep desk (named (identifierIn value)) (interrogateAnswer desk rows count post value) ⌝ }
 {
     let profile = desk.profile;
     let air = profile.air;

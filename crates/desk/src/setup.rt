@@ -2,8 +2,9 @@
 ghost use mathlib.Core.Path.{_≡_};
 ghost use mathlib.Core.Bool.{true};
 ghost use Prim.Native.Nat.{_<_, _≤_, _^_};
-ghost use lib.ListN.{length};
+ghost use lib.ListN.{length, take};
 ghost use Rattle.profile.specs.Rules.{profileOk};
+ghost use Rattle.records.specs.Records.{secondOf};
 ghost use Rattle.desk.specs.Orders.{partyOk, setUpOk, admitAnswer, setUpAnswer};
 ghost use Rattle.desk.specs.Steps.{plainStep, plainArea};
 use crate::Answer;
@@ -12,6 +13,7 @@ use crate::Stepped;
 use crate::kept;
 use places::Call;
 use records::Identity;
+use records::Party;
 use records::Record;
 
 pub(crate) fn set_up(
@@ -24,7 +26,7 @@ pub(crate) fn set_up(
     identifier: u32,
 ) -> Stepped
     requires { ⌜ profileOk (desk .profile) ≡ true ⌝ }
-    ensures { λ r. ⌜ (r ≡ plainStep desk identifier (setUpAnswer desk rows count (length (now (out .entry))) caller called identifier))
+    ensures { λ r. ⌜ (r ≡ plainStep desk (record { identifier = identifier; second = secondOf (take count rows) caller called }) (setUpAnswer desk rows count (length (now (out .entry))) caller called identifier))
         × (now (out .exit) ≡ plainArea desk (now (out .entry)) (setUpAnswer desk rows count (length (now (out .entry))) caller called identifier)) ⌝ }
 {
     let profile = desk.profile;
@@ -34,6 +36,7 @@ pub(crate) fn set_up(
     let sound = records::records_ok(rows, count, shares.posts);
     let waiting = places::place_of(places, identifier);
     let party = records::restricted(rows, count, caller, called);
+    let second = records::second(rows, count, caller, called);
     if formed {} else {
         return kept::refused(desk, codec::refuse(16));
     }
@@ -47,15 +50,15 @@ pub(crate) fn set_up(
         return kept::refused(desk, codec::refuse(17));
     }
     if party.found {
-        return admit(desk, party.post, identifier, out);
+        return admit(desk, party.post, second, identifier, out);
     }
     kept::keeps(desk, Answer::Free)
 }
 
-// The places rule for the post, and the lowest free place.
-fn admit(desk: Desk, post: u8, identifier: u32, out: &mut [u8]) -> Stepped
+// The places rule for the post, and the lowest free place; `second` is the post asked after this one.
+fn admit(desk: Desk, post: u8, second: Party, identifier: u32, out: &mut [u8]) -> Stepped
     requires { ⌜ (profileOk (desk .profile) ≡ true) × ((identifier < 2 ^ 14) × (300 ≤ length (now out))) ⌝ }
-    ensures { λ r. ⌜ (r ≡ plainStep desk identifier (admitAnswer desk post))
+    ensures { λ r. ⌜ (r ≡ plainStep desk (record { identifier = identifier; second = second }) (admitAnswer desk post))
         × (now (out .exit) ≡ plainArea desk (now (out .entry)) (admitAnswer desk post)) ⌝ }
 {
     let profile = desk.profile;
@@ -70,6 +73,8 @@ fn admit(desk: Desk, post: u8, identifier: u32, out: &mut [u8]) -> Stepped
     let call = Call {
         identifier: identifier as u16,
         post: post,
+        more: second.found,
+        second: second.post,
     };
     let next = places::take(places, at.place, call);
     Stepped {

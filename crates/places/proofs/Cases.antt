@@ -12,8 +12,8 @@ use Rattle.profile.specs.Rules.{noShare, shareIn}
 use Rattle.profile.specs.Sample.{sample, sampleShare}
 use Rattle.profile.specs.declared.Shares.{Shares}
 use Rattle.places.specs.Held.{noPlace, placeIn, noPlaces, waitsAt, heldOf, usedOf, freeOf, owedOf, owedAll, owedOthers, loadOf, admitsOf}
-use Rattle.places.specs.Grounds.{callOk, apart, aloneAt, underCeiling, placesOk}
-use Rattle.places.specs.Spots.{noSpot, spotAt, lowestFrom, hasCall, placeOf, lowestFree, placeFor, takeOf, clearOf}
+use Rattle.places.specs.Grounds.{secondOk, callOk, apart, aloneAt, underCeiling, placesOk}
+use Rattle.places.specs.Spots.{noSpot, spotAt, lowestFrom, hasCall, placeOf, lowestFree, placeFor, takeOf, clearOf, moveOf}
 use Rattle.places.specs.declared.Call as places
 use Rattle.places.specs.declared.Place.{Place}
 use Rattle.places.specs.declared.Spot.{Spot}
@@ -22,10 +22,14 @@ use Rattle.places.specs.declared.Spot.{Spot}
 
 -- a call with this identifier, at this post, and the place where it waits
 abbrev pub at : ℕ → ℕ → places.Call
-at identifier post = record { identifier = identifier; post = post }
+at identifier post = record { identifier = identifier; post = post; more = false; second = 0 }
 
 abbrev pub call : ℕ → ℕ → Place
 call identifier post = placeFor (at identifier post)
+
+-- the same, with a post that is asked second
+abbrev pub call-then : ℕ → ℕ → ℕ → Place
+call-then identifier post second = record { used = true; identifier = identifier; post = post; more = true; second = second }
 
 -- as many calls, waiting at a post, with identifiers from k on
 abbrev pub calls : ℕ → ℕ → ℕ → List Place
@@ -125,7 +129,7 @@ meant (bad l) = false
 
 -- a free place that still holds something
 abbrev pub left : ℕ → ℕ → Place
-left identifier post = record { used = false; identifier = identifier; post = post }
+left identifier post = record { used = false; identifier = identifier; post = post; more = true; second = 9 }
 
 abbrev pub grounds : List Ground
 grounds =
@@ -140,6 +144,12 @@ grounds =
     ∷ bad (desk (call 5 2 ∷ []))
     ∷ bad (set noPlaces 31 (call 5 255))
     ∷ good (desk (left 5 2 ∷ []))
+    -- a second post below the number of posts, and not; where there is none, what stands there is not looked at; its own post is no ground
+    ∷ good (desk (call-then 5 0 1 ∷ []))
+    ∷ bad (desk (call-then 5 0 2 ∷ []))
+    ∷ bad (set noPlaces 31 (call-then 5 0 255))
+    ∷ good (desk (record { used = true; identifier = 5; post = 0; more = false; second = 2 } ∷ []))
+    ∷ good (desk (call-then 5 1 1 ∷ []))
     -- two waiting calls with one identifier, beside each other and far apart, at one post and at two; one of them in a free place
     ∷ good (desk (call 5 0 ∷ call 6 0 ∷ []))
     ∷ bad (desk (call 5 0 ∷ call 5 0 ∷ []))
@@ -160,7 +170,7 @@ grounds =
     ∷ []
 
 pub grounds-right : list.map passing grounds ≡ list.map meant grounds
-unfolding both every sum shareIn sample sampleShare placeIn noPlaces waitsAt heldOf usedOf owedOf owedAll loadOf callOk apart aloneAt underCeiling placesOk
+unfolding both every sum shareIn sample sampleShare placeIn noPlaces waitsAt heldOf usedOf owedOf owedAll loadOf secondOk callOk apart aloneAt underCeiling placesOk
 grounds-right = refl
 
 -- rows of posts that are not there are not looked at: row 2 has 200 reserved and a ceiling of 0
@@ -176,7 +186,7 @@ oddShares =
     }
 
 pub odd-right : placesOk oddShares (two 28 0) ∷ admitsOf oddShares (two 27 0) 0 ∷ admitsOf oddShares (two 28 0) 0 ∷ [] ≡ true ∷ true ∷ false ∷ []
-unfolding both every sum shareIn placeIn waitsAt heldOf usedOf freeOf owedOf owedAll owedOthers loadOf admitsOf callOk apart aloneAt underCeiling placesOk
+unfolding both every sum shareIn placeIn waitsAt heldOf usedOf freeOf owedOf owedAll owedOthers loadOf admitsOf secondOk callOk apart aloneAt underCeiling placesOk
 odd-right = refl
 
 -- ---- searches, and one place changed
@@ -209,3 +219,44 @@ pub changes-right : takeOf (takeOf noPlaces 3 (at 5 1)) 3 (at 6 0) ∷ takeOf no
     ≡ set noPlaces 3 (call 6 0) ∷ noPlaces ∷ noPlaces ∷ two 28 4 ∷ []
 unfolding noPlaces takeOf clearOf
 changes-right = refl
+
+-- a call that moves keeps its place and its identifier, waits at the second post, and has no second; number 32 is no place
+pub moves-right : moveOf (set noPlaces 3 (call-then 5 0 1)) 3 ∷ moveOf (set noPlaces 3 (call-then 5 1 1)) 3 ∷ moveOf (two 28 4) 32 ∷ []
+    ≡ set noPlaces 3 (call 5 1) ∷ set noPlaces 3 (call 5 1) ∷ two 28 4 ∷ []
+unfolding noPlaces placeIn takeOf moveOf
+moves-right = refl
+
+-- whether the call in place 0 may move to its second post: its own place counts as free, and what is owed to its post may have risen
+abbrev pub movable : List Place → ℕ → Bool
+movable l second = admitsOf (sample .shares) (clearOf l 0) second
+
+abbrev pub movings : List Bool
+movings =
+    -- 28 at post 0 and none at post 1: post 1 is below its reserved number
+    movable (two 28 0) 1
+    -- 28 and 4, none free but this one: nothing is owed to post 0, so post 1 gets a fifth
+    ∷ movable (two 28 4) 1
+    -- 24 and 8: post 1 is at its ceiling
+    ∷ movable (two 24 8) 1
+    -- 24 and 7
+    ∷ movable (two 24 7) 1
+    -- 2 and 4, of which post 0 is owed one more once its call is gone; of 27 free places it is enough
+    ∷ movable (two 2 4) 1
+    ∷ []
+
+pub movings-right : movings ≡ true ∷ true ∷ false ∷ true ∷ true ∷ []
+unfolding both every sum shareIn sample sampleShare placeIn waitsAt heldOf usedOf freeOf owedOf owedOthers admitsOf clearOf
+movings-right = refl
+
+-- all 32 held, 2 by post 0, which has 2 reserved, and 30 by post 1, which may have 31: once its call is gone post 0 is owed one, as many
+-- as are free, so post 1 does not get it
+abbrev pub wideShares : Shares
+wideShares =
+    record {
+      posts = 2;
+      share = record { reserved = 2; ceiling = 30 } ∷ record { reserved = 4; ceiling = 31 } ∷ noShare ∷ noShare ∷ noShare ∷ noShare ∷ noShare ∷ noShare ∷ [];
+    }
+
+pub owed-right : admitsOf wideShares (clearOf (two 2 30) 0) 1 ∷ admitsOf wideShares (clearOf (two 3 29) 0) 1 ∷ [] ≡ false ∷ true ∷ []
+unfolding both every sum shareIn placeIn waitsAt heldOf usedOf freeOf owedOf owedOthers admitsOf clearOf
+owed-right = refl

@@ -3,4 +3,5 @@ pub mod SpotLaws
 pub mod HeldLaws
 pub mod PlaceLaws
 pub mod CallLaws
+pub mod MoveLaws
 pub mod Cases

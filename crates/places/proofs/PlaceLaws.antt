@@ -1,14 +1,14 @@
 -- The laws that demand 3 rests on: taking and clearing a place keep the desk's places good, an admitted call has a place, and a post below
 -- its reserved number is admitted. Assumes nothing.
 use Prim.Native.Nat.{ℕ, _+_, _^_, _≤_, _<_}
-use mathlib.Core.Path.{_≡_, refl, sym, _∙_}
+use mathlib.Core.Path.{_≡_, refl, sym, ap, _∙_}
 use mathlib.Core.Bool.{Bool, true, false, not, cond, _||_, or-true}
 use mathlib.Core.List.{List}
 use mathlib.Core.Logic.{_⊎_, inl, inr, ⊎-elim}
 use native.Mathlib.Omega.{arith}
 use lib.Dec.{eqb, leb, ltb}
 use lib.ListN.{length, set}
-use borrow.Author.Tests.{eq-eqb, eqb-true, ltb-true, lt-ltb, leb-true, le-leb}
+use borrow.Author.Tests.{eq-eqb, eqb-true, ltb-true, lt-ltb, le-ltb, leb-true, le-leb}
 use Rattle.codec.specs.Codec.{both}
 use Rattle.codec.proofs.Good.{both-true, both-left, both-right, not-both}
 use Rattle.profile.specs.Counting.{every, sum, one}
@@ -16,7 +16,7 @@ use Rattle.profile.specs.Rules.{shareOk, shareIn, sharesOk}
 use Rattle.profile.specs.declared.Shares.{Shares}
 use Rattle.profile.proofs.CountLaws.{every-at}
 use Rattle.places.specs.Held.{noPlace, placeIn, noPlaces, waitsAt, heldOf, usedOf, freeOf, owedOf, owedAll, owedOthers, loadOf, admitsOf}
-use Rattle.places.specs.Grounds.{callOk, apart, aloneAt, underCeiling, placesOk}
+use Rattle.places.specs.Grounds.{secondOk, callOk, apart, aloneAt, underCeiling, placesOk}
 use Rattle.places.specs.Spots.{spotAt, placeOf, lowestFree, placeFor, takeOf, clearOf}
 use Rattle.places.specs.declared.Call.{Call}
 use Rattle.places.specs.declared.Place.{Place}
@@ -30,20 +30,59 @@ use Rattle.places.proofs.HeldLaws.{one-few, set-by, waits-not, waits-ot
 pub record Sound (posts : ℕ) (p : Place) : Type 0 where
   pub small : p .identifier < 2 ^ 14
   pub below : p .post < posts
+  pub second : p .more ≡ true → p .second < posts
+
+second-ok : (posts : ℕ) (p : Place) → (p .more ≡ true → p .second < posts) → secondOk posts p ≡ true
+unfolding secondOk
+second-ok posts p h = go (p .more) refl
+  where
+    go : (b : Bool) → p .more ≡ b → cond b (ltb (p .second) posts) true ≡ true
+    go true e = lt-ltb _ _ (h e)
+    go false e = refl
+
+second-fact : (posts : ℕ) (p : Place) → secondOk posts p ≡ true → p .more ≡ true → p .second < posts
+unfolding secondOk
+second-fact posts p e h = ltb-true _ _ (rw h at e)
 
 call-ok : (posts : ℕ) (p : Place) → (p .used ≡ true → Sound posts p) → callOk posts p ≡ true
 unfolding callOk
 call-ok posts p h = go (p .used) refl
   where
-    go : (b : Bool) → p .used ≡ b → cond b (both (ltb (p .identifier) (2 ^ 14)) (ltb (p .post) posts)) true ≡ true
-    go true e = let w = h e in both-true _ _ (lt-ltb _ _ (w .small)) (lt-ltb _ _ (w .below))
+    go : (b : Bool) → p .used ≡ b → cond b (both (ltb (p .identifier) (2 ^ 14)) (both (ltb (p .post) posts) (secondOk posts p))) true ≡ true
+    go true e = let w = h e in both-true _ _ (lt-ltb _ _ (w .small)) (both-true _ _ (lt-ltb _ _ (w .below)) (second-ok posts p (w .second)))
     go false e = refl
 
 call-fact : (posts : ℕ) (p : Place) → callOk posts p ≡ true → p .used ≡ true → Sound posts p
 unfolding callOk
 call-fact posts p e u =
-    let k : both (ltb (p .identifier) (2 ^ 14)) (ltb (p .post) posts) ≡ true = rw u at e in
-    record { small = ltb-true _ _ (both-left _ _ k); below = ltb-true _ _ (both-right (ltb (p .identifier) (2 ^ 14)) _ k) }
+    let k : both (ltb (p .identifier) (2 ^ 14)) (both (ltb (p .post) posts) (secondOk posts p)) ≡ true =
+        ap (λ (b : Bool). cond b (both (ltb (p .identifier) (2 ^ 14)) (both (ltb (p .post) posts) (secondOk posts p))) true) (sym u) ∙ e in
+    let m = both-right (ltb (p .identifier) (2 ^ 14)) _ k in
+    record { small = ltb-true _ _ (both-left _ _ k); below = ltb-true _ _ (both-left _ _ m); second = second-fact posts p (both-right (ltb (p .post) posts) _ m) }
+
+-- the same, ground by ground
+
+module _ (posts : ℕ) (p : Place) where
+  pub call-free : p .used ≡ false → true ≡ callOk posts p
+  unfolding callOk
+  call-free u = sym (ap (λ (b : Bool). cond b (both (ltb (p .identifier) (2 ^ 14)) (both (ltb (p .post) posts) (secondOk posts p))) true) u)
+
+  module _ (u : p .used ≡ true) where
+    call-used : callOk posts p ≡ both (ltb (p .identifier) (2 ^ 14)) (both (ltb (p .post) posts) (secondOk posts p))
+    unfolding callOk
+    call-used = ap (λ (b : Bool). cond b (both (ltb (p .identifier) (2 ^ 14)) (both (ltb (p .post) posts) (secondOk posts p))) true) u
+
+    pub call-wide : 2 ^ 14 ≤ p .identifier → false ≡ callOk posts p
+    unfolding both
+    call-wide h = sym (call-used ∙ rw (le-ltb (p .identifier) (2 ^ 14) h) refl)
+
+    pub call-past : p .identifier < 2 ^ 14 → posts ≤ p .post → false ≡ callOk posts p
+    unfolding both
+    call-past h k = sym (call-used ∙ rw (lt-ltb (p .identifier) (2 ^ 14) h, le-ltb (p .post) posts k) refl)
+
+    pub call-second : p .identifier < 2 ^ 14 → p .post < posts → (b : Bool) → b ≡ secondOk posts p → b ≡ callOk posts p
+    unfolding both
+    call-second h k b z = z ∙ sym (call-used ∙ rw (lt-ltb (p .identifier) (2 ^ 14) h, lt-ltb (p .post) posts k) refl)
 
 abbrev Differ : Place → Place → Type 0
 Differ p q = p .used ≡ true → q .used ≡ true → p .identifier ≡ q .identifier → ⊥

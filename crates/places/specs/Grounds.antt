@@ -11,9 +11,13 @@ use Rattle.profile.specs.declared.Shares.{Shares}
 use Rattle.places.specs.Held.{placeIn, heldOf, loadOf}
 use Rattle.places.specs.declared.Place.{Place}
 
--- a waiting call has an identifier of 14 bits and a post below the number of posts
+-- a second post is below the number of posts (document 02, iii)
+unfoldable pub secondOk : ℕ → Place → Bool
+secondOk posts p = cond (p .more) (ltb (p .second) posts) true
+
+-- a waiting call has an identifier of 14 bits and a post below the number of posts, and so has its second post, if it has one
 unfoldable pub callOk : ℕ → Place → Bool
-callOk posts p = cond (p .used) (both (ltb (p .identifier) (2 ^ 14)) (ltb (p .post) posts)) true
+callOk posts p = cond (p .used) (both (ltb (p .identifier) (2 ^ 14)) (both (ltb (p .post) posts) (secondOk posts p))) true
 
 -- two places hold no two waiting calls with one identifier
 unfoldable pub apart : Place → Place → Bool

@@ -3,12 +3,12 @@ ghost use mathlib.Core.Path.{_≡_};
 ghost use Prim.Native.Nat.{_<_};
 ghost use Rattle.profile.specs.Counting.{every};
 ghost use Rattle.places.specs.Held.{placeIn};
-ghost use Rattle.places.specs.Grounds.{callOk, apart, aloneAt, underCeiling};
+ghost use Rattle.places.specs.Grounds.{secondOk, callOk, apart, aloneAt, underCeiling};
 use crate::Place;
 use crate::count;
 use profile::Shares;
 
-// Every waiting call has an identifier of 14 bits and a post below the number of posts.
+// Every waiting call has an identifier of 14 bits, and its post and its second post are below the number of posts.
 pub(crate) fn calls_ok(posts: u8, list: [Place; 32]) -> bool
     ensures { λ r. ⌜ r ≡ every 32 (λ i. callOk posts (placeIn list i)) ⌝ }
 {
@@ -29,10 +29,22 @@ fn call_ok(posts: u8, p: Place) -> bool
     if p.used {} else {
         return true;
     }
-    if p.identifier < 0x4000 {
-        return p.post < posts;
+    if p.identifier < 0x4000 {} else {
+        return false;
     }
-    false
+    if p.post < posts {} else {
+        return false;
+    }
+    second_ok(posts, p)
+}
+
+fn second_ok(posts: u8, p: Place) -> bool
+    ensures { λ r. ⌜ r ≡ secondOk posts p ⌝ }
+{
+    if p.more {
+        return p.second < posts;
+    }
+    true
 }
 
 // No two waiting calls have one identifier.

@@ -5,9 +5,9 @@
 // caller's, by `places_ok`. The files: count (held, owed), ground (the grounds of refusal 1), search (the lowest place).
 ghost use mathlib.Core.Path.{_≡_};
 ghost use lib.ListN.{set};
-ghost use Rattle.places.specs.Held.{admitsOf};
+ghost use Rattle.places.specs.Held.{placeIn, admitsOf};
 ghost use Rattle.places.specs.Grounds.{placesOk};
-ghost use Rattle.places.specs.Spots.{placeOf, lowestFree, takeOf, clearOf};
+ghost use Rattle.places.specs.Spots.{placeOf, lowestFree, takeOf, clearOf, moveOf};
 use profile::Shares;
 
 mod count;
@@ -19,12 +19,25 @@ pub struct Place {
     pub used: bool,
     pub identifier: u16,
     pub post: u8,
+    pub more: bool,
+    pub second: u8,
 }
 
-// A waiting call: its identifier, and the post where it waits.
+pub const FREE: Place = Place {
+    used: false,
+    identifier: 0,
+    post: 0,
+    more: false,
+    second: 0,
+};
+
+// A waiting call: its identifier, the post where it waits, and, if one more is asked after that, the second post; otherwise
+// `second` is never looked at.
 pub struct Call {
     pub identifier: u16,
     pub post: u8,
+    pub more: bool,
+    pub second: u8,
 }
 
 pub struct Places {
@@ -96,6 +109,8 @@ pub fn take(places: Places, at: u8, call: Call) -> Places
         used: true,
         identifier: call.identifier,
         post: call.post,
+        more: call.more,
+        second: call.second,
     };
     put(list, at, waiting)
 }
@@ -105,12 +120,39 @@ pub fn clear(places: Places, at: u8) -> Places
     ensures { λ r. ⌜ r ≡ record { place = clearOf (places .place) at } ⌝ }
 {
     let list = places.place;
-    let nothing = Place {
-        used: false,
-        identifier: 0,
-        post: 0,
+    put(list, at, FREE)
+}
+
+// What is in the place; a number of no place has nothing in it.
+pub fn place_at(places: Places, at: u8) -> Place
+    ensures { λ r. ⌜ r ≡ placeIn (places .place) at ⌝ }
+{
+    let list = places.place;
+    in_list(list, at)
+}
+
+fn in_list(list: [Place; 32], at: u8) -> Place
+    ensures { λ r. ⌜ r ≡ placeIn list at ⌝ }
+{
+    let i = at as usize;
+    if i < Shares::PLACES {
+        return list[i];
+    }
+    FREE
+}
+
+// The call in the place waits at its second post from now on, and has no second any more; a number of no place changes nothing.
+pub fn move_on(places: Places, at: u8) -> Places
+    ensures { λ r. ⌜ r ≡ record { place = moveOf (places .place) at } ⌝ }
+{
+    let p = place_at(places, at);
+    let call = Call {
+        identifier: p.identifier,
+        post: p.second,
+        more: false,
+        second: 0,
     };
-    put(list, at, nothing)
+    take(places, at, call)
 }
 
 // One place overwritten; there is none from number 32 on.

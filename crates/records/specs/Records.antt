@@ -1,6 +1,6 @@
 -- User records: document 01, "User records and waiting calls". The rows are the records lent, numbered from 0.
 use Prim.Native.Nat.{ℕ, suc}
-use mathlib.Core.Bool.{Bool, true, false, cond}
+use mathlib.Core.Bool.{Bool, true, false, not, cond}
 use mathlib.Core.List.{List, [], _∷_}
 use lib.Dec.{eqb, leb, ltb}
 use lib.ListN.{getD, take}
@@ -95,3 +95,9 @@ postBy rows (found.At i) = rowOf rows i .post
 -- the post of a party's record
 unfoldable pub postFor : List Record → Identity → ℕ
 postFor rows id = postBy rows (recordOf rows id)
+
+-- the post that is asked second (document 02, iii): the called party's, where both parties are restricted, at different posts
+unfoldable pub secondOf : List Record → Identity → Identity → Party
+secondOf rows caller called =
+    cond (both (isRestricted rows caller) (both (isRestricted rows called) (not (eqb (postFor rows caller) (postFor rows called)))))
+    (record { found = true; post = postFor rows called }) noParty

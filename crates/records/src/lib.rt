@@ -7,7 +7,7 @@ ghost use mathlib.Core.Path.{_≡_};
 ghost use mathlib.Core.List.{[], _∷_};
 ghost use lib.ListN.{take};
 ghost use Rattle.records.specs.Identities.{identityOf, identitiesOf};
-ghost use Rattle.records.specs.Records.{recordsOk, stateOf, restrictedOf};
+ghost use Rattle.records.specs.Records.{recordsOk, stateOf, restrictedOf, secondOf};
 ghost use Rattle.records.specs.Outcomes.{outcomesOf, sortedOf};
 ghost use Rattle.records.specs.Marking.{marksOf, noMarks};
 use message::Address;
@@ -74,6 +74,24 @@ pub fn restricted(rows: [Record; 128], count: usize, caller: Identity, called: I
     ensures { λ r. ⌜ r ≡ restrictedOf (take count rows) (caller ∷ called ∷ []) ⌝ }
 {
     search::first_restricted(rows, count, [caller, called])
+}
+
+// The post that is asked after that one: the called party's, if both records restrict the call and their posts differ.
+pub fn second(rows: [Record; 128], count: usize, caller: Identity, called: Identity) -> Party
+    ensures { λ r. ⌜ r ≡ secondOf (take count rows) caller called ⌝ }
+{
+    let first = restricted(rows, count, caller, caller);
+    let other = restricted(rows, count, called, called);
+    if first.found {} else {
+        return search::NO_PARTY;
+    }
+    if other.found {} else {
+        return search::NO_PARTY;
+    }
+    if first.post == other.post {
+        return search::NO_PARTY;
+    }
+    other
 }
 
 // The outcomes of the group's identities for ACTIVATE from a post, sorted.

@@ -22,7 +22,7 @@ const NO_RECORD: Record = Record {
     active: false,
 };
 
-const NO_PARTY: Party = Party {
+pub(crate) const NO_PARTY: Party = Party {
     found: false,
     post: 0,
 };

@@ -1,10 +1,8 @@
 -- Written by tools/proofs from tools/desk.conf. `desk::ending::accept` meets its contract. Assumes nothing.
 use mathlib.Core.Path.{refl, _∙_}
 use borrow.Author.Needs.{needs}
-use Rattle.desk.proofs.EndLaws.{end-found, end-not, decide-14, decide-end, decided}
+use Rattle.desk.proofs.EndLaws.{end-found, end-not, decide-14, decide-end, accepted-by}
 use Rattle.desk.proofs.KeepLaws.{refused-plain}
-use Rattle.sending.proofs.AckLaws.{accepted-sends}
-use Rattle.sending.proofs.SentLaws.{one-sent}
 use Rattle.desk.proofs.ending.accept.Statement.{statement}
 use Rattle.desk.proofs.ending.accept.Tie as tie
 
@@ -20,30 +18,17 @@ returns c = refused-plain _ _ _ _ _ _ _ (c .refused .ensures) (c .before .refuse
 ending-of-requires : tie.Need-ending-of-requires
 ending-of-requires c κs = search needs
 
-blank-requires : tie.Need-blank-requires
-blank-requires c κs = search needs
-
-no-laid-requires : tie.Need-no-laid-requires
-no-laid-requires c κs = search needs
-
-send-requires : tie.Need-send-requires
-send-requires c κs = search needs
-
-ended-requires : tie.Need-ended-requires
-ended-requires c κs = search needs
+accepted-requires : tie.Need-accepted-requires
+accepted-requires c κs = (c .before .before .before .before .before .pre, c .before .before .before .if1 .left)
 
 same-length : tie.Need-same-length
 same-length c = search needs
 
 returns-2 : tie.Need-returns-2
 returns-2 c =
-    let s = c .before .before .before in
-    let e = c .before .before .before .before .before .before .before .before .before in
-    let a = c .before .before .before .before .before .before .before .before .before .before .before .before in
-    let f = end-found _ _ _ _ (e .ending-of .result) (e .ending-of .ensures) (c .before .before .before .before .before .before .before .before .if2 .taken) in
-    decided _ _ _ _ _ _ _ _ _ (decide-end _ _ _ _ _ (c .before .before .before .before .before .before .before .before .before .before .if1 .left) ∙ f .0) refl (f .1)
-    (one-sent _ (a .pre) _ _ _ _ _ _ (accepted-sends _ (a .pre)) (c .before .before .before .before .before .before .before .before .before .before .if1 .left) (c .before .before .before .before .before .no-laid .ensures) (c .before .before .before .before .before .before .blank .ensures) (s .send .ensures))
-    (c .ended .ensures)
+    let e = c .before .before .before .before .before in
+    let f = end-found _ _ _ _ (e .ending-of .result) (e .ending-of .ensures) (c .before .before .before .before .if2 .taken) in
+    accepted-by _ _ _ _ _ _ _ (decide-end _ _ _ _ _ (c .before .before .before .before .before .before .if1 .left) ∙ f .0) (f .1) (c .before .before .accepted .ensures)
 
 refused-requires-2 : tie.Need-refused-requires-2
 refused-requires-2 c κs = search needs
@@ -62,10 +47,7 @@ accept-spec =
     refused-requires
     returns
     ending-of-requires
-    blank-requires
-    no-laid-requires
-    send-requires
-    ended-requires
+    accepted-requires
     same-length
     returns-2
     refused-requires-2

@@ -2,6 +2,7 @@
 use mathlib.Core.Path.{refl}
 use borrow.Author.Needs.{needs}
 use borrow.Author.Tests.{eq-eqb, ne-eqb}
+use Rattle.desk.proofs.EndLaws.{accept-plain}
 use Rattle.desk.proofs.PostLaws.{plain-by, refused-by, decide-plain, interrogate-plain, interrogate-area}
 use Rattle.desk.specs.Orders.{sentAnswer}
 use Rattle.desk.proofs.posted.sent.Statement.{statement}
@@ -41,7 +42,7 @@ returns-3 : tie.Need-returns-3
 unfolding sentAnswer
 returns-3 c =
     rw (ne-eqb _ _ (c .before .before .before .before .before .before .before .if1 .left), ne-eqb _ _ (c .before .before .before .before .before .before .if2 .left), eq-eqb _ _ (c .before .before .before .before .before .if3 .taken))
-    (plain-by _ _ _ _ _ _ _ _ _ (decide-plain _ _ _ _ _ refl) (rw (c .before .before .before .before .number-at .ensures) at (c .before .before .accept .ensures)))
+    (plain-by _ _ _ _ _ _ _ _ _ (decide-plain _ _ _ _ _ (accept-plain _ _)) (rw (c .before .before .before .before .number-at .ensures) at (c .before .before .accept .ensures)))
 
 number-at-requires-2 : tie.Need-number-at-requires-2
 number-at-requires-2 c κs = search needs

@@ -18,7 +18,7 @@ refused-requires : tie.Need-refused-requires
 refused-requires c κs = search needs
 
 returns : tie.Need-returns
-returns c = refused-plain _ _ _ _ _ _ _ (c .refused .ensures) (c .before .refuse .ensures) (admit-18 _ _ 0 (sym (c .before .before .before .admits .ensures) ∙ c .before .before .if1 .left))
+returns c = refused-plain _ _ _ _ _ _ _ (c .refused .ensures) (c .before .refuse .ensures) (admit-18 _ _ (sym (c .before .before .before .admits .ensures) ∙ c .before .before .if1 .left))
 
 lowest-free-requires : tie.Need-lowest-free-requires
 lowest-free-requires c κs = search needs
@@ -32,8 +32,8 @@ no-laid-requires c κs = search needs
 send-requires : tie.Need-send-requires
 send-requires c κs = search needs
 
-cast-take : tie.Need-cast-take
-cast-take c = search needs
+cast-t19 : tie.Need-cast-t19
+cast-t19 c = search needs
 
 take-requires : tie.Need-take-requires
 take-requires c κs = search needs
@@ -63,7 +63,7 @@ admit-spec =
     blank-requires
     no-laid-requires
     send-requires
-    cast-take
+    cast-t19
     take-requires
     no-marks-requires
     same-length

@@ -18,6 +18,9 @@ place-of-requires c κs = search needs
 restricted-requires : tie.Need-restricted-requires
 restricted-requires c κs = search needs
 
+second-requires : tie.Need-second-requires
+second-requires c κs = search needs
+
 refuse-requires : tie.Need-refuse-requires
 refuse-requires c κs = search needs
 
@@ -25,7 +28,7 @@ refused-requires : tie.Need-refused-requires
 refused-requires c κs = search needs
 
 returns : tie.Need-returns
-returns c = refused-plain _ _ _ _ _ _ _ (c .refused .ensures) (c .before .refuse .ensures) (setup-16 _ _ _ _ _ _ _ (sym (c .before .before .before .before .before .before .set-up-ok .ensures) ∙ c .before .before .if1 .left))
+returns c = refused-plain _ _ _ _ _ _ _ (c .refused .ensures) (c .before .refuse .ensures) (setup-16 _ _ _ _ _ _ _ (sym (c .before .before .before .before .before .before .before .set-up-ok .ensures) ∙ c .before .before .if1 .left))
 
 refuse-requires-2 : tie.Need-refuse-requires-2
 refuse-requires-2 c κs = search needs
@@ -36,7 +39,7 @@ refused-requires-2 c κs = search needs
 returns-2 : tie.Need-returns-2
 returns-2 c =
     refused-plain _ _ _ _ _ _ _ (c .refused2 .ensures) (c .before .refuse2 .ensures)
-    (setup-14 _ _ _ _ _ _ _ (sym (c .before .before .before .before .before .before .before .set-up-ok .ensures) ∙ c .before .before .before .if1 .taken) (c .before .before .if2 .taken))
+    (setup-14 _ _ _ _ _ _ _ (sym (c .before .before .before .before .before .before .before .before .set-up-ok .ensures) ∙ c .before .before .before .if1 .taken) (c .before .before .if2 .taken))
 
 refuse-requires-3 : tie.Need-refuse-requires-3
 refuse-requires-3 c κs = search needs
@@ -47,7 +50,7 @@ refused-requires-3 c κs = search needs
 returns-3 : tie.Need-returns-3
 returns-3 c =
     refused-plain _ _ _ _ _ _ _ (c .refused3 .ensures) (c .before .refuse3 .ensures)
-    (setup-15 _ _ _ _ _ _ _ (sym (c .before .before .before .before .before .before .before .before .set-up-ok .ensures) ∙ c .before .before .before .before .if1 .taken) (c .before .before .before .if2 .left) (sym (c .before .before .before .before .before .before .before .records-ok .ensures) ∙ c .before .before .if3 .left))
+    (setup-15 _ _ _ _ _ _ _ (sym (c .before .before .before .before .before .before .before .before .before .set-up-ok .ensures) ∙ c .before .before .before .before .if1 .taken) (c .before .before .before .if2 .left) (sym (c .before .before .before .before .before .before .before .before .records-ok .ensures) ∙ c .before .before .if3 .left))
 
 refuse-requires-4 : tie.Need-refuse-requires-4
 refuse-requires-4 c κs = search needs
@@ -58,33 +61,33 @@ refused-requires-4 c κs = search needs
 returns-4 : tie.Need-returns-4
 returns-4 c =
     refused-plain _ _ _ _ _ _ _ (c .refused4 .ensures) (c .before .refuse4 .ensures)
-    (setup-17 _ _ _ _ _ _ _ (sym (c .before .before .before .before .before .before .before .before .before .set-up-ok .ensures) ∙ c .before .before .before .before .before .if1 .taken) (c .before .before .before .before .if2 .left) (sym (c .before .before .before .before .before .before .before .before .records-ok .ensures) ∙ c .before .before .before .if3 .taken)
-    (c .before .before .before .before .before .before .before .place-of .result) (c .before .before .before .before .before .before .before .place-of .ensures) (c .before .before .if4 .taken))
+    (setup-17 _ _ _ _ _ _ _ (sym (c .before .before .before .before .before .before .before .before .before .before .set-up-ok .ensures) ∙ c .before .before .before .before .before .if1 .taken) (c .before .before .before .before .if2 .left) (sym (c .before .before .before .before .before .before .before .before .before .records-ok .ensures) ∙ c .before .before .before .if3 .taken)
+    (c .before .before .before .before .before .before .before .before .place-of .result) (c .before .before .before .before .before .before .before .before .place-of .ensures) (c .before .before .if4 .taken))
 
 admit-requires : tie.Need-admit-requires
 admit-requires c κs =
-    let k = setup-identifier _ _ _ (sym (c .before .before .before .before .before .before .before .before .before .set-up-ok .ensures) ∙ c .before .before .before .before .before .if1 .taken) in
-    (c .before .before .before .before .before .before .before .before .before .before .before .before .before .before .pre, (k, c .before .before .before .before .if2 .left))
+    let k = setup-identifier _ _ _ (sym (c .before .before .before .before .before .before .before .before .before .before .set-up-ok .ensures) ∙ c .before .before .before .before .before .if1 .taken) in
+    (c .before .before .before .before .before .before .before .before .before .before .before .before .before .before .before .pre, (k, c .before .before .before .before .if2 .left))
 
 same-length : tie.Need-same-length
 same-length c = search needs
 
 returns-5 : tie.Need-returns-5
 returns-5 c =
-    let p = c .before .before .before .before .before .before .before .before .before in
-    let e = setup-party _ _ _ _ _ _ _ (sym (c .before .before .before .before .before .before .before .before .before .before .before .before .set-up-ok .ensures) ∙ c .before .before .before .before .before .before .before .before .if1 .taken) (c .before .before .before .before .before .before .before .if2 .left) (sym (c .before .before .before .before .before .before .before .before .before .before .before .records-ok .ensures) ∙ c .before .before .before .before .before .before .if3 .taken)
-    (c .before .before .before .before .before .before .before .before .before .before .place-of .result) (c .before .before .before .before .before .before .before .before .before .before .place-of .ensures) (c .before .before .before .before .before .if4 .left) (p .restricted .result) (p .restricted .ensures)
+    let p = c .before .before .before .before .before .before .before .before .before .before in
+    let e = setup-party _ _ _ _ _ _ _ (sym (c .before .before .before .before .before .before .before .before .before .before .before .before .before .set-up-ok .ensures) ∙ c .before .before .before .before .before .before .before .before .if1 .taken) (c .before .before .before .before .before .before .before .if2 .left) (sym (c .before .before .before .before .before .before .before .before .before .before .before .before .records-ok .ensures) ∙ c .before .before .before .before .before .before .if3 .taken)
+    (c .before .before .before .before .before .before .before .before .before .before .before .place-of .result) (c .before .before .before .before .before .before .before .before .before .before .before .place-of .ensures) (c .before .before .before .before .before .if4 .left) (p .restricted .result) (p .restricted .ensures)
     ∙ party-admit _ (p .restricted .result) (c .before .before .before .before .if5 .taken) in
-    same-plain _ _ _ _ _ _ _ e (c .before .before .admit .ensures)
+    same-plain _ _ _ _ _ _ _ e (rw (c .before .before .before .before .before .before .before .before .before .second .ensures) at (c .before .before .admit .ensures))
 
 keeps-requires : tie.Need-keeps-requires
 keeps-requires c κs = search needs
 
 returns-6 : tie.Need-returns-6
 returns-6 c =
-    let p = c .before .before .before .before .before .before in
-    let e = setup-party _ _ _ _ _ _ _ (sym (c .before .before .before .before .before .before .before .before .before .set-up-ok .ensures) ∙ c .before .before .before .before .before .if1 .taken) (c .before .before .before .before .if2 .left) (sym (c .before .before .before .before .before .before .before .before .records-ok .ensures) ∙ c .before .before .before .if3 .taken)
-    (c .before .before .before .before .before .before .before .place-of .result) (c .before .before .before .before .before .before .before .place-of .ensures) (c .before .before .if4 .left) (p .restricted .result) (p .restricted .ensures)
+    let p = c .before .before .before .before .before .before .before in
+    let e = setup-party _ _ _ _ _ _ _ (sym (c .before .before .before .before .before .before .before .before .before .before .set-up-ok .ensures) ∙ c .before .before .before .before .before .if1 .taken) (c .before .before .before .before .if2 .left) (sym (c .before .before .before .before .before .before .before .before .before .records-ok .ensures) ∙ c .before .before .before .if3 .taken)
+    (c .before .before .before .before .before .before .before .before .place-of .result) (c .before .before .before .before .before .before .before .before .place-of .ensures) (c .before .before .if4 .left) (p .restricted .result) (p .restricted .ensures)
     ∙ party-free _ (p .restricted .result) (c .before .if5 .left) in
     free-plain _ _ _ _ _ (c .keeps .ensures) e
 
@@ -96,6 +99,7 @@ set-up-spec =
     records-ok-requires
     place-of-requires
     restricted-requires
+    second-requires
     refuse-requires
     refused-requires
     returns
