@@ -117,6 +117,7 @@ fn say_answer(answer: Answer) {
         Answer::Diverted => say_other(),
         Answer::Rejected => say_other(),
         Answer::Cancelled => say_other(),
+        Answer::Moved { post } => say_other(),
     }
 }
 

@@ -175,9 +175,10 @@ module _ (d : Desk) (place : ℕ) where
         → (r ≡ acceptedStep d place) × (area ≡ plainArea d area (acceptAnswer d place))
     unfolding acceptedStep acceptAnswer moveAnswer plainArea layAll layFrom
     accepted-moves h r e =
-        let two : placeIn (placesOf d) place .more ≡ true = ap (λ (x : Place). x .more) (sym z) ∙ h in
-        (rw two (e ∙ ap (λ (x : Place). movedStep d place (x .second)) z),
-        rw two (go (admitsOf (d .profile .shares) (clearOf (placesOf d) place) (placeIn (placesOf d) place .second))))
+        let two : placeIn (placesOf d) place .more ≡ true = ap (λ (x : Place). x .more) (sym z) ∙ h in (
+          rw two (e ∙ ap (λ (x : Place). movedStep d place (x .second)) z),
+          rw two (go (admitsOf (d .profile .shares) (clearOf (placesOf d) place) (placeIn (placesOf d) place .second))),
+        )
       where
         go : (b : Bool) → area ≡ plainArea d area (unless (not b) 18 (answer.Moved (placeIn (placesOf d) place .second)))
         go true = refl
@@ -218,6 +219,7 @@ accepted-step d identifier = go (placeIn (placesOf d) place .more) (admitsOf (d 
 pub accepted-by : (d : Desk) (identifier place : ℕ) (b : Answer) (r : Stepped) (l m : List ℕ) → b ≡ acceptAnswer d (placeOf (placesOf d) identifier .place)
     → place ≡ placeOf (placesOf d) identifier .place → (r ≡ acceptedStep d place) × (m ≡ plainArea d l (acceptAnswer d place))
     → (r ≡ plainStep d (named identifier) b) × (m ≡ plainArea d l b)
-accepted-by d identifier place b r l m q h z =
-    (z .0 ∙ ap (λ (i : ℕ). acceptedStep d i) h ∙ accepted-step d identifier ∙ ap (λ (y : Answer). plainStep d (named identifier) y) (sym q),
-    z .1 ∙ ap (λ (i : ℕ). plainArea d l (acceptAnswer d i)) h ∙ ap (λ (y : Answer). plainArea d l y) (sym q))
+accepted-by d identifier place b r l m q h z = (
+  z .0 ∙ ap (λ (i : ℕ). acceptedStep d i) h ∙ accepted-step d identifier ∙ ap (λ (y : Answer). plainStep d (named identifier) y) (sym q),
+  z .1 ∙ ap (λ (i : ℕ). plainArea d l (acceptAnswer d i)) h ∙ ap (λ (y : Answer). plainArea d l y) (sym q),
+)

@@ -68,9 +68,7 @@ fn moved(desk: Desk, place: u8, second: u8) -> Stepped
     }
     let next = places::move_on(places, place);
     Stepped {
-        answer: Answer::Moved {
-            post: second,
-        },
+        answer: Answer::Moved { post: second },
         laid: sending::no_laid(),
         desk: Desk {
             profile: profile,

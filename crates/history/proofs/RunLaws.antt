@@ -1,9 +1,11 @@
 -- Along any history the desk stays one that 1 passes, and its used places are the calls that the history has waiting. Assumes nothing.
-use Prim.Native.Nat.{ℕ}
-use mathlib.Core.Path.{_≡_, refl, ap, _∙_, subst}
+use Prim.Native.Nat.{ℕ, _<_}
+use mathlib.Core.Path.{_≡_, refl, sym, ap, _∙_, subst}
 use mathlib.Core.Bool.{Bool, true, false, cond}
 use mathlib.Core.List.{List, [], _∷_, _++_}
-use lib.ListN.{length}
+use native.Mathlib.Omega.{arith}
+use lib.ListN.{length, take, set}
+use borrow.Author.Tests.{eqb-true}
 use Rattle.codec.specs.Codec.{Read, got, no}
 use Rattle.codec.specs.Stops.{refusal, noStop}
 use Rattle.codec.proofs.Good.{both-right, not-both}
@@ -12,15 +14,19 @@ use Rattle.profile.specs.declared.Profile.{Profile}
 use Rattle.message.specs.Reading.{readOf}
 use Rattle.message.specs.Values.{blank, identifierIn}
 use Rattle.message.specs.declared.Value.{Value}
+use Rattle.places.specs.Held.{noPlace, placeIn, admitsOf}
 use Rattle.places.specs.Grounds.{placesOk}
-use Rattle.places.specs.Spots.{placeOf, lowestFree}
+use Rattle.places.specs.Spots.{spotAt, placeOf, lowestFree, placeFor, takeOf, clearOf, movedOn, moveOf}
+use Rattle.places.specs.declared.Place.{Place}
 use Rattle.places.specs.declared.Spot.{Spot}
-use Rattle.places.proofs.HeldLaws.{length-take, length-clear, length-none}
-use Rattle.places.proofs.SpotLaws.{spot-found, lowest-free-exactly}
+use Rattle.places.proofs.HeldLaws.{set-by, none-at, length-take, length-clear, length-none}
+use Rattle.places.proofs.SpotLaws.{WaitsFirst, spot-found, lowest-free-exactly, place-of-exactly}
+use Rattle.places.proofs.MoveLaws.{move-is, length-move, clear-free, move-keeps}
+use Rattle.records.specs.Records.{noParty}
 use Rattle.places.proofs.PlaceLaws.{take-keeps, clear-keeps, none-waiting-ok}
 use Rattle.desk.specs.Desks.{deskWith, openOf}
 use Rattle.desk.specs.Orders.{placesOf}
-use Rattle.desk.specs.Steps.{nothing, begins, ends, effectBy, effectOf, valueBy, identifierOf, deskAfter}
+use Rattle.desk.specs.Steps.{nothing, begins, moves, ends, effectBy, effectOf, valueBy, identifierOf, Spoken, secondFor, spokenOf, callFor, postOf, deskAfter}
 use Rattle.desk.specs.declared.Answer.{Answer}
 use Rattle.desk.specs.declared.Answer.the-variants as answer
 use Rattle.desk.specs.declared.Desk.{Desk}
@@ -29,48 +35,109 @@ use Rattle.desk.specs.declared.Event.the-variants as event
 use Rattle.desk.specs.declared.Opened.{Opened}
 use Rattle.desk.proofs.SetUps.{step-desk, admitted-so}
 use Rattle.desk.proofs.Endings.{isEnding, ended-waits}
-use Rattle.history.specs.Histories.{Call, History, stepFor, runOf, leftBy, Waiting, without, namedBy, spokenOf, answered, afterwards, waitingAfter, waitingOf}
-use Rattle.history.proofs.WaitingLaws.{Same, same-none, same-take, same-clear}
+use Rattle.desk.proofs.Moves.{MovedCall, moved-so}
+use Rattle.history.specs.Histories.{Call, History, stepFor, runOf, leftBy, Waiting, without, namedBy, meantBy, askedSecond, answered, afterwards, waitingAfter, waitingOf}
+use Rattle.history.proofs.WaitingLaws.{waitingFor, Same, same-none, same-take, same-clear}
+
+-- a second post is another than the one where the call waits
+abbrev pub Other : Place → Type 0
+Other p = p .used ≡ true → p .more ≡ true → p .post ≡ p .second → ⊥
 
 -- a desk along a history: 32 places that 1 passes, and the calls w wait in them
 pub record Along (d : Desk) (w : List Waiting) : Type 0 where
   pub size : length (placesOf d) ≡ 32
   pub sound : placesOk (d .profile .shares) (placesOf d) ≡ true
   pub same : Same (placesOf d) w
+  pub other : (i : ℕ) → i < 32 → Other (placeIn (placesOf d) i)
+
+-- one place changed to one that keeps that
+other-set : (l : List Place) → length l ≡ 32 → (i : ℕ) (p : Place) → i < 32 → Other p → ((j : ℕ) → j < 32 → Other (placeIn l j))
+    → (j : ℕ) → j < 32 → Other (placeIn (set l i p) j)
+other-set l n i p h o all j k = set-by l i p (omega (arith, n, h)) Other j (λ d. o) (λ d. all j k)
 
 -- ---- one call
 
 module _ (d : Desk) (w : List Waiting) (a : Along d w) (c : Call) where
+  abbrev spoken : Spoken
+  spoken = spokenOf (d .profile) (take (c .count) (c .rows)) (c .message) (c .event)
+
   abbrev identifier : ℕ
   identifier = identifierOf (d .profile) (c .message) (c .event)
 
   along-ends : isEnding (stepFor d c .answer) ≡ true → Along (deskAfter d (ends identifier)) (without identifier w)
-  unfolding deskAfter
+  unfolding deskAfter clearOf
   along-ends z =
       let at = spot-found (placeOf (placesOf d) identifier) (ended-waits d (c .rows) (c .count) (c .message) (c .area) (c .event) z) in
+      let f = place-of-exactly (placesOf d) identifier (placeOf (placesOf d) identifier .place) at in
       record {
         size = length-clear (placesOf d) _ ∙ a .size;
         sound = clear-keeps (d .profile .shares) (placesOf d) (a .size) _ (a .sound);
         same = same-clear (d .profile .shares) (placesOf d) w (a .size) (a .sound) (a .same) _ identifier at;
+        other = other-set (placesOf d) (a .size) _ noPlace (f .inside) (λ u. not-both u) (a .other);
       }
 
-  along-begins : (post place : ℕ) → stepFor d c .answer ≡ answer.Admitted post place → Along (deskAfter d (begins (record { identifier = identifier; post = post }))) ((identifier, post) ∷ w)
-  unfolding deskAfter
+  along-begins : (post place : ℕ) → stepFor d c .answer ≡ answer.Admitted post place
+      → Along (deskAfter d (begins (callFor spoken post))) (record { identifier = identifier; post = post; second = spoken .second } ∷ w)
+  unfolding deskAfter takeOf
   along-begins post place z =
       let k = admitted-so d (c .rows) (c .count) (c .message) (c .area) post place (c .event) z in
       let at = spot-found (lowestFree (placesOf d)) (ap (λ (s : Spot). s .found) (k .spot)) in
       let f = lowest-free-exactly (placesOf d) (lowestFree (placesOf d) .place) at in
       record {
         size = length-take (placesOf d) _ _ ∙ a .size;
-        sound = take-keeps (d .profile .shares) (placesOf d) (a .size) _ _ (a .sound) (record { small = k .small; below = k .below }) (k .new) (k .admits) at;
-        same = same-take (placesOf d) w (a .size) (a .same) _ _ (f .inside) (f .free);
+        sound = take-keeps (d .profile .shares) (placesOf d) (a .size) _ _ (a .sound) (record { small = k .small; below = k .below; second = k .second }) (k .new) (k .admits) at;
+        same = same-take (placesOf d) w (a .size) (a .same) _ (callFor spoken post) (f .inside) (f .free);
+        other = other-set (placesOf d) (a .size) _ (placeFor (callFor spoken post)) (f .inside) (λ u m e. k .other m e) (a .other);
       }
+
+  -- a move: an end at one post and an admission, in the same place, at the other
+  module _ (post : ℕ) (z : stepFor d c .answer ≡ answer.Moved post) where
+    abbrev place : ℕ
+    place = placeOf (placesOf d) identifier .place
+
+    moved : MovedCall d identifier (postOf (c .event)) post
+    moved = moved-so d (c .rows) (c .count) (c .message) (c .area) post (c .event) z
+
+    at : placeOf (placesOf d) identifier ≡ spotAt place
+    at = spot-found (placeOf (placesOf d) identifier) (moved .waiting)
+
+    first : WaitsFirst (placesOf d) identifier place
+    first = place-of-exactly (placesOf d) identifier place at
+
+    same-moved : Same (moveOf (placesOf d) place) (waitingFor (movedOn (placeIn (placesOf d) place)) ∷ without identifier w)
+    same-moved =
+        subst (λ (l : List Place). Same l (waitingFor (movedOn (placeIn (placesOf d) place)) ∷ without identifier w)) (sym (move-is (placesOf d) place))
+        (same-take (clearOf (placesOf d) place) (without identifier w) (length-clear (placesOf d) place ∙ a .size)
+        (same-clear (d .profile .shares) (placesOf d) w (a .size) (a .sound) (a .same) place identifier at)
+        place (movedOn (placeIn (placesOf d) place)) (first .inside) (ap (λ (p : Place). p .used) (clear-free (placesOf d) place)))
+
+    moved-as : waitingFor (movedOn (placeIn (placesOf d) place)) ≡ record { identifier = identifier; post = post; second = noParty }
+    moved-as =
+        ap (λ (i : ℕ). record { identifier = i; post = placeIn (placesOf d) place .second; second = noParty }) (first .same)
+        ∙ ap (λ (q : ℕ). record { identifier = identifier; post = q; second = noParty }) (moved .second)
+
+    along-moves : Along (deskAfter d (moves identifier)) (record { identifier = identifier; post = post; second = noParty } ∷ without identifier w)
+    unfolding deskAfter moveOf takeOf
+    along-moves =
+        record {
+          size = length-move (placesOf d) place ∙ a .size;
+          sound = move-keeps (d .profile .shares) (placesOf d) (a .size) identifier place (a .sound) at (moved .two)
+              (ap (λ (q : ℕ). admitsOf (d .profile .shares) (clearOf (placesOf d) place) q) (moved .second) ∙ moved .admits);
+          same = subst (λ (x : Waiting). Same (moveOf (placesOf d) place) (x ∷ without identifier w)) moved-as same-moved;
+          other = other-set (placesOf d) (a .size) place (placeFor (movedOn (placeIn (placesOf d) place))) (first .inside) (λ u m. not-both m) (a .other);
+        }
+
+    -- the post that it moves to is another than the one that accepted it
+    pub moved-other : postOf (c .event) ≡ post → ⊥
+    moved-other e =
+        a .other place (first .inside) (first .used) (moved .two)
+        (eqb-true _ _ (moved .here) ∙ e ∙ sym (moved .second))
 
   along-nothing : Along (deskAfter d nothing) w
   unfolding deskAfter
-  along-nothing = record { size = a .size; sound = a .sound; same = a .same }
+  along-nothing = record { size = a .size; sound = a .sound; same = a .same; other = a .other }
 
-  along-answer : (x : Answer) → stepFor d c .answer ≡ x → Along (deskAfter d (effectBy identifier x)) (answered identifier x w)
+  along-answer : (x : Answer) → stepFor d c .answer ≡ x → Along (deskAfter d (effectBy spoken x)) (answered identifier (spoken .second) x w)
   along-answer (answer.Refused s) z = along-nothing
   along-answer answer.Acks z = along-nothing
   along-answer (answer.State k) z = along-nothing
@@ -80,28 +147,35 @@ module _ (d : Desk) (w : List Waiting) (a : Along d w) (c : Call) where
   along-answer answer.Diverted z = along-ends (ap isEnding z)
   along-answer answer.Rejected z = along-ends (ap isEnding z)
   along-answer answer.Cancelled z = along-ends (ap isEnding z)
+  along-answer (answer.Moved post) z = along-moves post z
 
-  -- the event speaks of one call, to the history and to the desk
-  spoken-same : (e : Event) → spokenOf (d .profile) (c .message) e ≡ identifierOf (d .profile) (c .message) e
+  -- the event means one call, to the history and to the desk, and the same post is asked second
+  pub meant-same : (e : Event) → meantBy (d .profile) (c .message) e ≡ identifierOf (d .profile) (c .message) e
   unfolding blank
-  spoken-same (event.Message post bits) = go (readOf (d .profile) (c .message) bits)
+  meant-same (event.Message post bits) = go (readOf (d .profile) (c .message) bits)
     where
       go : (r : Read Value) → namedBy r ≡ identifierIn (valueBy r)
       go (got v n) = refl
       go (no s) = refl
-  spoken-same (event.SetUp caller called identifier) = refl
-  spoken-same (event.Reject post identifier) = refl
-  spoken-same (event.Cancel identifier) = refl
+  meant-same (event.SetUp caller called identifier) = refl
+  meant-same (event.Reject post identifier) = refl
+  meant-same (event.Cancel identifier) = refl
+
+  asked-same : (e : Event) → askedSecond (take (c .count) (c .rows)) e ≡ secondFor (take (c .count) (c .rows)) e
+  asked-same (event.Message post bits) = refl
+  asked-same (event.SetUp caller called identifier) = refl
+  asked-same (event.Reject post identifier) = refl
+  asked-same (event.Cancel identifier) = refl
 
   -- the desk does with its places just what the history takes the answer to mean
   pub along-step : Along (stepFor d c .desk) (afterwards (d .profile) w c (stepFor d c .answer))
   unfolding afterwards effectOf
   along-step =
-      rw (spoken-same (c .event), step-desk d (c .rows) (c .count) (c .message) (c .area) (c .event))
+      rw (meant-same (c .event), asked-same (c .event), step-desk d (c .rows) (c .count) (c .message) (c .area) (c .event))
       (along-answer (stepFor d c .answer) refl)
 
 -- a call leaves the profile as it is
-step-profile : (d : Desk) (c : Call) → stepFor d c .desk .profile ≡ d .profile
+pub step-profile : (d : Desk) (c : Call) → stepFor d c .desk .profile ≡ d .profile
 unfolding deskAfter
 step-profile d c = ap (λ (x : Desk). x .profile) (step-desk d (c .rows) (c .count) (c .message) (c .area) (c .event))
 
@@ -145,7 +219,7 @@ opened p = go (profileOk p)
 module _ (p : Profile) (opens : profileOk p ≡ true) where
   along-open : Along (deskWith p) []
   unfolding profileOk
-  along-open = record { size = length-none; sound = none-waiting-ok (p .shares) (both-right _ _ opens); same = same-none }
+  along-open = record { size = length-none; sound = none-waiting-ok (p .shares) (both-right _ _ opens); same = same-none; other = λ i h u. not-both (rw (none-at i) at u) }
 
   pub along : (calls : List Call) → Along (leftBy (deskWith p) calls) (waitingOf p (runOf (deskWith p) calls))
   along calls = along-run calls (deskWith p) [] along-open

@@ -3,22 +3,21 @@ use Prim.Native.Nat.{ℕ, _<_, _≤_}
 use mathlib.Core.Path.{_≡_, refl, sym, ap, _∙_, subst}
 use mathlib.Core.Bool.{Bool, true, false, not}
 use mathlib.Core.List.{List}
-use mathlib.Core.Logic.{_⊎_, inl, inr, ⊎-elim}
+use mathlib.Core.Logic.{_⊎_}
 use native.Mathlib.Omega.{arith}
 use lib.Dec.{eqb, ltb}
 use lib.ListN.{length}
 use borrow.Author.Tests.{ne-eqb, leb-true}
-use Rattle.bits.proofs.SetLaws.{lt-or}
 use Rattle.codec.specs.Codec.{both, noneOf}
 use Rattle.codec.specs.Stops.{refusal}
 use Rattle.codec.proofs.Good.{both-left, both-right, both-true, not-both}
-use Rattle.profile.specs.Rules.{shareIn, profileOk}
+use Rattle.profile.specs.Rules.{shareIn, sharesOk, profileOk}
 use Rattle.profile.specs.declared.Profile.{Profile}
 use Rattle.profile.specs.declared.Share.{Share}
-use Rattle.places.specs.Held.{admitsOf, heldOf, owedOthers, freeOf}
+use Rattle.places.specs.Held.{admitsOf, heldOf}
 use Rattle.places.specs.Grounds.{placesOk}
 use Rattle.places.specs.Spots.{lowestFree}
-use Rattle.places.proofs.PlaceLaws.{passes, admits-rule, rule-admits, reserved-admitted}
+use Rattle.places.proofs.PlaceLaws.{passes}
 use Rattle.records.specs.Records.{recordsOk}
 use Rattle.records.specs.declared.Identity.{Identity}
 use Rattle.records.proofs.PartyLaws.{party-below}
@@ -34,7 +33,8 @@ use Rattle.desk.specs.declared.Event.the-variants as event
 use Rattle.desk.proofs.AnswerLaws.{step-answer, pastOne, Can, event-ok}
 use Rattle.desk.proofs.SetUps.{isRefused, new-call}
 use Rattle.history.specs.Histories.{Call, History, stepFor, runOf, leftBy, Waiting, waitingOf, isWaiting, heldBy, freeBy, owedToOthers, isRestrictedCall}
-use Rattle.history.proofs.WaitingLaws.{held-same, free-same, owed-same, waiting-same}
+use Rattle.history.proofs.WaitingLaws.{Same, held-same, waiting-same}
+use Rattle.history.proofs.RuleLaws.{reserved-yes, none-no, else-yes, no-none}
 use Rattle.history.proofs.RunLaws.{along, run-profile}
 
 -- ---- past 1
@@ -47,7 +47,7 @@ unfolding pastOne
 past-not-one c e = let low = leb-true 2 c (both-left _ _ e) in rw (ne-eqb c 1 (λ k. absurd (omega (arith, k)))) refl
 
 can-not-one : (e : Event) → Can notOne e
-can-not-one (event.Message post bits) = (refl, ((λ k. refl), (refl, refl)))
+can-not-one (event.Message post bits) = (refl, ((λ k. refl), (refl, (refl, λ k. refl))))
 can-not-one (event.SetUp caller called identifier) = (refl, λ post place. refl)
 can-not-one (event.Reject post identifier) = refl
 can-not-one (event.Cancel identifier) = refl
@@ -87,26 +87,20 @@ module _ (p : Profile) (opens : profileOk p ≡ true) (calls : List Call) where
   abbrev pub share : ℕ → Share
   share post = shareIn (p .shares .share) post
 
-  kept : next .profile ≡ p
+  pub kept : next .profile ≡ p
   kept = run-profile calls (deskWith p)
 
-  sound : placesOk (p .shares) (placesOf next) ≡ true
+  pub sound : placesOk (p .shares) (placesOf next) ≡ true
   sound = subst (λ (x : Profile). placesOk (x .shares) (placesOf next) ≡ true) kept (along p opens calls .sound)
 
   held : (post : ℕ) → heldBy waiting post ≡ heldOf (placesOf next) post
   held post = held-same (p .shares) (placesOf next) waiting (along p opens calls .size) sound (along p opens calls .same) post
 
-  free : freeBy waiting ≡ freeOf (placesOf next)
-  free = free-same (p .shares) (placesOf next) waiting (along p opens calls .size) sound (along p opens calls .same)
-
-  owed : (post : ℕ) → owedToOthers (p .shares) waiting post ≡ owedOthers (p .shares) (placesOf next) post
-  owed post = owed-same (p .shares) (placesOf next) waiting (along p opens calls .size) sound (along p opens calls .same) post
-
   -- the waiting calls of the history are those of the desk
   pub waiting-is : (identifier : ℕ) → isWaiting waiting identifier ≡ waits next identifier
   waiting-is identifier = waiting-same (p .shares) (placesOf next) waiting (along p opens calls .size) sound (along p opens calls .same) identifier
 
-  stays-ok : deskOk next ≡ true
+  pub stays-ok : deskOk next ≡ true
   unfolding deskOk
   stays-ok = both-true _ _ (ap profileOk kept ∙ opens) (along p opens calls .sound)
 
@@ -168,13 +162,20 @@ module _ (p : Profile) (opens : profileOk p ≡ true) (calls : List Call) where
       pub place : ℕ
       pub answer-is : stepFor next c .answer ≡ answer.Admitted post place
 
-    reserved-in : heldBy waiting post < share post .reserved → admitsOf (p .shares) (placesOf next) post ≡ true
+    fit : sharesOk (p .shares) ≡ true
     unfolding profileOk
-    reserved-in h = reserved-admitted (p .shares) (placesOf next) (both-right _ _ opens) post below (omega (arith, h, held post))
+    fit = both-right _ _ opens
+
+    abbrev waits-there : Same (placesOf next) waiting
+    waits-there = along p opens calls .same
+
+    abbrev places-are : length (placesOf next) ≡ 32
+    places-are = along p opens calls .size
 
     -- below its reserved number a post is never refused for want of a place, whatever the other posts did
     pub reserved-never-refused : heldBy waiting post < share post .reserved → IsAdmitted
-    reserved-never-refused h = record { place = lowestFree (placesOf next) .place; answer-is = yes (reserved-in h) }
+    reserved-never-refused h =
+        record { place = lowestFree (placesOf next) .place; answer-is = yes (reserved-yes (p .shares) fit (placesOf next) waiting places-are sound waits-there post below h) }
 
     -- the post is at its ceiling, or the free places are no more than the other posts are owed
     abbrev pub NoPlace : Type 0
@@ -182,50 +183,20 @@ module _ (p : Profile) (opens : profileOk p ≡ true) (calls : List Call) where
 
     -- otherwise it gets 18 if there is no place for it
     pub refused-18 : share post .reserved ≤ heldBy waiting post → NoPlace → stepFor next c .answer ≡ answer.Refused (refusal 18)
-    refused-18 h k = no (go (admitsOf (p .shares) (placesOf next) post) refl)
-      where
-        go : (b : Bool) → admitsOf (p .shares) (placesOf next) post ≡ b → b ≡ false
-        go true e =
-            let r = admits-rule (p .shares) (placesOf next) post e in
-            let lt = r .0 in
-            ⊎-elim
-            (λ a. absurd (omega (arith, a, lt, held post)))
-            (λ a. ⊎-elim (λ g. absurd (omega (arith, g, h, held post))) (λ g. absurd (omega (arith, a, g, free, owed post))) (r .1))
-            k
-        go false e = refl
+    refused-18 h k = no (none-no (p .shares) fit (placesOf next) waiting places-are sound waits-there post below h k)
 
     -- it gets 18 only then: not below its reserved number, and with no place for it
     pub only-then-18 : stepFor next c .answer ≡ answer.Refused (refusal 18) → (share post .reserved ≤ heldBy waiting post) × NoPlace
-    only-then-18 z = (enough, go (lt-or (heldOf (placesOf next) post) (share post .ceiling)))
+    only-then-18 z = no-none (p .shares) fit (placesOf next) waiting places-are sound waits-there post below (go (admitsOf (p .shares) (placesOf next) post) refl)
       where
-        not-yes : admitsOf (p .shares) (placesOf next) post ≡ true → ⊥
-        not-yes e = not-both (ap (λ (a : Answer). isRefused a) (sym (yes e) ∙ z))
-
-        enough : share post .reserved ≤ heldBy waiting post
-        enough = ⊎-elim (λ h. absurd (not-yes (reserved-in h))) (λ h. h) (lt-or (heldBy waiting post) (share post .reserved))
-
-        go : (heldOf (placesOf next) post < share post .ceiling) ⊎ (share post .ceiling ≤ heldOf (placesOf next) post) → NoPlace
-        go (inl h) =
-            ⊎-elim
-            (λ k. absurd (not-yes (rule-admits (p .shares) (placesOf next) post h (inr k))))
-            (λ k. inr (omega (arith, k, free, owed post)))
-            (lt-or (owedOthers (p .shares) (placesOf next) post) (freeOf (placesOf next)))
-        go (inr h) = inl (omega (arith, h, held post, under-ceiling post below))
+        go : (b : Bool) → admitsOf (p .shares) (placesOf next) post ≡ b → b ≡ false
+        go true e = not-both (ap (λ (a : Answer). isRefused a) (sym (yes e) ∙ z))
+        go false e = refl
 
     -- and is admitted else
     pub admitted-else : share post .reserved ≤ heldBy waiting post → (NoPlace → ⊥) → IsAdmitted
     admitted-else h k =
-        record {
-          place = lowestFree (placesOf next) .place;
-          answer-is = yes (rule-admits (p .shares) (placesOf next) post room (inr more));
-        }
-      where
-        room : heldOf (placesOf next) post < share post .ceiling
-        room =
-            ⊎-elim (λ a. a) (λ a. absurd (k (inl (omega (arith, a, held post, under-ceiling post below))))) (lt-or (heldOf (placesOf next) post) (share post .ceiling))
-
-        more : owedOthers (p .shares) (placesOf next) post < freeOf (placesOf next)
-        more = ⊎-elim (λ a. a) (λ a. absurd (k (inr (omega (arith, a, free, owed post))))) (lt-or (owedOthers (p .shares) (placesOf next) post) (freeOf (placesOf next)))
+        record { place = lowestFree (placesOf next) .place; answer-is = yes (else-yes (p .shares) fit (placesOf next) waiting places-are sound waits-there post below h k) }
 
     -- so: at its reserved number or above, a call gets 18 exactly if there is no place for it
     pub refused-exactly : share post .reserved ≤ heldBy waiting post

@@ -26,9 +26,17 @@ use Rattle.places.proofs.SpotLaws.{place-of-exactly, no-place-exactly, spot-fou
 use Rattle.places.proofs.PlaceLaws.{passes}
 use Rattle.history.specs.Histories.{Waiting, without, countBy, isWaiting, heldBy, freeBy, owedBy, owedToOthers}
 
+-- the call in a place
+abbrev pub callIn : Place → Waiting
+callIn p = record { identifier = p .identifier; post = p .post; second = record { found = p .more; post = p .second } }
+
+-- the call that is taken in
+abbrev pub waitingFor : Call → Waiting
+waitingFor x = record { identifier = x .identifier; post = x .post; second = record { found = x .more; post = x .second } }
+
 -- the call in a place passes a test
 unfoldable pub hasSuch : (Waiting → Bool) → Place → Bool
-hasSuch test p = both (p .used) (test (p .identifier, p .post))
+hasSuch test p = both (p .used) (test (callIn p))
 
 -- as many used places pass a test as waiting calls do, whatever the test
 unfoldable pub Same : List Place → List Waiting → Type 0
@@ -41,7 +49,7 @@ unfolding Same countBy hasSuch both
 same-none test = sym (sum-zero 32 (λ i. one (hasSuch test (placeIn noPlaces i))) (λ i. rw (none-at i) refl))
 
 module _ (l : List Place) (w : List Waiting) (n : length l ≡ 32) (s : Same l w) where
-  pub same-take : (i : ℕ) (x : Call) → i < 32 → placeIn l i .used ≡ false → Same (takeOf l i x) ((x .identifier, x .post) ∷ w)
+  pub same-take : (i : ℕ) (x : Call) → i < 32 → placeIn l i .used ≡ false → Same (takeOf l i x) (waitingFor x ∷ w)
   unfolding Same countBy takeOf hasSuch both
   same-take i x h free test =
       let e = count-set (λ (p : Place). one (hasSuch test p)) l n i (placeFor x) h in
@@ -50,12 +58,12 @@ module _ (l : List Place) (w : List Waiting) (n : length l ≡ 32) (s : Same l w
 
 -- a test that no call with the identifier passes
 abbrev apart : ℕ → (Waiting → Bool) → Waiting → Bool
-apart identifier test x = both (not (eqb (x .0) identifier)) (test x)
+apart identifier test x = both (not (eqb (x .identifier) identifier)) (test x)
 
-without-count : (identifier : ℕ) (test : Waiting → Bool) (w : List Waiting) → countBy test (without identifier w) ≡ countBy (apart identifier test) w
+pub without-count : (identifier : ℕ) (test : Waiting → Bool) (w : List Waiting) → countBy test (without identifier w) ≡ countBy (apart identifier test) w
 unfolding countBy without both
 without-count identifier test [] = refl
-without-count identifier test (x ∷ w) = go (eqb (x .0) identifier) (without-count identifier test w)
+without-count identifier test (x ∷ w) = go (eqb (x .identifier) identifier) (without-count identifier test w)
   where
     go : (b : Bool) → countBy test (without identifier w) ≡ countBy (apart identifier test) w
         → countBy test (cond b (without identifier w) (x ∷ without identifier w)) ≡ one (both (not b) (test x)) + countBy (apart identifier test) w
@@ -66,7 +74,7 @@ apart-such : (identifier : ℕ) (test : Waiting → Bool) (p : Place) → (p .us
 unfolding hasSuch both
 apart-such identifier test p h = go (p .used) refl
   where
-    go : (b : Bool) → p .used ≡ b → both b (apart identifier test (p .identifier, p .post)) ≡ both b (test (p .identifier, p .post))
+    go : (b : Bool) → p .used ≡ b → both b (apart identifier test (callIn p)) ≡ both b (test (callIn p))
     go true u = rw (ne-eqb (p .identifier) identifier (h u)) refl
     go false u = refl
 
@@ -92,11 +100,11 @@ unfolding countBy
 length-count [] = refl
 length-count (x ∷ w) = omega (arith, length-count w)
 
-such-here : (identifier : ℕ) (p : Place) → p .used ≡ true → p .identifier ≡ identifier → hasSuch (λ x. eqb (x .0) identifier) p ≡ true
+such-here : (identifier : ℕ) (p : Place) → p .used ≡ true → p .identifier ≡ identifier → hasSuch (λ x. eqb (x .identifier) identifier) p ≡ true
 unfolding hasSuch
 such-here identifier p u e = both-true _ _ u (eq-eqb (p .identifier) identifier e)
 
-such-not : (identifier : ℕ) (p : Place) → (p .used ≡ true → p .identifier ≡ identifier → ⊥) → hasSuch (λ x. eqb (x .0) identifier) p ≡ false
+such-not : (identifier : ℕ) (p : Place) → (p .used ≡ true → p .identifier ≡ identifier → ⊥) → hasSuch (λ x. eqb (x .identifier) identifier) p ≡ false
 unfolding hasSuch both
 such-not identifier p h = go (p .used) refl
   where
@@ -105,7 +113,7 @@ such-not identifier p h = go (p .used) refl
     go false u = refl
 
 module _ (l : List Place) (w : List Waiting) (s : Same l w) where
-  some-such : (test : Waiting → Bool) (i : ℕ) → i < 32 → hasSuch test (placeIn l i) ≡ true → 0 < countBy test w
+  pub some-such : (test : Waiting → Bool) (i : ℕ) → i < 32 → hasSuch test (placeIn l i) ≡ true → 0 < countBy test w
   unfolding Same
   some-such test i h e =
       let z : one (hasSuch test (placeIn l i)) ≡ 1 = ap one e in
@@ -143,7 +151,7 @@ module _ (shares : Shares) (l : List Place) (w : List Waiting) (n : length l ≡
 
   pub held-same : (q : ℕ) → heldBy w q ≡ heldOf l q
   unfolding heldBy heldOf waitsAt Same hasSuch
-  held-same q = s (λ x. eqb (x .1) q)
+  held-same q = s (λ x. eqb (x .post) q)
 
   pub used-same : length w ≡ usedOf l
   unfolding usedOf Same hasSuch
@@ -164,10 +172,10 @@ module _ (shares : Shares) (l : List Place) (w : List Waiting) (n : length l ≡
   unfolding isWaiting
   waiting-same identifier = go (placeOf l identifier .found) refl
     where
-      go : (b : Bool) → placeOf l identifier .found ≡ b → ltb 0 (countBy (λ x. eqb (x .0) identifier) w) ≡ b
+      go : (b : Bool) → placeOf l identifier .found ≡ b → ltb 0 (countBy (λ x. eqb (x .identifier) identifier) w) ≡ b
       go true e =
           let at = spot-found (placeOf l identifier) e in
           let f = place-of-exactly l identifier (placeOf l identifier .place) at in
-          lt-ltb 0 _ (some-such l w s (λ x. eqb (x .0) identifier) (placeOf l identifier .place) (f .inside) (such-here identifier (placeIn l (placeOf l identifier .place)) (f .used) (f .same)))
+          lt-ltb 0 _ (some-such l w s (λ x. eqb (x .identifier) identifier) (placeOf l identifier .place) (f .inside) (such-here identifier (placeIn l (placeOf l identifier .place)) (f .used) (f .same)))
       go false e =
-          le-ltb 0 _ (none-such l w s (λ x. eqb (x .0) identifier) (λ j h. such-not identifier (placeIn l j) (λ u d. no-place-exactly l identifier e j h u d)))
+          le-ltb 0 _ (none-such l w s (λ x. eqb (x .identifier) identifier) (λ j h. such-not identifier (placeIn l j) (λ u d. no-place-exactly l identifier e j h u d)))

@@ -1,10 +1,11 @@
 -- A history is what an outsider could have written down: each call with all that was lent, and its answer. No desk is in it. Which
 -- calls wait, and so what each post holds and is owed, is counted from it alone, and not as the desk counts.
-use Prim.Native.Nat.{ℕ, _+_, _-_}
-use mathlib.Core.Bool.{Bool, not, cond}
+use Prim.Native.Nat.{ℕ, _+_, _-_, _<_, _≤_}
+use mathlib.Core.Path.{_≡_}
+use mathlib.Core.Bool.{Bool, true, false, not, cond}
 use mathlib.Core.List.{List, [], _∷_}
 use lib.Dec.{eqb, ltb}
-use lib.ListN.{length}
+use lib.ListN.{length, take}
 use Rattle.codec.specs.Codec.{Read, got, no, both}
 use Rattle.profile.specs.Counting.{one, sum}
 use Rattle.profile.specs.Rules.{shareIn}
@@ -13,8 +14,9 @@ use Rattle.profile.specs.declared.Shares.{Shares}
 use Rattle.message.specs.Values.{identifierIn}
 use Rattle.message.specs.Reading.{readOf}
 use Rattle.message.specs.declared.Value.{Value}
-use Rattle.records.specs.Records.{recordsOk}
+use Rattle.records.specs.Records.{recordsOk, noParty, secondOf}
 use Rattle.records.specs.declared.Identity.{Identity}
+use Rattle.records.specs.declared.Party.{Party}
 use Rattle.records.specs.declared.Record.{Record}
 use Rattle.desk.specs.Grounds.{partyFor}
 use Rattle.desk.specs.Orders.{setUpOk}
@@ -55,42 +57,53 @@ leftBy d (c ∷ calls) = leftBy (stepFor d c .desk) calls
 
 -- ---- which calls wait
 
--- a waiting call: its identifier and its post
-abbrev pub Waiting : Type 0
-Waiting = ℕ × ℕ
+-- a waiting call: its identifier, the post where it waits now, and the post that is asked after that one, if there is such
+pub record Waiting : Type 0 where
+  pub identifier : ℕ
+  pub post : ℕ
+  pub second : Party
 
 unfoldable pub without : ℕ → List Waiting → List Waiting
 without identifier [] = []
-without identifier (x ∷ w) = cond (eqb (x .0) identifier) (without identifier w) (x ∷ without identifier w)
+without identifier (x ∷ w) = cond (eqb (x .identifier) identifier) (without identifier w) (x ∷ without identifier w)
 
 -- the call that a post's message names; of one that reads as none no call is meant, and it is refused
 abbrev pub namedBy : Read Value → ℕ
 namedBy (got v n) = identifierIn v
 namedBy (no s) = 0
 
--- the call that an event speaks of
-abbrev pub spokenOf : Profile → List ℕ → Event → ℕ
-spokenOf p l (event.Message post bits) = namedBy (readOf p l bits)
-spokenOf p l (event.SetUp caller called identifier) = identifier
-spokenOf p l (event.Reject post identifier) = identifier
-spokenOf p l (event.Cancel identifier) = identifier
+-- the call that an event means
+abbrev pub meantBy : Profile → List ℕ → Event → ℕ
+meantBy p l (event.Message post bits) = namedBy (readOf p l bits)
+meantBy p l (event.SetUp caller called identifier) = identifier
+meantBy p l (event.Reject post identifier) = identifier
+meantBy p l (event.Cancel identifier) = identifier
 
--- what an answer means for the waiting calls w, where the event spoke of this one: admitted, it begins to wait at the post that the answer
--- names; accepted, diverted, rejected or cancelled, it waits no more; by every other answer nothing changes
-abbrev pub answered : ℕ → Answer → List Waiting → List Waiting
-answered identifier (answer.Admitted post place) w = (identifier, post) ∷ w
-answered identifier answer.Proceed w = without identifier w
-answered identifier answer.Diverted w = without identifier w
-answered identifier answer.Rejected w = without identifier w
-answered identifier answer.Cancelled w = without identifier w
-answered identifier (answer.Refused s) w = w
-answered identifier answer.Acks w = w
-answered identifier (answer.State k) w = w
-answered identifier answer.Free w = w
+-- the post that is asked second about a call being set up, by the records that are lent with it
+abbrev pub askedSecond : List Record → Event → Party
+askedSecond rows (event.Message post bits) = noParty
+askedSecond rows (event.SetUp caller called identifier) = secondOf rows caller called
+askedSecond rows (event.Reject post identifier) = noParty
+askedSecond rows (event.Cancel identifier) = noParty
+
+-- what an answer means for the waiting calls w, where the event meant this one: admitted, it begins to wait at the post that the answer
+-- names; moved, it ends where it waited and begins to wait at the post that the answer names, with none after that; accepted, diverted,
+-- rejected or cancelled, it waits no more; by every other answer nothing changes
+abbrev pub answered : ℕ → Party → Answer → List Waiting → List Waiting
+answered identifier second (answer.Admitted post place) w = record { identifier = identifier; post = post; second = second } ∷ w
+answered identifier second (answer.Moved post) w = record { identifier = identifier; post = post; second = noParty } ∷ without identifier w
+answered identifier second answer.Proceed w = without identifier w
+answered identifier second answer.Diverted w = without identifier w
+answered identifier second answer.Rejected w = without identifier w
+answered identifier second answer.Cancelled w = without identifier w
+answered identifier second (answer.Refused s) w = w
+answered identifier second answer.Acks w = w
+answered identifier second (answer.State k) w = w
+answered identifier second answer.Free w = w
 
 -- the calls that wait after a call that was answered so, where these waited before it
 unfoldable pub afterwards : Profile → List Waiting → Call → Answer → List Waiting
-afterwards p w c a = answered (spokenOf p (c .message) (c .event)) a w
+afterwards p w c a = answered (meantBy p (c .message) (c .event)) (askedSecond (take (c .count) (c .rows)) (c .event)) a w
 
 -- and after a history
 unfoldable pub waitingAfter : Profile → List Waiting → History → List Waiting
@@ -109,11 +122,11 @@ countBy test (x ∷ w) = one (test x) + countBy test w
 
 -- a call with this identifier waits
 unfoldable pub isWaiting : List Waiting → ℕ → Bool
-isWaiting w identifier = ltb 0 (countBy (λ x. eqb (x .0) identifier) w)
+isWaiting w identifier = ltb 0 (countBy (λ x. eqb (x .identifier) identifier) w)
 
 -- held: a post's number of waiting calls
 unfoldable pub heldBy : List Waiting → ℕ → ℕ
-heldBy w post = countBy (λ x. eqb (x .1) post) w
+heldBy w post = countBy (λ x. eqb (x .post) post) w
 
 -- free: 32 less all held
 unfoldable pub freeBy : List Waiting → ℕ
@@ -135,3 +148,43 @@ isRestrictedCall p w c caller called identifier =
     (both (not (ltb (length (c .area)) 300))
     (both (recordsOk (c .rows) (c .count) (p .shares .posts))
     (both (not (isWaiting w identifier)) (partyFor (c .rows) (c .count) caller called .found))))
+
+-- ---- a call that waits, and an ACCEPT of it
+
+-- a call with this identifier waits at this post, and this one is asked second; and one after which none is asked
+unfoldable pub isAskedNext : List Waiting → ℕ → ℕ → ℕ → Bool
+isAskedNext w identifier post second =
+    ltb 0 (countBy (λ x. both (eqb (x .identifier) identifier) (both (eqb (x .post) post) (both (x .second .found) (eqb (x .second .post) second)))) w)
+
+unfoldable pub isAskedLast : List Waiting → ℕ → ℕ → Bool
+isAskedLast w identifier post = ltb 0 (countBy (λ x. both (eqb (x .identifier) identifier) (both (eqb (x .post) post) (not (x .second .found)))) w)
+
+-- a well-formed message of this type from a post, which means this call: it passes 2, reading and 14; 1 never comes along a history
+pub record IsSent (p : Profile) (type : ℕ) (c : Call) (post identifier : ℕ) : Type 0 where
+  pub bits : ℕ
+  pub value : Value
+  pub next : ℕ
+  pub event-is : c .event ≡ event.Message post bits
+  pub below : post < p .shares .posts
+  pub reads : readOf p (c .message) bits ≡ got value next
+  pub type-is : value .pdu ≡ type
+  pub names : identifierIn value ≡ identifier
+  pub room : 300 ≤ length (c .area)
+
+-- the calls of a history admit no call with this identifier
+abbrev pub isAdmission : Answer → Bool
+isAdmission (answer.Refused s) = false
+isAdmission answer.Acks = false
+isAdmission (answer.State k) = false
+isAdmission answer.Free = false
+isAdmission (answer.Admitted post place) = true
+isAdmission answer.Proceed = false
+isAdmission answer.Diverted = false
+isAdmission answer.Rejected = false
+isAdmission answer.Cancelled = false
+isAdmission (answer.Moved post) = false
+
+unfoldable pub admitsNone : Profile → ℕ → History → Bool
+admitsNone p identifier [] = true
+admitsNone p identifier (x ∷ h) =
+    both (not (both (isAdmission (x .1)) (eqb (meantBy p (x .0 .message) (x .0 .event)) identifier))) (admitsNone p identifier h)

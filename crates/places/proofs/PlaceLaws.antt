@@ -56,7 +56,7 @@ call-fact : (posts : ℕ) (p : Place) → callOk posts p ≡ true → p .used �
 unfolding callOk
 call-fact posts p e u =
     let k : both (ltb (p .identifier) (2 ^ 14)) (both (ltb (p .post) posts) (secondOk posts p)) ≡ true =
-        ap (λ (b : Bool). cond b (both (ltb (p .identifier) (2 ^ 14)) (both (ltb (p .post) posts) (secondOk posts p))) true) (sym u) ∙ e in
+    ap (λ (b : Bool). cond b (both (ltb (p .identifier) (2 ^ 14)) (both (ltb (p .post) posts) (secondOk posts p))) true) (sym u) ∙ e in
     let m = both-right (ltb (p .identifier) (2 ^ 14)) _ k in
     record { small = ltb-true _ _ (both-left _ _ k); below = ltb-true _ _ (both-left _ _ m); second = second-fact posts p (both-right (ltb (p .post) posts) _ m) }
 

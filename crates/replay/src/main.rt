@@ -57,8 +57,8 @@ struct SoFar {
     kept: Text,
 }
 
-// The longest answer, a dump: a number of 20 digits, " dump", 32 places of 13 bytes, " |", 256 records of 32 and LF.
-const LONGEST: usize = 8636;
+// The longest answer, a dump: a number of 20 digits, " dump", 32 places of 17 bytes, " |", 256 records of 32 and LF.
+const LONGEST: usize = 8764;
 
 fn main() {
     let mut input = io::large_buffer();
@@ -276,6 +276,7 @@ fn answer(output: &mut [u8], filled: usize, number: u64, state: State, line: Lin
         Task::Room { bytes } => silent(filled, with_area(state, bytes)),
         Task::Fill { at, place } => silent(filled, fill(state, at, place)),
         Task::Dump => dump(output, filled, number, state),
+        Task::Second { at, post } => silent(filled, with_second(state, at, post)),
     }
 }
 
@@ -353,7 +354,14 @@ fn step(state: State, bytes: [u8; 256], count: usize, area: &mut [u8], event: Ev
     let low = state.low;
     let rows = low.row;
     let message: &[u8] = &bytes;
-    desk::step(desk, rows, state.lent, &message[..within(count)], area, event)
+    desk::step(
+        desk,
+        rows,
+        state.lent,
+        &message[..within(count)],
+        area,
+        event,
+    )
 }
 
 fn within(count: usize) -> usize
@@ -502,6 +510,26 @@ fn fill(state: State, at: u8, place: Place) -> State {
             places: changed,
         },
     )
+}
+
+// The call in the place has this second post; a place without a call stays as it is.
+fn with_second(state: State, at: u8, post: u8) -> State {
+    let desk = state.desk;
+    let p = places::place_at(desk.places, at);
+    if p.used {
+        return fill(
+            state,
+            at,
+            Place {
+                used: true,
+                identifier: p.identifier,
+                post: p.post,
+                more: true,
+                second: post,
+            },
+        );
+    }
+    state
 }
 
 fn with_place(list: [Place; 32], i: usize, place: Place) -> Places {

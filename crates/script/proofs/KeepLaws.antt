@@ -20,7 +20,7 @@ use Rattle.lines.specs.Shape.{isDigit, hexOf, noHex, hexAt}
 use Rattle.lines.proofs.ShapeLaws.{hex-long}
 use Rattle.script.specs.Shape.{startsWith, noNumber, numberIf, digitsThen, numberAt, noRow, noNumbers, numbersFrom, numbersAt}
 use Rattle.script.specs.Profiles.{pairsIn}
-use Rattle.script.specs.Lines.{when, recordTask, setUpTask, rejectTask, cancelTask, outTask, placeTask, unplaceTask, plainLine, messageLine, postLine, profileLine, taskOf, lineOf}
+use Rattle.script.specs.Lines.{when, recordTask, setUpTask, rejectTask, cancelTask, outTask, placeTask, unplaceTask, secondTask, plainLine, messageLine, postLine, profileLine, taskOf, lineOf}
 use Rattle.blocks.specs.Texts.{noText, textOf, keepOf}
 use Rattle.script.specs.declared.Line.{Line}
 use Rattle.script.specs.declared.Task.{Task}
@@ -153,6 +153,10 @@ unplace-none : (n : Numbers) → NoneOrAll 38 n → unplaceTask n ≡ task.Unkno
 unfolding unplaceTask
 unplace-none n s = rw (not-counted n 1 s (omega arith) (omega arith))
 
+second-none : (n : Numbers) → NoneOrAll 38 n → secondTask n ≡ task.Unknown
+unfolding secondTask
+second-none n s = rw (not-counted n 2 s (omega arith) (omega arith))
+
 module _ (l : List ℕ) (h : 539 < length l) where
   -- from a position of up to 8 on
   counted : (at : ℕ) → 0 < at → at ≤ 8 → NoneOrAll 38 (numbersAt 38 l at)
@@ -176,6 +180,7 @@ module _ (l : List ℕ) (h : 539 < length l) where
         out-none (numbersAt 38 l 4) (counted 4 (omega arith) (omega arith)),
         place-none (numbersAt 38 l 6) (counted 6 (omega arith) (omega arith)),
         unplace-none (numbersAt 38 l 8) (counted 8 (omega arith) (omega arith)),
+        second-none (numbersAt 38 l 7) (counted 7 (omega arith) (omega arith)),
         no-dump,
       )
       (simp cond-unknown)

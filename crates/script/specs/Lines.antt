@@ -5,6 +5,7 @@ use mathlib.Core.List.{List, [], _∷_}
 use lib.Dec.{eqb, leb}
 use lib.ListN.{length, getD}
 use Rattle.profile.specs.Rules.{noProfile}
+use Rattle.places.specs.Held.{noPlace}
 use Rattle.desk.specs.declared.Event.{Event}
 use Rattle.desk.specs.declared.Event.the-variants as event
 use Rattle.lines.specs.Shape.{noBytes, hexAt}
@@ -65,13 +66,19 @@ placeTask n =
     (when (leb (getD (n .number) 0 0) 31)
     (when (leb (getD (n .number) 1 0) 65535)
     (when (leb (getD (n .number) 2 0) 255)
-    (task.Fill (getD (n .number) 0 0) (record { used = true; identifier = getD (n .number) 1 0; post = getD (n .number) 2 0 })))))
+    (task.Fill (getD (n .number) 0 0) (record { used = true; identifier = getD (n .number) 1 0; post = getD (n .number) 2 0; more = false; second = 0 })))))
 
 -- I: the place is free, all zero
 unfoldable pub unplaceTask : Numbers → Task
 unplaceTask n =
     when (eqb (n .count) 1)
-    (when (leb (getD (n .number) 0 0) 31) (task.Fill (getD (n .number) 0 0) (record { used = false; identifier = 0; post = 0 })))
+    (when (leb (getD (n .number) 0 0) 31) (task.Fill (getD (n .number) 0 0) noPlace))
+
+-- I POST
+unfoldable pub secondTask : Numbers → Task
+secondTask n =
+    when (eqb (n .count) 2)
+    (when (leb (getD (n .number) 0 0) 31) (when (leb (getD (n .number) 1 0) 255) (task.Second (getD (n .number) 0 0) (getD (n .number) 1 0))))
 
 -- ---- the lines
 
@@ -114,8 +121,10 @@ taskOf l =
     (cond (startsWith l (112 ∷ 108 ∷ 97 ∷ 99 ∷ 101 ∷ 32 ∷ [])) (placeTask (numbersAt 38 l 6))
     -- `unplace `
     (cond (startsWith l (117 ∷ 110 ∷ 112 ∷ 108 ∷ 97 ∷ 99 ∷ 101 ∷ 32 ∷ [])) (unplaceTask (numbersAt 38 l 8))
+    -- `second `
+    (cond (startsWith l (115 ∷ 101 ∷ 99 ∷ 111 ∷ 110 ∷ 100 ∷ 32 ∷ [])) (secondTask (numbersAt 38 l 7))
     -- `dump`, the whole line
-    (cond (startsWith l (100 ∷ 117 ∷ 109 ∷ 112 ∷ [])) (when (eqb (length l) 4) task.Dump) task.Unknown)))))))
+    (cond (startsWith l (100 ∷ 117 ∷ 109 ∷ 112 ∷ [])) (when (eqb (length l) 4) task.Dump) task.Unknown))))))))
 
 unfoldable pub lineOf : List ℕ → Line
 lineOf l =

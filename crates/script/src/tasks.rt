@@ -1,7 +1,7 @@
 // The lines that are a keyword and numbers: how many there are, and the largest that each may be.
 ghost use mathlib.Core.Path.{_≡_};
 ghost use lib.Dec.{eqb};
-ghost use Rattle.script.specs.Lines.{when, recordTask, setUpTask, rejectTask, cancelTask, outTask, placeTask, unplaceTask};
+ghost use Rattle.script.specs.Lines.{when, recordTask, setUpTask, rejectTask, cancelTask, outTask, placeTask, unplaceTask, secondTask};
 use crate::Task;
 use crate::shape::Numbers;
 use desk::Event;
@@ -122,7 +122,28 @@ pub(crate) fn fill(n: Numbers) -> Task
             used: true,
             identifier: number[1] as u16,
             post: number[2] as u8,
+            more: false,
+            second: 0,
         },
+    }
+}
+
+pub(crate) fn second(n: Numbers) -> Task
+    ensures { λ r. ⌜ r ≡ secondTask n ⌝ }
+{
+    let number = n.number;
+    if n.count == 2 {} else {
+        return Task::Unknown;
+    }
+    if number[0] > 31 {
+        return Task::Unknown;
+    }
+    if number[1] > 255 {
+        return Task::Unknown;
+    }
+    Task::Second {
+        at: number[0] as u8,
+        post: number[1] as u8,
     }
 }
 
@@ -138,11 +159,7 @@ pub(crate) fn empty(n: Numbers) -> Task
     }
     Task::Fill {
         at: number[0] as u8,
-        place: Place {
-            used: false,
-            identifier: 0,
-            post: 0,
-        },
+        place: places::FREE,
     }
 }
 

@@ -87,6 +87,10 @@ admittedWords post place laid area =
     (97 ∷ 100 ∷ 109 ∷ 105 ∷ 116 ∷ 116 ∷ 101 ∷ 100 ∷ 32 ∷ [])
     ++ (decimalOf post ++ ((32 ∷ []) ++ (decimalOf place ++ ((32 ∷ []) ++ messageHex area 0 (bitsIn laid 0)))))
 
+-- `moved ` and the post
+unfoldable pub movedWords : ℕ → List ℕ
+movedWords post = (109 ∷ 111 ∷ 118 ∷ 101 ∷ 100 ∷ 32 ∷ []) ++ decimalOf post
+
 unfoldable pub wordsOf : Answer → Laid → List ℕ → List ℕ
 wordsOf (answer.Refused s) laid area = refusedOf (s .number)
 wordsOf answer.Acks laid area = acksWords laid area
@@ -103,6 +107,7 @@ wordsOf answer.Diverted laid area = (100 ∷ 105 ∷ 118 ∷ 101 ∷ 114 ∷ 116
 wordsOf answer.Rejected laid area = 114 ∷ 101 ∷ 106 ∷ 101 ∷ 99 ∷ 116 ∷ 101 ∷ 100 ∷ []
 -- `cancelled`
 wordsOf answer.Cancelled laid area = 99 ∷ 97 ∷ 110 ∷ 99 ∷ 101 ∷ 108 ∷ 108 ∷ 101 ∷ 100 ∷ []
+wordsOf (answer.Moved post) laid area = movedWords post
 
 -- ---- a dump's parts: each with a space before it, and nothing for what is not used
 
@@ -110,9 +115,14 @@ wordsOf answer.Cancelled laid area = 99 ∷ 97 ∷ 110 ∷ 99 ∷ 101 ∷ 108 �
 unfoldable pub fieldOf : ℕ → List ℕ
 fieldOf n = (58 ∷ []) ++ decimalOf n
 
--- I:ID:POST
+-- `>` and the second post, if there is one
+unfoldable pub secondWords : Bool → ℕ → List ℕ
+secondWords more second = cond more ((62 ∷ []) ++ decimalOf second) []
+
+-- I:ID:POST, or I:ID:POST>SECOND
 unfoldable pub placeWords : ℕ → Place → List ℕ
-placeWords i p = cond (p .used) ((32 ∷ []) ++ (decimalOf i ++ (fieldOf (p .identifier) ++ fieldOf (p .post)))) []
+placeWords i p =
+    cond (p .used) ((32 ∷ []) ++ (decimalOf i ++ (fieldOf (p .identifier) ++ (fieldOf (p .post) ++ secondWords (p .more) (p .second))))) []
 
 -- I:SSI:EXT:POST:ACTIVE
 unfoldable pub recordWords : ℕ → Record → List ℕ

@@ -4,7 +4,7 @@ ghost use mathlib.Core.List.{_++_};
 ghost use lib.ListN.{getD};
 ghost use Rattle.profile.specs.Counting.{one};
 ghost use Rattle.blocks.specs.Texts.{Wrote};
-ghost use Rattle.words.specs.Words.{messageHex, bitsIn, refusedOf, stateWord, ackBits, ackHex, acksWords, admittedWords, wordsOf, placeWords, recordWords};
+ghost use Rattle.words.specs.Words.{messageHex, bitsIn, refusedOf, stateWord, ackBits, ackHex, acksWords, admittedWords, movedWords, wordsOf, secondWords, placeWords, recordWords};
 use crate::texts;
 use blocks::Text;
 use desk::Answer;
@@ -25,6 +25,7 @@ pub(crate) fn answer(text: Text, answer: Answer, laid: Laid, area: &[u8]) -> Tex
         Answer::Diverted => message(texts::add(text, b"diverted "), laid, area, 0),
         Answer::Rejected => texts::add(text, b"rejected"),
         Answer::Cancelled => texts::add(text, b"cancelled"),
+        Answer::Moved { post } => moved(text, post),
     }
 }
 
@@ -99,6 +100,12 @@ fn admitted(text: Text, post: u8, place: u8, laid: Laid, area: &[u8]) -> Text
     message(texts::add(placed, b" "), laid, area, 0)
 }
 
+fn moved(text: Text, post: u8) -> Text
+    ensures { λ r. ⌜ Wrote text r (movedWords post) ⌝ }
+{
+    texts::add_number(texts::add(text, b"moved "), post as u32)
+}
+
 // Message k of those that were laid.
 fn message(text: Text, laid: Laid, area: &[u8], k: u8) -> Text
     ensures { λ r. ⌜ Wrote text r (messageHex (now (area .entry)) k (bitsIn laid k)) ⌝ }
@@ -131,7 +138,17 @@ pub(crate) fn place_part(text: Text, i: u8, place: Place) -> Text
     if place.used {
         let numbered = texts::add_number(texts::add(text, b" "), i as u32);
         let named = texts::add_field(numbered, place.identifier as u32);
-        return texts::add_field(named, place.post as u32);
+        let posted = texts::add_field(named, place.post as u32);
+        return second_part(posted, place.more, place.second);
+    }
+    text
+}
+
+fn second_part(text: Text, more: bool, second: u8) -> Text
+    ensures { λ r. ⌜ Wrote text r (secondWords more second) ⌝ }
+{
+    if more {
+        return texts::add_number(texts::add(text, b">"), second as u32);
     }
     text
 }

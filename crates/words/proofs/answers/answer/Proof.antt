@@ -86,6 +86,12 @@ slice-aggregate-add-6 c = search needs
 add-requires-6 : tie.Need-add-requires-6
 add-requires-6 c κs = search needs
 
+enum-known-answer-4 : tie.Need-enum-known-answer-4
+enum-known-answer-4 c = search needs
+
+moved-requires : tie.Need-moved-requires
+moved-requires c κs = search needs
+
 returns : tie.Need-returns
 unfolding wordsOf
 returns c = rw (c .before .before .answer .given .1) (c .refused .ensures)
@@ -136,6 +142,10 @@ returns-9 c =
     let p1 = c .before .before in
     rw (p1 .enum-told6 .given .1) (c .add6 .ensures)
 
+returns-10 : tie.Need-returns-10
+unfolding wordsOf
+returns-10 c = rw (c .before .before .answer4 .given .1) (c .moved .ensures)
+
 pub answer-spec : {M : Type 1} → statement M
 answer-spec =
     tie.close
@@ -167,6 +177,8 @@ answer-spec =
     enum-told-6
     slice-aggregate-add-6
     add-requires-6
+    enum-known-answer-4
+    moved-requires
     returns
     returns-2
     returns-3
@@ -175,4 +187,5 @@ answer-spec =
     returns-6
     returns-7
     returns-8
-    returns-9)
+    returns-9
+    returns-10)

@@ -26,14 +26,18 @@ cast-add-field-2 c = search needs
 add-field-requires-2 : tie.Need-add-field-requires-2
 add-field-requires-2 c κs = search needs
 
+second-part-requires : tie.Need-second-part-requires
+second-part-requires c κs = search needs
+
 returns : tie.Need-returns
 unfolding placeWords
 returns c =
-    let p1 = c .before .before .before .before .before .before .before in
-    let p2 = c .before .before .before .before .before in
-    let p3 = c .before .before .before .before in
-    let p4 = c .before .before in
-    rw (p1 .if1 .taken) (wrote-join (p2 .add .ensures) (wrote-join (p3 .add-number .ensures) (wrote-join (p4 .add-field .ensures) (c .add-field2 .ensures))))
+    let p1 = c .before .before .before .before .before .before .before .before in
+    let p2 = c .before .before .before .before .before .before in
+    let p3 = c .before .before .before .before .before in
+    let p4 = c .before .before .before in
+    let p5 = c .before in
+    rw (p1 .if1 .taken) (wrote-join (p2 .add .ensures) (wrote-join (p3 .add-number .ensures) (wrote-join (p4 .add-field .ensures) (wrote-join (p5 .add-field2 .ensures) (c .second-part .ensures)))))
 
 returns-2 : tie.Need-returns-2
 unfolding placeWords
@@ -50,5 +54,6 @@ place-part-spec =
     add-field-requires
     cast-add-field-2
     add-field-requires-2
+    second-part-requires
     returns
     returns-2)
