@@ -4,7 +4,9 @@
 use crate::activate::{acks, activate};
 use crate::bits::Refusal;
 use crate::message::{read, Address, Group, Message};
-use crate::places::{admits, lowest_free, place_of, places_keep_rules, Call, Places, ALL_FREE};
+use crate::places::{
+    admits, lowest_free, place_of, places_keep_rules, without, Call, Places, ALL_FREE,
+};
 use crate::profile::Profile;
 use crate::records::{identities_of, identity_of, record_of, records_keep_rules, Identity, Record};
 use crate::value::flat;
@@ -45,6 +47,9 @@ pub enum Answer {
     Proceed {
         bits: usize,
     },
+    Moved {
+        post: u32,
+    },
     Diverted {
         bits: usize,
     },
@@ -83,18 +88,8 @@ impl Desk {
                 self.activate(lent, post, &users, dispatchers.as_ref())
             }
             Message::Interrogate { user } => self.interrogate(lent, post, &user),
-            Message::Accept { identifier } => {
-                let bits = self.end_and_answer(lent, post, identifier, &Message::Accepted)?;
-                Ok(Answer::Proceed { bits })
-            }
-            Message::Divert { identifier } => {
-                let diverted = Message::Diverted {
-                    cause: 0,
-                    dispatcher: None,
-                };
-                let bits = self.end_and_answer(lent, post, identifier, &diverted)?;
-                Ok(Answer::Diverted { bits })
-            }
+            Message::Accept { identifier } => self.accept(lent, post, identifier),
+            Message::Divert { identifier } => self.divert(lent, post, identifier),
             Message::ActivateAck { .. }
             | Message::Intercepted { .. }
             | Message::Accepted
@@ -139,17 +134,41 @@ impl Desk {
         }))
     }
 
-    /// ACCEPT and DIVERT: 14, 19, 20. Gives the bit length of the answer at byte 0.
-    fn end_and_answer(
-        &mut self,
-        lent: Lent,
-        post: u32,
-        identifier: u32,
-        answer: &Message,
-    ) -> Result<usize, Refusal> {
+    /// 14, 19, 20, and for a move 18. A call with a second post moves, any other proceeds.
+    fn accept(&mut self, lent: Lent, post: u32, identifier: u32) -> Result<Answer, Refusal> {
         refuse(lent.output.len() < OUTPUT_BYTES, 14)?;
-        self.end_at(post, identifier)?;
-        Ok(self.put(answer, lent.output))
+        let (place, call) = self.waiting_at(post, identifier)?;
+        if let Some(second) = call.second {
+            return self.move_to(second, place, identifier);
+        }
+        self.places[place] = None;
+        let bits = self.put(&Message::Accepted, lent.output);
+        Ok(Answer::Proceed { bits })
+    }
+
+    /// The call keeps its place and has no second post any more; nothing is written: 18.
+    fn move_to(&mut self, post: u32, place: usize, identifier: u32) -> Result<Answer, Refusal> {
+        let rest = without(&self.places, place);
+        refuse(!admits(&self.profile, &rest, post), 18)?;
+        self.places[place] = Some(Call {
+            identifier,
+            post,
+            second: None,
+        });
+        Ok(Answer::Moved { post })
+    }
+
+    /// 14, 19, 20; whether there is a second post doesn't matter.
+    fn divert(&mut self, lent: Lent, post: u32, identifier: u32) -> Result<Answer, Refusal> {
+        refuse(lent.output.len() < OUTPUT_BYTES, 14)?;
+        let (place, _) = self.waiting_at(post, identifier)?;
+        self.places[place] = None;
+        let diverted = Message::Diverted {
+            cause: 0,
+            dispatcher: None,
+        };
+        let bits = self.put(&diverted, lent.output);
+        Ok(Answer::Diverted { bits })
     }
 
     /// Call set-up: 16, 14, 15, 17, "free", 18.
@@ -167,17 +186,17 @@ impl Desk {
         refuse(lent.output.len() < OUTPUT_BYTES, 14)?;
         self.sound_records(lent.records)?;
         refuse(place_of(&self.places, identifier).is_some(), 17)?;
-        let post = match (
-            restricted(lent.records, caller),
-            restricted(lent.records, called),
-        ) {
-            (Some(callers_post), _) => callers_post,
-            (None, Some(called_partys_post)) => called_partys_post,
-            (None, None) => return Ok(Answer::Free),
+        let (post, second) = match posts_asked(lent.records, caller, called) {
+            Some(asked) => asked,
+            None => return Ok(Answer::Free),
         };
         refuse(!admits(&self.profile, &self.places, post), 18)?;
         let place = lowest_free(&self.places).expect("the places rule left a place free");
-        self.places[place] = Some(Call { identifier, post });
+        self.places[place] = Some(Call {
+            identifier,
+            post,
+            second,
+        });
         let intercepted = Message::Intercepted {
             cause: 0,
             dispatcher: None,
@@ -191,7 +210,8 @@ impl Desk {
         self.sound()?;
         self.known_post(post)?;
         fitting_identifier(identifier)?;
-        self.end_at(post, identifier)?;
+        let (place, _) = self.waiting_at(post, identifier)?;
+        self.places[place] = None;
         Ok(Answer::Rejected)
     }
 
@@ -204,13 +224,12 @@ impl Desk {
         Ok(Answer::Cancelled)
     }
 
-    /// Ends a call that waits at the post: 19, 20.
-    fn end_at(&mut self, post: u32, identifier: u32) -> Result<(), Refusal> {
+    /// The call that waits at the post, and its place: 19, 20.
+    fn waiting_at(&self, post: u32, identifier: u32) -> Result<(usize, Call), Refusal> {
         let place = place_of(&self.places, identifier).ok_or(19)?;
-        let waits_here = self.places[place].map_or(false, |call| call.post == post);
-        refuse(!waits_here, 20)?;
-        self.places[place] = None;
-        Ok(())
+        let call = self.places[place].ok_or(19)?;
+        refuse(call.post != post, 20)?;
+        Ok((place, call))
     }
 
     fn sound(&self) -> Result<(), Refusal> {
@@ -244,8 +263,23 @@ fn fitting_identifier(identifier: u32) -> Result<(), Refusal> {
     refuse(identifier >= 1 << 14, 16)
 }
 
+/// The post that a call is for, and the post asked second, if there is one: the called party's,
+/// where both parties are restricted and their posts differ. Nothing if neither is restricted.
+pub fn posts_asked(
+    records: &[Record],
+    caller: Identity,
+    called: Identity,
+) -> Option<(u32, Option<u32>)> {
+    match (restricted(records, caller), restricted(records, called)) {
+        (Some(callers), Some(calleds)) if callers != calleds => Some((callers, Some(calleds))),
+        (Some(callers), _) => Some((callers, None)),
+        (None, Some(calleds)) => Some((calleds, None)),
+        (None, None) => None,
+    }
+}
+
 /// The post of the party's record, if its mark is set.
-fn restricted(records: &[Record], party: Identity) -> Option<u32> {
+pub fn restricted(records: &[Record], party: Identity) -> Option<u32> {
     let record = records[record_of(records, party)?];
     if record.active {
         Some(record.post)

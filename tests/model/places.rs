@@ -2,11 +2,13 @@
 
 use crate::profile::{Profile, PLACES};
 
-/// A waiting call: the call identifier and the post at which it waits.
+/// A waiting call: the call identifier, the post at which it waits now, and the post that has to
+/// accept it after that one, if there is one.
 #[derive(Clone, Copy, PartialEq, Eq, Debug)]
 pub struct Call {
     pub identifier: u32,
     pub post: u32,
+    pub second: Option<u32>,
 }
 
 /// What each place holds, if it isn't free.
@@ -46,6 +48,13 @@ pub fn admits(profile: &Profile, places: &Places, post: u32) -> bool {
     held < share.ceiling && (held < share.reserved || free(profile, places) > owed_to_others)
 }
 
+/// The desk's places with this one taken as free.
+pub fn without(places: &Places, place: usize) -> Places {
+    let mut rest = *places;
+    rest[place] = None;
+    rest
+}
+
 pub fn lowest_free(places: &Places) -> Option<usize> {
     places.iter().position(Option::is_none)
 }
@@ -62,10 +71,19 @@ pub fn places_keep_rules(profile: &Profile, places: &Places) -> bool {
     places
         .iter()
         .flatten()
-        .all(|call| call.identifier < 1 << 14 && (call.post as usize) < profile.posts.len())
+        .all(|call| call_keeps_rules(profile, call))
         && !two_with_one_identifier(places)
         && posts(profile).all(|post| held(places, post) <= profile.posts[post as usize].ceiling)
         && all_held(profile, places) + all_owed(profile, places) <= PLACES
+}
+
+/// A second post that is the call's own is no fault.
+fn call_keeps_rules(profile: &Profile, call: &Call) -> bool {
+    call.identifier < 1 << 14
+        && posts(profile).contains(&call.post)
+        && call
+            .second
+            .map_or(true, |second| posts(profile).contains(&second))
 }
 
 fn two_with_one_identifier(places: &Places) -> bool {
@@ -88,6 +106,6 @@ fn all_held(profile: &Profile, places: &Places) -> u32 {
     posts(profile).map(|post| held(places, post)).sum()
 }
 
-fn all_owed(profile: &Profile, places: &Places) -> u32 {
+pub fn all_owed(profile: &Profile, places: &Places) -> u32 {
     posts(profile).map(|post| owed(profile, places, post)).sum()
 }

@@ -63,6 +63,7 @@ impl Replay {
                 self.desk.places[place] = None;
                 return None;
             }
+            Line::Second { place, post } => return self.set_second(place, post),
             Line::Dump => return Some(self.dump()),
             Line::Post { post, bits, bytes } => self.desk.message(lent, post, &bytes, bits),
             Line::SetUp {
@@ -95,11 +96,20 @@ impl Replay {
         None
     }
 
+    /// A free place stays free, and keeps nothing for the call that takes it next.
+    fn set_second(&mut self, place: usize, post: u32) -> Option<String> {
+        if let Some(call) = &mut self.desk.places[place] {
+            call.second = Some(post);
+        }
+        None
+    }
+
     fn dump(&self) -> String {
         let mut words = vec!["dump".to_string()];
         for (place, call) in self.desk.places.iter().enumerate() {
             if let Some(call) = call {
-                words.push(format!("{place}:{}:{}", call.identifier, call.post));
+                let second = call.second.map_or(String::new(), |post| format!(">{post}"));
+                words.push(format!("{place}:{}:{}{second}", call.identifier, call.post));
             }
         }
         words.push("|".to_string());
@@ -136,6 +146,7 @@ fn words(outcome: Result<Answer, Refusal>, output: &[u8]) -> String {
             format!("admitted {post} {place} {}", hex(0, bits))
         }
         Ok(Answer::Proceed { bits }) => format!("proceed {}", hex(0, bits)),
+        Ok(Answer::Moved { post }) => format!("moved {post}"),
         Ok(Answer::Diverted { bits }) => format!("diverted {}", hex(0, bits)),
         Ok(Answer::Rejected) => "rejected".to_string(),
         Ok(Answer::Cancelled) => "cancelled".to_string(),

@@ -47,6 +47,10 @@ pub enum Line {
     Unplace {
         place: usize,
     },
+    Second {
+        place: usize,
+        post: u32,
+    },
     Dump,
 }
 
@@ -109,10 +113,15 @@ fn read_numbers_line(name: &[u8], numbers: &[u32]) -> Option<Line> {
             call: Call {
                 identifier: at_most(*identifier, 65_535)?,
                 post: at_most(*post, 255)?,
+                second: None,
             },
         }),
         (b"unplace", [place]) => Some(Line::Unplace {
             place: at_most(*place, PLACES - 1)? as usize,
+        }),
+        (b"second", [place, post]) => Some(Line::Second {
+            place: at_most(*place, PLACES - 1)? as usize,
+            post: at_most(*post, 255)?,
         }),
         (b"dump", []) => Some(Line::Dump),
         _ => None,

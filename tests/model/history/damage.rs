@@ -11,27 +11,54 @@ impl Source {
         let place = self.dice.below(PLACES as usize);
         let post = self.dice.below(self.replay.desk.profile.posts.len()) as u32;
         let identifier = self.dice.number(14);
-        match self.dice.below(6) {
+        match self.dice.below(9) {
             0 => {
                 let identifier = self.dice.pick(&[16_384, 32_768 + 5, 65_535]);
-                place_line(place, Call { identifier, post })
+                place_line(place, identifier, post)
             }
             1 => {
-                let count = self.replay.desk.profile.posts.len() as u32;
-                let post = self.dice.pick(&[count, 8, 255]);
-                place_line(place, Call { identifier, post })
+                let post = self.post_not_there();
+                place_line(place, identifier, post)
             }
             2 if !calls.is_empty() => {
                 let waiting = self.dice.pick(&calls);
-                place_line(place, Call { post, ..waiting })
+                place_line(place, waiting.identifier, post)
             }
             3 => self.put_calls(post, self.up_to_ceiling(post)),
             4 => self.put_calls(post, self.up_to_reserve(post)),
-            _ => {
+            5 => {
                 let calls = self.dice.below(PLACES as usize);
                 self.put_calls(post, calls)
             }
+            _ => self.second(place),
         }
+    }
+
+    /// A second post for a call, its own among them, or one that isn't there; or for whatever
+    /// the place holds, if anything.
+    fn second(&mut self, any: usize) -> Vec<u8> {
+        let desk = &self.replay.desk;
+        let used: Vec<(usize, Call)> = (0..PLACES as usize)
+            .filter_map(|place| Some((place, desk.places[place]?)))
+            .collect();
+        let post = self.dice.below(desk.profile.posts.len()) as u32;
+        if used.is_empty() || self.dice.one_in(5) {
+            return match self.dice.below(3) {
+                0 => second_line(any, self.post_not_there()),
+                _ => second_line(any, post),
+            };
+        }
+        let (place, call) = self.dice.pick(&used);
+        match self.dice.below(4) {
+            0 => second_line(place, self.post_not_there()),
+            1 => second_line(place, call.post),
+            _ => second_line(place, post),
+        }
+    }
+
+    fn post_not_there(&mut self) -> u32 {
+        let count = self.replay.desk.profile.posts.len() as u32;
+        self.dice.pick(&[count, 8, 255])
     }
 
     /// How many calls more bring the post to its ceiling.
@@ -61,8 +88,7 @@ impl Source {
         let free = (0..places.len()).filter(|place| places[*place].is_none());
         for (put, place) in free.take(count + one_more).enumerate() {
             let identifier = first + put as u32;
-            self.waiting
-                .push_back(place_line(place, Call { identifier, post }));
+            self.waiting.push_back(place_line(place, identifier, post));
         }
         for _ in 0..4 {
             let call = self.call();
@@ -72,6 +98,10 @@ impl Source {
     }
 }
 
-fn place_line(place: usize, call: Call) -> Vec<u8> {
-    format!("place {place} {} {}", call.identifier, call.post).into_bytes()
+pub(super) fn place_line(place: usize, identifier: u32, post: u32) -> Vec<u8> {
+    format!("place {place} {identifier} {post}").into_bytes()
+}
+
+pub(super) fn second_line(place: usize, post: u32) -> Vec<u8> {
+    format!("second {place} {post}").into_bytes()
 }

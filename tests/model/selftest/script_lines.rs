@@ -1,6 +1,6 @@
 //! Single script lines: of another shape, and at the edges of the shape.
 
-pub const OTHER_SHAPES: [&str; 58] = [
+pub const OTHER_SHAPES: [&str; 66] = [
     "",
     " ",
     "dump ",
@@ -44,6 +44,14 @@ pub const OTHER_SHAPES: [&str; 58] = [
     "place 0 5 0 0",
     "unplace 32",
     "unplace",
+    "second",
+    "second 0",
+    "second 32 0",
+    "second 0 256",
+    "second 0 0 0",
+    "second 0  0",
+    "second -1 0",
+    "Second 0 0",
     "record 256 1 1 1 0 0",
     "record 0 2 1 1 0 0",
     "record 0 1 1 1 256 0",
@@ -62,7 +70,7 @@ pub const OTHER_SHAPES: [&str; 58] = [
 ];
 
 /// Numbers at their largest, leading zeros within ten digits, no hex, as many posts as there are.
-pub const EDGES: [&str; 15] = [
+pub const EDGES: [&str; 18] = [
     "dump",
     "post 4294967295 4294967295",
     "post 0000000000 0000000011 25A0",
@@ -73,6 +81,9 @@ pub const EDGES: [&str; 15] = [
     "out 300",
     "place 31 65535 255",
     "unplace 31",
+    "second 31 255",
+    "second 0 0",
+    "second 0000000000 0000000255",
     "record 255 1 4294967295 4294967295 255 1",
     "record 0000000000 00 0 0 00 01",
     "profile 9 0 1 2 16 1 2 3 0 0 0 0 0 0 0 0 0 0 0 17 8 1 1 1 1 1 1 1 1 1 1 1 1 1 1 1 1",
