@@ -5,8 +5,10 @@ mod calls;
 mod cast;
 mod damage;
 mod lent;
+mod moves;
 mod odd;
 mod profiles;
+mod scene;
 
 use crate::dice::Dice;
 use crate::message::meaning_of;
@@ -109,10 +111,11 @@ impl Source {
             0..=7 => self.odd_line(),
             8..=13 => b"dump".to_vec(),
             14..=16 => profiles::bad_line(&mut self.dice, &self.replay.desk.profile),
-            17..=19 => self.damage(),
-            20..=27 => self.record_line(),
-            28..=30 => self.output_line(),
-            31..=65 => match self.repair() {
+            17..=20 => self.damage(),
+            21..=28 => self.record_line(),
+            29..=31 => self.output_line(),
+            32..=34 => self.scene(),
+            35..=69 => match self.repair() {
                 Some(line) => line,
                 None => self.call(),
             },
@@ -130,10 +133,11 @@ impl Source {
     }
 
     fn odd_line(&mut self) -> Vec<u8> {
-        let good = match self.dice.below(6) {
+        let good = match self.dice.below(7) {
             0 => profiles::line(&self.replay.desk.profile),
             1 => self.record_line(),
             2 => b"place 31 16383 0".to_vec(),
+            3 => b"second 31 0".to_vec(),
             _ => self.call(),
         };
         odd::line(&mut self.dice, &good)

@@ -6,6 +6,7 @@ use crate::draw;
 use crate::fault;
 use crate::hex::hex_of;
 use crate::message::{meaning_of, Address, Group, Message};
+use crate::places::Call;
 use crate::profile::{Meaning, Profile};
 use crate::records::Identity;
 use crate::write::{bits_of, bytes_of};
@@ -27,7 +28,7 @@ impl Source {
     }
 
     fn set_up(&mut self) -> Vec<u8> {
-        let (mut caller, mut called) = (self.party(), self.party());
+        let (mut caller, mut called) = self.parties();
         let mut identifier = self.new_identifier();
         if self.dice.one_in(25) {
             let far = self.dice.pick(&[1 << 24, u32::MAX]);
@@ -39,11 +40,17 @@ impl Source {
                 _ => identifier = self.dice.pick(&[1 << 14, u32::MAX]),
             }
         }
-        format!(
-            "setup {} {} {} {} {identifier}",
-            caller.ssi, caller.extension, called.ssi, called.extension
-        )
-        .into_bytes()
+        set_up_line(caller, called, identifier)
+    }
+
+    /// A third of the time two whose posts are both to be asked, if there are such.
+    fn parties(&mut self) -> (Identity, Identity) {
+        if self.dice.one_in(3) {
+            if let Some(parties) = self.parties_of_two_posts() {
+                return parties;
+            }
+        }
+        (self.party(), self.party())
     }
 
     /// Half of the time one whose record is in use and marked, if there is one.
@@ -77,6 +84,14 @@ impl Source {
     /// ACCEPT, DIVERT, reject or cancel, mostly of a waiting call and mostly at its post.
     fn ending(&mut self) -> Vec<u8> {
         let calls = self.calls_waiting();
+        let of_two_posts: Vec<(Call, u32)> = calls
+            .iter()
+            .filter_map(|call| Some((*call, call.second?)))
+            .collect();
+        if !of_two_posts.is_empty() && !self.dice.one_in(3) {
+            let (call, second) = self.dice.pick(&of_two_posts);
+            return self.ask(call, second);
+        }
         let (mut identifier, mut post) = if calls.is_empty() || self.dice.one_in(8) {
             (self.new_identifier(), self.post())
         } else {
@@ -101,7 +116,7 @@ impl Source {
                 };
             }
         };
-        self.message_line(post, &message)
+        message_line(&self.replay.desk.profile, post, &message)
     }
 
     fn activate(&mut self) -> Vec<u8> {
@@ -113,7 +128,8 @@ impl Source {
             _ => None,
         };
         let post = self.post();
-        self.message_line(post, &Message::Activate { users, dispatchers })
+        let message = Message::Activate { users, dispatchers };
+        message_line(&self.replay.desk.profile, post, &message)
     }
 
     /// Half of the time of a record's identity, and then mostly from the record's post.
@@ -131,21 +147,17 @@ impl Source {
                 post = record.post;
             }
         }
-        self.message_line(post, &Message::Interrogate { user })
+        let message = Message::Interrogate { user };
+        message_line(&self.replay.desk.profile, post, &message)
     }
 
     /// A post of the profile, and now and then one that isn't there.
-    fn post(&mut self) -> u32 {
+    pub(super) fn post(&mut self) -> u32 {
         let count = self.replay.desk.profile.posts.len();
         match self.dice.below(40) {
             0 => self.dice.pick(&[count as u32, 8, 255, 256, u32::MAX]),
             _ => self.dice.below(count) as u32,
         }
-    }
-
-    fn message_line(&mut self, post: u32, message: &Message) -> Vec<u8> {
-        let bits = bits_of(&self.replay.desk.profile, message);
-        post_line(post, bits.len() as u32, &bytes_of(&bits))
     }
 
     /// A message that reading refuses, or one that posts don't send.
@@ -176,6 +188,19 @@ impl Source {
         }
         post_line(post, length, &bytes)
     }
+}
+
+pub(super) fn set_up_line(caller: Identity, called: Identity, identifier: u32) -> Vec<u8> {
+    format!(
+        "setup {} {} {} {} {identifier}",
+        caller.ssi, caller.extension, called.ssi, called.extension
+    )
+    .into_bytes()
+}
+
+pub(super) fn message_line(profile: &Profile, post: u32, message: &Message) -> Vec<u8> {
+    let bits = bits_of(profile, message);
+    post_line(post, bits.len() as u32, &bytes_of(&bits))
 }
 
 /// A group that means "none", which is as no option, if the profile has a range for it.

@@ -1,7 +1,8 @@
 //! What the host lends beside the desk, set anew by lines of a history: records and output area.
 
+use super::damage::{place_line, second_line};
 use super::Source;
-use crate::places::places_keep_rules;
+use crate::places::{places_keep_rules, Call};
 use crate::profile::Profile;
 use crate::records::{records_keep_rules, Record, MOST_RECORDS};
 use crate::script::MOST_OUTPUT;
@@ -66,7 +67,7 @@ impl Source {
         }
         let profile = &self.replay.desk.profile;
         if !places_keep_rules(profile, &self.replay.desk.places) {
-            return Some(self.free_places());
+            return Some(self.repair_places());
         }
         let bad = (0..self.replay.records.len())
             .find(|number| !records_keep_rules(profile, &self.replay.records[*number..=*number]))?;
@@ -74,9 +75,27 @@ impl Source {
         Some(record_line(bad, &record))
     }
 
-    /// Frees up to eight used places.
-    fn free_places(&mut self) -> Vec<u8> {
+    /// Names another second post where that is what damages the desk, or puts the call anew,
+    /// or frees up to eight used places.
+    fn repair_places(&mut self) -> Vec<u8> {
         let places = &self.replay.desk.places;
+        let posts = self.replay.desk.profile.posts.len();
+        for (place, call) in places.iter().enumerate() {
+            if let Some(Call {
+                identifier,
+                post,
+                second: Some(second),
+            }) = *call
+            {
+                if second as usize >= posts {
+                    return match self.dice.below(3) {
+                        0 => second_line(place, self.dice.below(posts) as u32),
+                        1 => place_line(place, identifier, post),
+                        _ => format!("unplace {place}").into_bytes(),
+                    };
+                }
+            }
+        }
         let used: Vec<usize> = (0..places.len())
             .filter(|place| places[*place].is_some())
             .collect();
@@ -89,7 +108,7 @@ impl Source {
     }
 }
 
-fn record_line(number: usize, record: &Record) -> Vec<u8> {
+pub(super) fn record_line(number: usize, record: &Record) -> Vec<u8> {
     format!(
         "record {number} {} {} {} {} {}",
         u32::from(record.in_use),

@@ -5,7 +5,7 @@ use crate::odd::with_byte;
 use crate::profile::sample;
 
 /// Lines at the edges of the numbers, good and one too far.
-const EDGES: [&str; 34] = [
+const EDGES: [&str; 40] = [
     "record 127 0 0 0 0 0",
     "record 256 1 1 1 0 0",
     "record 0 2 1 1 0 0",
@@ -27,6 +27,12 @@ const EDGES: [&str; 34] = [
     "unplace 31",
     "unplace 32",
     "unplace",
+    "second 31 0",
+    "second 32 0",
+    "second 0 255",
+    "second 0 256",
+    "second 0",
+    "second 0 0 0",
     "out 0",
     "out 300",
     "out 301",
