@@ -4,7 +4,7 @@
 use crate::count::print_counts;
 use std::io::{self, Write};
 
-const ANSWERS: [&str; 15] = [
+const ANSWERS: [&str; 16] = [
     "acks 1",
     "acks 2",
     "acks 3",
@@ -15,6 +15,7 @@ const ANSWERS: [&str; 15] = [
     "free",
     "admitted",
     "proceed",
+    "moved",
     "diverted",
     "rejected",
     "cancelled",
