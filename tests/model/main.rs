@@ -1,5 +1,5 @@
 //! An independent model of SS-CAD messages, of the call desk, and of the programs over them.
-//! It shares nothing with the product: where the two differ, document 01 decides.
+//! It shares nothing with the product: where the two differ, documents 01 and 02 decide.
 
 mod activate;
 mod bits;
@@ -17,6 +17,7 @@ mod layout;
 mod line;
 mod listing;
 mod message;
+mod moves;
 mod odd;
 mod places;
 mod profile;
@@ -38,7 +39,7 @@ use std::io::{self, BufWriter, Read, Write};
 use std::process::ExitCode;
 
 const USAGE: &str = "usage: model listing | generate SEED COUNT | suite | count | rounds | \
-    crossing | replay | script SEED COUNT | tally | selftest";
+    crossing | replay | script SEED COUNT | tally | moves | selftest";
 
 fn main() -> ExitCode {
     let arguments: Vec<String> = env::args_os()
@@ -79,6 +80,7 @@ fn run(words: &[&str]) -> io::Result<Option<bool>> {
             _ => return Ok(None),
         },
         ["tally"] => good = tally::tally(&standard_input()?, &mut out)?,
+        ["moves"] => good = moves::count_moves(&standard_input()?, &mut out)?,
         ["count"] => good = count::count(&standard_input()?, &mut out)?,
         ["selftest"] => good = selftest::selftest(&mut out)?,
         _ => return Ok(None),

@@ -1,0 +1,425 @@
+//! How often each thing that can befall a call of two posts came in a script, run on the model.
+//! It also says whether every one of them came at least once.
+
+use crate::desk::{posts_asked, restricted, Desk};
+use crate::line::lines_of;
+use crate::message::{read, Message};
+use crate::places::{
+    admits, all_owed, free, held, owed, place_of, places_keep_rules, without, Call, Places,
+};
+use crate::profile::PLACES;
+use crate::records::Identity;
+use crate::replay::Replay;
+use crate::script::{read_script_line, Line};
+use std::collections::BTreeSet;
+use std::io::{self, Write};
+
+#[derive(Clone, Copy)]
+enum Event {
+    Move,
+    MoveBelowCeiling,
+    MoveBelowReserveFull,
+    RefusedByCeiling,
+    RefusedByOwed,
+    FirstTooLate,
+    MovedAccepted,
+    MovedDiverted,
+    MovedRejected,
+    MovedCancelled,
+    PlaceAgain,
+    OwnSecond,
+    RecordsNameAnother,
+    Refused14,
+    RecordsNameNone,
+    TwoPosts,
+    OnePost,
+    SecondTooEarly,
+    EndedBeforeMove,
+    MoveBelowReserveOwed,
+    MoveByOwnPlace,
+    MoveFull,
+    MoveOwesFirst,
+    OwnSecondAtCeiling,
+    RefusedTwice,
+    RefusedThenMoved,
+    RefusedThenEnded,
+    FirstTooLateToEnd,
+    MovedAgain,
+    IdentifierAgain,
+    SecondNotThere,
+    NamedWhileFree,
+}
+
+const EVENTS: [(Event, &str); 32] = [
+    (Event::Move, "a move"),
+    (
+        Event::MoveBelowCeiling,
+        "a move to another post that is one below its ceiling",
+    ),
+    (
+        Event::MoveBelowReserveFull,
+        "a move to a post below its reserved number when no place is free but this one",
+    ),
+    (Event::RefusedByCeiling, "18 at a move by the ceiling"),
+    (
+        Event::RefusedByOwed,
+        "18 at a move by what is owed to the others",
+    ),
+    (
+        Event::FirstTooLate,
+        "20 for the first post's ACCEPT after the move",
+    ),
+    (Event::MovedAccepted, "a moved call accepted"),
+    (Event::MovedDiverted, "a moved call diverted"),
+    (Event::MovedRejected, "a moved call rejected"),
+    (Event::MovedCancelled, "a moved call cancelled"),
+    (Event::PlaceAgain, "a place of a moved call used again"),
+    (
+        Event::OwnSecond,
+        "an ACCEPT of a call whose second post is its own",
+    ),
+    (
+        Event::RecordsNameAnother,
+        "a move after the records changed, so that they name another second post",
+    ),
+    (Event::Refused14, "14 at a move"),
+    (
+        Event::RecordsNameNone,
+        "a move after the records changed, so that they name no second post",
+    ),
+    (Event::TwoPosts, "an admission with a second post"),
+    (
+        Event::OnePost,
+        "an admission of two restricted parties of one post",
+    ),
+    (
+        Event::SecondTooEarly,
+        "20 for the second post's ACCEPT before the move",
+    ),
+    (
+        Event::EndedBeforeMove,
+        "a call with a second post diverted, rejected or cancelled before it moved",
+    ),
+    (
+        Event::MoveBelowReserveOwed,
+        "a move to another post below its reserved number when all that is free is owed",
+    ),
+    (
+        Event::MoveByOwnPlace,
+        "a move that would be 18 if the call's own place weren't taken as free",
+    ),
+    (Event::MoveFull, "a move when no place is free but this one"),
+    (
+        Event::MoveOwesFirst,
+        "a move after which more is owed to the first post",
+    ),
+    (
+        Event::OwnSecondAtCeiling,
+        "a move to its own post when that is at its ceiling",
+    ),
+    (Event::RefusedTwice, "18 at a move of one call again"),
+    (
+        Event::RefusedThenMoved,
+        "a move of a call that had got 18 before",
+    ),
+    (
+        Event::RefusedThenEnded,
+        "a call diverted, rejected or cancelled where it stayed after 18",
+    ),
+    (
+        Event::FirstTooLateToEnd,
+        "20 for the first post's DIVERT or reject after the move",
+    ),
+    (
+        Event::MovedAgain,
+        "a move of a moved call that was given a second post again",
+    ),
+    (
+        Event::IdentifierAgain,
+        "the identifier of a moved call used again",
+    ),
+    (
+        Event::SecondNotThere,
+        "1 by a second post that isn't there and nothing else",
+    ),
+    (
+        Event::NamedWhileFree,
+        "a call in a place that was given a second post while it was free",
+    ),
+];
+
+/// Prints the counts; false if something never came.
+pub fn count_moves(script: &[u8], out: &mut dyn Write) -> io::Result<bool> {
+    let mut watch = Watch::new();
+    for line in lines_of(script) {
+        watch.run(line);
+    }
+    let mut complete = true;
+    for (event, words) in EVENTS {
+        let times = watch.counts[event as usize];
+        writeln!(out, "{times:9} {words}")?;
+        complete &= times > 0;
+    }
+    Ok(complete)
+}
+
+/// What the desk doesn't keep of the call in a place, or of what was there before.
+#[derive(Clone, Copy, Default)]
+struct Past {
+    /// The parties of the set-up that gave the call its second post.
+    parties: Option<(Identity, Identity)>,
+    /// The post that the call has moved away from.
+    left: Option<u32>,
+    got_18: bool,
+    /// The place is free since a moved call ended.
+    ended: bool,
+    /// The place is free and was given a second post all the same.
+    named: bool,
+}
+
+/// The four that name a waiting call, with the post that asks, but for cancel.
+enum Asking {
+    Accept(u32),
+    Divert(u32),
+    Reject(u32),
+    Cancel,
+}
+
+struct Watch {
+    replay: Replay,
+    pasts: [Past; PLACES as usize],
+    /// Identifiers of moved calls that have ended, each until it is used again.
+    ended: BTreeSet<u32>,
+    counts: [u64; EVENTS.len()],
+}
+
+impl Watch {
+    fn new() -> Self {
+        Watch {
+            replay: Replay::new(),
+            pasts: [Past::default(); PLACES as usize],
+            ended: BTreeSet::new(),
+            counts: [0; EVENTS.len()],
+        }
+    }
+
+    fn count(&mut self, event: Event) {
+        self.counts[event as usize] += 1;
+    }
+
+    fn count_if(&mut self, came: bool, event: Event) {
+        if came {
+            self.count(event);
+        }
+    }
+
+    fn run(&mut self, line: &[u8]) {
+        let before = self.replay.desk.clone();
+        let answer = self.replay.run(line).unwrap_or_default();
+        match read_script_line(line) {
+            Some(Line::Profile(_)) if answer.is_empty() => {
+                self.pasts = [Past::default(); PLACES as usize];
+                self.ended.clear();
+            }
+            Some(Line::Place { place, .. }) => self.used(place, Past::default()),
+            Some(Line::Unplace { place }) if before.places[place].is_some() => {
+                self.pasts[place] = Past::default();
+            }
+            Some(Line::Second { place, .. }) => self.named(&before, place),
+            Some(Line::SetUp {
+                caller,
+                called,
+                identifier,
+            }) => self.set_up(caller, called, identifier, &answer),
+            Some(Line::Reject { post, identifier }) => {
+                self.asked(&before, Asking::Reject(post), identifier, &answer);
+            }
+            Some(Line::Cancel { identifier }) => {
+                self.asked(&before, Asking::Cancel, identifier, &answer);
+            }
+            Some(Line::Post { post, bits, bytes }) => match read(&before.profile, &bytes, bits) {
+                Ok(Message::Accept { identifier }) => {
+                    self.asked(&before, Asking::Accept(post), identifier, &answer);
+                }
+                Ok(Message::Divert { identifier }) => {
+                    self.asked(&before, Asking::Divert(post), identifier, &answer);
+                }
+                _ => {}
+            },
+            _ => {}
+        }
+    }
+
+    /// A call came into the place.
+    fn used(&mut self, place: usize, past: Past) {
+        self.count_if(self.pasts[place].named, Event::NamedWhileFree);
+        self.pasts[place] = past;
+    }
+
+    /// A line `second`: the call's second post is no longer that of its set-up.
+    fn named(&mut self, before: &Desk, place: usize) {
+        let past = &mut self.pasts[place];
+        if before.places[place].is_none() {
+            past.named = true;
+        } else {
+            past.parties = None;
+            past.got_18 = false;
+        }
+    }
+
+    fn set_up(&mut self, caller: Identity, called: Identity, identifier: u32, answer: &str) {
+        if !answer.starts_with("admitted") {
+            return;
+        }
+        let places = &self.replay.desk.places;
+        let place = place_of(places, identifier).expect("an admitted call waits");
+        let has_second = places[place].map_or(false, |call| call.second.is_some());
+        let both_restricted = [caller, called]
+            .iter()
+            .all(|party| restricted(&self.replay.records, *party).is_some());
+
+        self.count_if(has_second, Event::TwoPosts);
+        self.count_if(
+            both_restricted && !has_second && caller != called,
+            Event::OnePost,
+        );
+        self.count_if(self.pasts[place].ended, Event::PlaceAgain);
+        let again = self.ended.remove(&identifier);
+        self.count_if(again, Event::IdentifierAgain);
+        let past = Past {
+            parties: if has_second {
+                Some((caller, called))
+            } else {
+                None
+            },
+            ..Past::default()
+        };
+        self.used(place, past);
+    }
+
+    fn asked(&mut self, before: &Desk, asking: Asking, identifier: u32, answer: &str) {
+        if answer == "refused 1" {
+            self.count_if(only_seconds_damage(before), Event::SecondNotThere);
+            return;
+        }
+        let place = match place_of(&before.places, identifier) {
+            Some(place) => place,
+            None => return,
+        };
+        let call = before.places[place].expect("a call waits there");
+        let past = self.pasts[place];
+        match (asking, answer.split(' ').next(), call.second) {
+            (Asking::Accept(_), Some("moved"), Some(second)) => {
+                self.moved(before, place, call, second);
+            }
+            (_, Some("proceed" | "diverted" | "rejected" | "cancelled"), _) => {
+                self.ended(place, call, answer);
+            }
+            (Asking::Accept(post), _, second) if answer == "refused 20" => {
+                self.count_if(past.left == Some(post), Event::FirstTooLate);
+                self.count_if(second == Some(post), Event::SecondTooEarly);
+            }
+            (Asking::Divert(post) | Asking::Reject(post), _, _) if answer == "refused 20" => {
+                self.count_if(past.left == Some(post), Event::FirstTooLateToEnd);
+            }
+            (Asking::Accept(_), _, Some(second)) if answer == "refused 18" => {
+                self.refused(before, place, second);
+            }
+            (Asking::Accept(post), _, Some(_)) if answer == "refused 14" => {
+                self.count_if(post == call.post, Event::Refused14);
+            }
+            _ => {}
+        }
+    }
+
+    fn moved(&mut self, before: &Desk, place: usize, call: Call, second: u32) {
+        let profile = &before.profile;
+        let rest = without(&before.places, place);
+        let share = &profile.posts[second as usize];
+        let own = second == call.post;
+        let held_there = held(&rest, second);
+        let below_reserve = held_there < share.reserved;
+        let no_other_free = free(profile, &before.places) == 0;
+        let all_free_owed = free(profile, &before.places) == all_owed(profile, &before.places);
+        let owed_to_first = |places: &Places| owed(profile, places, call.post);
+        let past = self.pasts[place];
+
+        self.count(Event::Move);
+        self.count_if(
+            !own && held_there + 1 == share.ceiling,
+            Event::MoveBelowCeiling,
+        );
+        self.count_if(below_reserve && no_other_free, Event::MoveBelowReserveFull);
+        self.count_if(
+            !own && below_reserve && all_free_owed,
+            Event::MoveBelowReserveOwed,
+        );
+        self.count_if(
+            !admits(profile, &before.places, second),
+            Event::MoveByOwnPlace,
+        );
+        self.count_if(no_other_free, Event::MoveFull);
+        self.count_if(
+            owed_to_first(&self.replay.desk.places) > owed_to_first(&before.places),
+            Event::MoveOwesFirst,
+        );
+        self.count_if(own, Event::OwnSecond);
+        self.count_if(
+            own && held_there + 1 == share.ceiling,
+            Event::OwnSecondAtCeiling,
+        );
+        self.count_if(past.got_18, Event::RefusedThenMoved);
+        self.count_if(past.left.is_some(), Event::MovedAgain);
+        if let Some((caller, called)) = past.parties {
+            match posts_asked(&self.replay.records, caller, called) {
+                Some((_, Some(now))) => self.count_if(now != second, Event::RecordsNameAnother),
+                _ => self.count(Event::RecordsNameNone),
+            }
+        }
+        // Only a call that went to another post counts as moved from here on.
+        let left = if own { past.left } else { Some(call.post) };
+        self.pasts[place] = Past {
+            left,
+            ..Past::default()
+        };
+    }
+
+    /// The places rule said no at a move.
+    fn refused(&mut self, before: &Desk, place: usize, second: u32) {
+        let rest = without(&before.places, place);
+        let at_ceiling = held(&rest, second) >= before.profile.posts[second as usize].ceiling;
+        self.count_if(at_ceiling, Event::RefusedByCeiling);
+        self.count_if(!at_ceiling, Event::RefusedByOwed);
+        self.count_if(self.pasts[place].got_18, Event::RefusedTwice);
+        self.pasts[place].got_18 = true;
+    }
+
+    fn ended(&mut self, place: usize, call: Call, answer: &str) {
+        let past = self.pasts[place];
+        let moved = past.left.is_some();
+        if moved {
+            self.count(match answer.split(' ').next() {
+                Some("proceed") => Event::MovedAccepted,
+                Some("diverted") => Event::MovedDiverted,
+                Some("rejected") => Event::MovedRejected,
+                _ => Event::MovedCancelled,
+            });
+            self.ended.insert(call.identifier);
+        }
+        self.count_if(!moved && call.second.is_some(), Event::EndedBeforeMove);
+        self.count_if(past.got_18, Event::RefusedThenEnded);
+        self.pasts[place] = Past {
+            ended: moved,
+            ..Past::default()
+        };
+    }
+}
+
+/// Whether the desk would be sound if no call had a second post.
+fn only_seconds_damage(desk: &Desk) -> bool {
+    let mut places = desk.places;
+    for call in places.iter_mut().flatten() {
+        call.second = None;
+    }
+    desk.profile.keeps_rules() && places_keep_rules(&desk.profile, &places)
+}
