@@ -3,6 +3,9 @@
 
 mod desk;
 mod layouts;
+mod ledger;
+mod move_scripts;
+mod moves;
 mod reading;
 mod script_lines;
 mod scripts;
@@ -32,5 +35,7 @@ pub fn selftest(out: &mut dyn Write) -> io::Result<bool> {
     writing::check(&mut report)?;
     layouts::check(&mut report)?;
     desk::check(&mut report)?;
+    moves::check(&mut report)?;
+    ledger::check(&mut report)?;
     Ok(report.all_good)
 }

@@ -37,7 +37,12 @@ pub fn check(report: &mut Report) -> io::Result<()> {
     long_history(report)
 }
 
-fn check_script(report: &mut Report, what: &str, script: &str, answers: &str) -> io::Result<()> {
+pub(super) fn check_script(
+    report: &mut Report,
+    what: &str,
+    script: &str,
+    answers: &str,
+) -> io::Result<()> {
     let mut output = Vec::new();
     replay(script.as_bytes(), &mut output)?;
     let good = output == answers.as_bytes();
@@ -50,7 +55,7 @@ fn check_script(report: &mut Report, what: &str, script: &str, answers: &str) ->
 }
 
 /// Lines that put `count` calls for a post into places from `first` on.
-fn put(first: usize, count: usize, post: u32) -> String {
+pub(super) fn put(first: usize, count: usize, post: u32) -> String {
     (first..first + count)
         .map(|place| format!("place {place} {} {post}\n", 100 + place))
         .collect()
@@ -104,6 +109,41 @@ fn damaged_desks(report: &mut Report) -> io::Result<()> {
         ),
         ("post 1 over its ceiling", put(0, 9, 1), true),
         ("post 1 at its ceiling", put(0, 8, 1), false),
+        (
+            "second post not below 2",
+            "place 0 5 0\nsecond 0 2\n".to_string(),
+            true,
+        ),
+        (
+            "largest second post",
+            "place 31 5 1\nsecond 31 255\n".to_string(),
+            true,
+        ),
+        (
+            "second post below 2",
+            "place 0 5 0\nsecond 0 1\n".to_string(),
+            false,
+        ),
+        (
+            "second post its own",
+            "place 0 5 0\nsecond 0 0\n".to_string(),
+            false,
+        ),
+        (
+            "second post of a free place",
+            "second 0 2\n".to_string(),
+            false,
+        ),
+        (
+            "second post of a place freed again",
+            "place 0 5 0\nsecond 0 2\nunplace 0\n".to_string(),
+            false,
+        ),
+        (
+            "second post of a call put anew",
+            "place 0 5 0\nsecond 0 2\nplace 0 5 0\n".to_string(),
+            false,
+        ),
         ("33 held and owed", put(0, 29, 0), true),
         ("32 held and owed", put(0, 28, 0), false),
     ];

@@ -1,0 +1,375 @@
+//! Laws of moves over long histories. What waits is told from lines and answers alone: held is
+//! counted up by an admission, down by an end, and by both at a move. The model's own places are
+//! only compared with it.
+
+use super::Report;
+use crate::desk::{Answer, Desk, Lent};
+use crate::history::Source;
+use crate::message::{read, Message};
+use crate::places::{Call, Places, ALL_FREE};
+use crate::profile::{Profile, PLACES};
+use crate::records::{Identity, Record};
+use crate::replay::Replay;
+use crate::script::{read_script_line, Line};
+use crate::write::{bits_of, bytes_of};
+use std::io;
+
+const SEEDS: [u64; 3] = [7, 8, 9];
+const LINES_OF_HISTORY: usize = 20_000;
+/// So many of each at least, or the laws say little.
+const FEWEST: usize = 100;
+
+struct Ledger {
+    places: Places,
+    held: [u32; 256],
+}
+
+/// Which laws have held so far, and on how many moves and refused moves.
+struct Laws {
+    places_told: bool,
+    shares_kept: bool,
+    accepts_counted: bool,
+    reserve_open: bool,
+    own_open: bool,
+    end_and_admission: bool,
+    nothing_written: bool,
+    moves: usize,
+    by_ceiling: usize,
+    by_owed: usize,
+}
+
+pub fn check(report: &mut Report) -> io::Result<()> {
+    let mut laws = Laws::new();
+    for seed in SEEDS {
+        laws.follow(seed);
+    }
+    let lines = SEEDS.len() * LINES_OF_HISTORY;
+    let all = format!("desk: {lines} lines, told from the history");
+    for (law, good) in [
+        ("what waits is what answers say", laws.places_told),
+        (
+            "no post over its ceiling, held and owed at most 32",
+            laws.shares_kept,
+        ),
+        ("every ACCEPT is answered as counted", laws.accepts_counted),
+        (
+            "a move to a post below its reserved number is never refused",
+            laws.reserve_open,
+        ),
+        ("a move to its own post is never refused", laws.own_open),
+        (
+            "a move is answered as an end and an admission are",
+            laws.end_and_admission,
+        ),
+        ("a move writes no byte", laws.nothing_written),
+    ] {
+        report.check(&format!("{all}: {law}"), good)?;
+    }
+    let (moves, by_ceiling, by_owed) = (laws.moves, laws.by_ceiling, laws.by_owed);
+    report.check(
+        &format!("{all}: {moves} moves, 18 by a ceiling {by_ceiling}, by what is owed {by_owed}"),
+        moves >= FEWEST && by_ceiling >= FEWEST && by_owed >= FEWEST,
+    )
+}
+
+/// The post and the identifier of an ACCEPT that reads well.
+fn accept_of(profile: &Profile, line: &Line) -> Option<(u32, u32)> {
+    match line {
+        Line::Post { post, bits, bytes } => match read(profile, bytes, *bits) {
+            Ok(Message::Accept { identifier }) => Some((*post, identifier)),
+            _ => None,
+        },
+        _ => None,
+    }
+}
+
+/// What an ACCEPT has to be answered; the posts are second posts.
+enum Accept {
+    Refused(u32),
+    Refused18(u32),
+    Moved(u32),
+    Proceed,
+}
+
+impl Accept {
+    fn words(&self, profile: &Profile) -> String {
+        match self {
+            Accept::Refused(number) => format!("refused {number}"),
+            Accept::Refused18(_) => "refused 18".to_string(),
+            Accept::Moved(post) => format!("moved {post}"),
+            // ACCEPTED: the SS type, type 13, and five spare bits.
+            Accept::Proceed => format!("proceed {:04X}", profile.ss_type << 10 | 13 << 5),
+        }
+    }
+}
+
+/// No post over its ceiling, and all held plus all owed at most 32: each post counts for its
+/// held or its reserved number, whichever is more.
+fn fit(profile: &Profile, held: &[u32; 256]) -> bool {
+    let mut held_and_owed = 0;
+    for (post, share) in profile.posts.iter().enumerate() {
+        if held[post] > share.ceiling {
+            return false;
+        }
+        held_and_owed += held[post].max(share.reserved);
+    }
+    held_and_owed <= PLACES
+}
+
+impl Ledger {
+    fn take_out(&mut self, place: usize) {
+        if let Some(call) = self.places[place].take() {
+            self.held[call.post as usize] -= 1;
+        }
+    }
+
+    fn put(&mut self, place: usize, call: Call) {
+        self.take_out(place);
+        self.places[place] = Some(call);
+        self.held[call.post as usize] += 1;
+    }
+
+    fn waiting(&self, identifier: u32) -> Option<(usize, Call)> {
+        for place in 0..PLACES as usize {
+            match self.places[place] {
+                Some(call) if call.identifier == identifier => return Some((place, call)),
+                _ => {}
+            }
+        }
+        None
+    }
+
+    fn is_sound(&self, profile: &Profile) -> bool {
+        let posts = profile.posts.len() as u32;
+        for (place, call) in self.places.iter().enumerate() {
+            if let Some(call) = call {
+                let (first, _) = self.waiting(call.identifier).unwrap_or((place, *call));
+                if call.identifier > 16_383
+                    || call.post >= posts
+                    || call.second.unwrap_or(0) >= posts
+                    || first != place
+                {
+                    return false;
+                }
+            }
+        }
+        fit(profile, &self.held)
+    }
+
+    /// A move leaves one call less at the first post and one more at the second, and is refused
+    /// exactly if that doesn't fit.
+    fn accept(&self, profile: &Profile, post: u32, identifier: u32, long_enough: bool) -> Accept {
+        if !self.is_sound(profile) {
+            return Accept::Refused(1);
+        }
+        if post as usize >= profile.posts.len() {
+            return Accept::Refused(2);
+        }
+        if !long_enough {
+            return Accept::Refused(14);
+        }
+        match self.waiting(identifier) {
+            None => Accept::Refused(19),
+            Some((_, call)) if call.post != post => Accept::Refused(20),
+            Some((_, call)) => match call.second {
+                None => Accept::Proceed,
+                Some(second) => {
+                    let mut held = self.held;
+                    held[post as usize] -= 1;
+                    held[second as usize] += 1;
+                    if fit(profile, &held) {
+                        Accept::Moved(second)
+                    } else {
+                        Accept::Refused18(second)
+                    }
+                }
+            },
+        }
+    }
+
+    fn note(&mut self, profile: &Profile, records: &[Record], line: &Line, answer: &str) {
+        let words: Vec<&str> = answer.split(' ').collect();
+        let number = |word: usize| words[word].parse::<u32>().expect("a number");
+        match line {
+            Line::Profile(_) if answer.is_empty() => {
+                self.places = ALL_FREE;
+                self.held = [0; 256];
+            }
+            Line::Place { place, call } => self.put(*place, *call),
+            Line::Unplace { place } => self.take_out(*place),
+            Line::Second { place, post } => {
+                if let Some(call) = &mut self.places[*place] {
+                    call.second = Some(*post);
+                }
+            }
+            Line::SetUp {
+                caller,
+                called,
+                identifier,
+            } if words[0] == "admitted" => {
+                let call = Call {
+                    identifier: *identifier,
+                    post: number(1),
+                    second: match (marked(records, *caller), marked(records, *called)) {
+                        (Some(callers), Some(calleds)) if callers != calleds => Some(calleds),
+                        _ => None,
+                    },
+                };
+                self.put(number(2) as usize, call);
+            }
+            Line::Reject { identifier, .. } | Line::Cancel { identifier } => {
+                self.end(*identifier, words[0]);
+            }
+            Line::Post { bits, bytes, .. } => match read(profile, bytes, *bits) {
+                Ok(Message::Accept { identifier }) if words[0] == "moved" => {
+                    if let Some((place, _)) = self.waiting(identifier) {
+                        let call = Call {
+                            identifier,
+                            post: number(1),
+                            second: None,
+                        };
+                        self.put(place, call);
+                    }
+                }
+                Ok(Message::Accept { identifier } | Message::Divert { identifier }) => {
+                    self.end(identifier, words[0]);
+                }
+                _ => {}
+            },
+            _ => {}
+        }
+    }
+
+    fn end(&mut self, identifier: u32, answer: &str) {
+        if ["proceed", "diverted", "rejected", "cancelled"].contains(&answer) {
+            if let Some((place, _)) = self.waiting(identifier) {
+                self.take_out(place);
+            }
+        }
+    }
+}
+
+/// The post of the party's record, the lowest in use, if that is marked.
+fn marked(records: &[Record], party: Identity) -> Option<u32> {
+    for record in records {
+        if record.in_use && record.ssi == party.ssi && record.extension == party.extension {
+            return if record.active {
+                Some(record.post)
+            } else {
+                None
+            };
+        }
+    }
+    None
+}
+
+impl Laws {
+    fn new() -> Self {
+        Laws {
+            places_told: true,
+            shares_kept: true,
+            accepts_counted: true,
+            reserve_open: true,
+            own_open: true,
+            end_and_admission: true,
+            nothing_written: true,
+            moves: 0,
+            by_ceiling: 0,
+            by_owed: 0,
+        }
+    }
+
+    fn follow(&mut self, seed: u64) {
+        let mut source = Source::new(seed);
+        let mut replay = Replay::new();
+        let mut ledger = Ledger {
+            places: ALL_FREE,
+            held: [0; 256],
+        };
+        for _ in 0..LINES_OF_HISTORY {
+            let line = source.next_line();
+            let before = replay.desk.clone();
+            let sound = ledger.is_sound(&before.profile);
+            let answer = replay.run(&line).unwrap_or_default();
+            let line = match read_script_line(&line) {
+                Some(line) => line,
+                None => continue,
+            };
+            if let Some((post, identifier)) = accept_of(&before.profile, &line) {
+                let long_enough = replay.output_bytes >= 300;
+                let wanted = ledger.accept(&before.profile, post, identifier, long_enough);
+                self.accepts_counted &= answer == wanted.words(&before.profile);
+                if let Accept::Moved(second) | Accept::Refused18(second) = wanted {
+                    self.judge(&ledger, &before, post, second, &answer);
+                    self.try_on_copies(&before, post, identifier, second, &answer);
+                }
+            }
+            ledger.note(&before.profile, &replay.records, &line, &answer);
+            self.places_told &= ledger.places == replay.desk.places;
+            if sound && !answer.is_empty() {
+                self.shares_kept &= fit(&replay.desk.profile, &ledger.held);
+            }
+        }
+    }
+
+    fn judge(&mut self, ledger: &Ledger, before: &Desk, first: u32, second: u32, answer: &str) {
+        let share = &before.profile.posts[second as usize];
+        let held = ledger.held[second as usize] - u32::from(first == second);
+        let refused = answer == "refused 18";
+        self.reserve_open &= !(refused && held < share.reserved);
+        self.own_open &= !(refused && first == second);
+        match (refused, held >= share.ceiling) {
+            (false, _) => self.moves += 1,
+            (true, true) => self.by_ceiling += 1,
+            (true, false) => self.by_owed += 1,
+        }
+    }
+
+    /// The ACCEPT again, to see its output area; and instead of it a cancel of the call and the
+    /// set-up of one for the second post.
+    fn try_on_copies(
+        &mut self,
+        before: &Desk,
+        post: u32,
+        identifier: u32,
+        second: u32,
+        answer: &str,
+    ) {
+        let mut output = [0xAA_u8; 300];
+        let accept = bits_of(&before.profile, &Message::Accept { identifier });
+        let lent = Lent {
+            records: &mut [],
+            output: &mut output,
+        };
+        let asked = before
+            .clone()
+            .message(lent, post, &bytes_of(&accept), accept.len());
+        let same = match asked {
+            Ok(Answer::Moved { post }) => answer == format!("moved {post}"),
+            Ok(_) => false,
+            Err(refusal) => answer == format!("refused {refusal}"),
+        };
+        self.nothing_written &= same && output == [0xAA; 300];
+
+        let mut copy = before.clone();
+        let user = Record {
+            in_use: true,
+            active: true,
+            post: second,
+            ..Record::default()
+        };
+        let party = |ssi| Identity { ssi, extension: 0 };
+        let ended = copy.cancel(identifier);
+        let lent = Lent {
+            records: &mut [user],
+            output: &mut output,
+        };
+        let admitted = copy.set_up(lent, party(0), party(1), identifier);
+        self.end_and_admission &= ended == Ok(Answer::Cancelled)
+            && match admitted {
+                Ok(Answer::Admitted { post, .. }) => answer == format!("moved {post}"),
+                Ok(_) => false,
+                Err(refusal) => answer == format!("refused {refusal}"),
+            };
+    }
+}
