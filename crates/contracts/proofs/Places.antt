@@ -6,6 +6,8 @@ use Rattle.places.proofs.place_of as place-of
 use Rattle.places.proofs.lowest_free as lowest-free
 use Rattle.places.proofs.take as take
 use Rattle.places.proofs.clear as clear
+use Rattle.places.proofs.place_at as place-at
+use Rattle.places.proofs.move_on as move-on
 use Rattle.contracts.specs.Outcomes.{Decides}
 use Rattle.contracts.proofs.Law.{same-answer}
 
@@ -26,3 +28,9 @@ decides-take = record { says = take.Reads.Learnt; is = refl; one = λ κs a x y 
 
 pub decides-clear : Decides clear.ended (λ M. clear.spec)
 decides-clear = record { says = clear.Reads.Learnt; is = refl; one = λ κs a x y v w. same-answer }
+
+pub decides-place-at : Decides place-at.ended (λ M. place-at.spec)
+decides-place-at = record { says = place-at.Reads.Learnt; is = refl; one = λ κs a x y v w. same-answer }
+
+pub decides-move-on : Decides move-on.ended (λ M. move-on.spec)
+decides-move-on = record { says = move-on.Reads.Learnt; is = refl; one = λ κs a x y v w. same-answer }
