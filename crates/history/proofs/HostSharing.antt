@@ -23,10 +23,11 @@ use Rattle.desk.specs.declared.Opened.{Opened}
 use Rattle.host.specs.declared.Told.{Told}
 use Rattle.host.proofs.call as call
 use Rattle.contracts.specs.Outcomes.{Contract, sayingOf}
-use Rattle.history.specs.Histories.{Call, History, stepFor, runOf, leftBy, Waiting, waitingOf, heldBy, freeBy, owedToOthers, isRestrictedCall}
+use Rattle.history.specs.Histories.{Call, History, stepFor, runOf, leftBy, Waiting, without, waitingOf, heldBy, freeBy, owedToOthers, isRestrictedCall, isAskedNext, IsSent}
 use Rattle.history.specs.Hosts.{Made, Promised, AllPromised, deskLeft, callOf, historyOf}
 use Rattle.history.proofs.RunLaws.{opened}
 use Rattle.history.proofs.Sharing as step
+use Rattle.history.proofs.Moving as move
 
 -- ---- what is promised of a call is the contract of `host::call`: of what is lent at entry, the answer, and what stands at exit
 
@@ -149,3 +150,39 @@ module _ (p : Profile) (o : Opened) (opening : o ≡ openOf p) (found : o .found
           step.admitted-else p opens steps (callOf m) caller called identifier event-is formed-so (subst (λ (x : ℕ). share post .reserved ≤ x) held-is h)
           (λ r. k (subst NoPlaceBy waiting-is r)) in
           record { place = a .place; answer-is = told-is ∙ a .answer-is }
+
+    -- if it is a well-formed ACCEPT of a call that waits at this post, for which another is asked second
+    module _ (post identifier second : ℕ) (sent : IsSent p 12 (callOf m) post identifier) (asked : isAskedNext waiting identifier post second ≡ true) where
+      asked-so : isAskedNext (step.waiting p opens steps) identifier post second ≡ true
+      asked-so = ap (λ (w : List Waiting). isAskedNext w identifier post second) waiting-is ∙ asked
+
+      -- the waiting calls without this one: its own place is taken as free
+      abbrev pub others : List Waiting
+      others = without identifier waiting
+
+      others-is : without identifier (step.waiting p opens steps) ≡ others
+      others-is = ap (λ (w : List Waiting). without identifier w) waiting-is
+
+      abbrev pub NoPlaceThere : List Waiting → Type 0
+      NoPlaceThere w = (heldBy w second ≡ share second .ceiling) ⊎ (freeBy w ≤ owedToOthers (p .shares) w second)
+
+      -- a move to a post below its reserved number is never refused for want of a place
+      pub call-move-reserved : heldBy others second < share second .reserved → m .told .answer ≡ answer.Moved second
+      call-move-reserved h =
+          told-is
+          ∙ move.move-reserved p opens steps (callOf m) post identifier sent second asked-so (subst (λ (w : List Waiting). heldBy w second < share second .reserved) (sym others-is) h)
+
+      -- at its reserved number or above, it gets 18 exactly if there is no place for it there
+      pub call-move-refused-exactly : share second .reserved ≤ heldBy others second
+          → (NoPlaceThere others → m .told .answer ≡ answer.Refused (refusal 18)) × (m .told .answer ≡ answer.Refused (refusal 18) → NoPlaceThere others)
+      call-move-refused-exactly h =
+          let e =
+          move.move-refused-exactly p opens steps (callOf m) post identifier sent second asked-so (subst (λ (w : List Waiting). share second .reserved ≤ heldBy w second) (sym others-is) h) in
+          (λ k. told-is ∙ e .0 (subst NoPlaceThere (sym others-is) k), λ z. subst NoPlaceThere others-is (e .1 (sym told-is ∙ z)))
+
+      -- and is moved else
+      pub call-move-else : share second .reserved ≤ heldBy others second → (NoPlaceThere others → ⊥) → m .told .answer ≡ answer.Moved second
+      call-move-else h k =
+          told-is
+          ∙ move.move-else p opens steps (callOf m) post identifier sent second asked-so (subst (λ (w : List Waiting). share second .reserved ≤ heldBy w second) (sym others-is) h)
+          (λ r. k (subst NoPlaceThere others-is r))
