@@ -126,6 +126,8 @@ cases =
     ∷ on (desk (call-then 5 0 1 ∷ [])) [] accept-5 (event.Message 0 25) (answer.Moved 1) [] (desk (calls 1 1 5)) (marked []) (untouched 300)
     ∷ on (desk (calls 1 1 5)) [] accept-5 (event.Message 0 25) (answer.Refused (refusal 20)) [] (desk (calls 1 1 5)) (marked []) (untouched 300)
     ∷ on (desk (calls 1 1 5)) [] accept-5 (event.Message 1 25) answer.Proceed (11 ∷ []) (desk []) (marked []) ((0x25 ∷ 0xA0 ∷ []) ++ untouched 298)
+    -- a second post that is the call's own, as only a lent desk has it: its ACCEPT moves
+    ∷ on (desk (call-then 5 1 1 ∷ [])) [] accept-5 (event.Message 1 25) (answer.Moved 1) [] (desk (calls 1 1 5)) (marked []) (untouched 300)
     -- 18 at a move, by the second post's ceiling: the call stays
     ∷ on (desk (call-then 5 0 1 ∷ calls 8 1 100)) [] accept-5 (event.Message 0 25) (answer.Refused (refusal 18)) [] (desk (call-then 5 0 1 ∷ calls 8 1 100)) (marked []) (untouched 300)
     ∷ []
