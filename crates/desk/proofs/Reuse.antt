@@ -3,23 +3,19 @@ use Prim.Native.Nat.{ℕ, _<_}
 use mathlib.Core.Path.{_≡_, refl, sym, ap, _∙_}
 use mathlib.Core.Bool.{Bool, true, false, not, cond}
 use mathlib.Core.List.{List}
-use mathlib.Core.Logic.{⊎-elim}
-use native.Mathlib.Nat.{eq-or-lt-of-le}
 use native.Mathlib.Omega.{arith}
 use lib.Dec.{eqb, ltb}
 use lib.ListN.{length, take}
-use borrow.Author.Tests.{eq-eqb, ne-eqb}
-use Rattle.bits.proofs.SetLaws.{eq-or, lt-or}
+use borrow.Author.Tests.{ne-eqb}
 use Rattle.codec.specs.Stops.{refusal}
 use Rattle.codec.proofs.Good.{both-right, not-both}
-use Rattle.places.specs.Held.{noPlace, placeIn, admitsOf}
-use Rattle.places.specs.Grounds.{placesOk}
+use Rattle.places.specs.Held.{placeIn, admitsOf}
 use Rattle.places.specs.Spots.{spotAt, placeOf, lowestFree, clearOf}
 use Rattle.places.specs.declared.Place.{Place}
 use Rattle.places.proofs.HeldLaws.{used-clear}
-use Rattle.places.proofs.PlaceLaws.{passes}
+use Rattle.places.proofs.CallLaws.{place-clear-own}
+use Rattle.places.proofs.MoveLaws.{clear-free}
 use Rattle.places.proofs.SpotLaws.{lowest-found, spot-found, place-of-exactly}
-use Rattle.profile.specs.declared.Shares.{Shares}
 use Rattle.records.specs.Records.{recordsOk}
 use Rattle.records.specs.declared.Identity.{Identity}
 use Rattle.records.specs.declared.Record.{Record}
@@ -40,9 +36,6 @@ use Rattle.desk.proofs.Endings.{isEnding, ended-waits}
 -- ---- a place that is cleared
 
 module _ (l : List Place) (i : ℕ) where
-  cleared-here : placeIn (clearOf l i) i ≡ noPlace
-  cleared-here = used-clear l i i ∙ rw (eq-eqb i i refl) refl
-
   cleared-there : (j : ℕ) → (j ≡ i → ⊥) → placeIn (clearOf l i) j ≡ placeIn l j
   cleared-there j d = used-clear l i j ∙ rw (ne-eqb j i d) refl
 
@@ -53,32 +46,9 @@ module _ (l : List Place) (i : ℕ) where
       lowest-found 32 i (λ j. not (placeIn (clearOf l i) j .used))
       (record {
         inside = h;
-        passes = rw cleared-here refl;
+        passes = rw (clear-free l i) refl;
         before = λ j k. let d : j ≡ i → ⊥ = λ e. absurd (omega (arith, e, k)) in rw (cleared-there j d, lower j k) refl;
       })
-
--- no other place has the identifier
-cleared-gone : (shares : Shares) (l : List Place) → placesOk shares l ≡ true → (identifier i : ℕ) → placeOf l identifier ≡ spotAt i → placeOf (clearOf l i) identifier .found ≡ false
-cleared-gone shares l ok identifier i at = go (placeOf (clearOf l i) identifier .found) refl
-  where
-    go : (b : Bool) → placeOf (clearOf l i) identifier .found ≡ b → b ≡ false
-    go true e =
-        let f = place-of-exactly l identifier i at in
-        let j = placeOf (clearOf l i) identifier .place in
-        let g = place-of-exactly (clearOf l i) identifier j (spot-found (placeOf (clearOf l i) identifier) e) in
-        let p = passes shares l ok in
-        ⊎-elim
-        (λ z. not-both (sym (ap (λ (x : Place). x .used) (ap (λ (k : ℕ). placeIn (clearOf l i) k) z ∙ cleared-here l i)) ∙ g .used))
-        (λ d.
-        let same = cleared-there l i j d in
-        let u : placeIn l j .used ≡ true = ap (λ (x : Place). x .used) (sym same) ∙ g .used in
-        let s : placeIn l j .identifier ≡ identifier = ap (λ (x : Place). x .identifier) (sym same) ∙ g .same in
-        absurd (⊎-elim
-        (λ h. p .alone i j (f .inside) h (f .used) u (f .same ∙ sym s))
-        (λ h. ⊎-elim (λ k. d (sym k)) (λ k. p .alone j i (g .inside) k u (f .used) (s ∙ sym (f .same))) (eq-or-lt-of-le h))
-        (lt-or j i)))
-        (eq-or j i)
-    go false e = refl
 
 -- ---- after a call that ended one
 
@@ -133,9 +103,9 @@ module _ (d : Desk) (rows : List Record) (n : ℕ) (l area : List ℕ) (e : Even
       let f = place-of-exactly (placesOf d) identifier place at in
       record {
         was = at;
-        free = ap (λ (ps : List Place). placeIn ps place .used) after-is ∙ ap (λ (x : Place). x .used) (cleared-here (placesOf d) place);
+        free = ap (λ (ps : List Place). placeIn ps place .used) after-is ∙ ap (λ (x : Place). x .used) (clear-free (placesOf d) place);
         lowest = λ lower. ap lowestFree after-is ∙ cleared-lowest (placesOf d) place (f .inside) lower;
-        new = ap (λ (ps : List Place). placeOf ps identifier .found) after-is ∙ cleared-gone (d .profile .shares) (placesOf d) (both-right _ _ passed) identifier place at;
+        new = ap (λ (ps : List Place). placeOf ps identifier .found) after-is ∙ place-clear-own (placesOf d) place (d .profile .shares) (both-right _ _ passed) identifier at;
       }
 
 -- ---- a set-up of an identifier that is not waiting does not get 17

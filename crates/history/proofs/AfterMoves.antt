@@ -6,7 +6,7 @@ use mathlib.Core.Bool.{Bool, true, false, not, cond}
 use mathlib.Core.List.{List, [], _∷_, _++_}
 use native.Mathlib.Omega.{arith}
 use lib.Dec.{eqb}
-use lib.ListN.{length, take}
+use lib.ListN.{length}
 use borrow.Author.Tests.{eq-eqb, ne-eqb, eqb-true, lt-ltb}
 use Rattle.codec.specs.Codec.{both}
 use Rattle.codec.specs.Stops.{refusal}
@@ -14,14 +14,13 @@ use Rattle.codec.proofs.Good.{both-left, both-right, both-true, not-both}
 use Rattle.profile.specs.Counting.{one}
 use Rattle.profile.specs.Rules.{profileOk}
 use Rattle.profile.specs.declared.Profile.{Profile}
-use Rattle.message.specs.Values.{identifierIn}
 use Rattle.places.specs.Held.{placeIn}
 use Rattle.places.specs.Spots.{placeOf}
 use Rattle.places.specs.declared.Place.{Place}
-use Rattle.places.proofs.SpotLaws.{WaitsFirst, spot-found, place-of-exactly}
+use Rattle.places.proofs.SpotLaws.{spot-found, place-of-exactly}
 use Rattle.records.specs.Records.{noParty}
 use Rattle.records.specs.declared.Party.{Party}
-use Rattle.desk.specs.Desks.{deskWith, deskOk}
+use Rattle.desk.specs.Desks.{deskWith}
 use Rattle.desk.specs.Grounds.{waits, waitsHere}
 use Rattle.desk.specs.Orders.{postsOf, placesOf, endAnswer, acceptAnswer, decideAnswer, rejectAnswer, answerOf}
 use Rattle.desk.specs.Steps.{postOf, identifierOf}
@@ -31,11 +30,11 @@ use Rattle.desk.specs.declared.Desk.{Desk}
 use Rattle.desk.specs.declared.Event.{Event}
 use Rattle.desk.specs.declared.Event.the-variants as event
 use Rattle.desk.proofs.AnswerLaws.{step-answer}
-use Rattle.desk.proofs.Moves.{MovedCall, moved-so}
-use Rattle.history.specs.Histories.{Call, History, stepFor, runOf, leftBy, Waiting, without, meantBy, askedSecond, answered, afterwards, waitingAfter, waitingOf, countBy, isWaiting, IsSent, isAdmission, admitsNone}
-use Rattle.history.proofs.WaitingLaws.{callIn, hasSuch, Same, without-count, some-such}
-use Rattle.history.proofs.RunLaws.{Along, along, along-step, meant-same, moved-other, step-profile, run-profile, run-parts}
-use Rattle.history.proofs.Sharing.{waiting, next, kept, sound, waiting-is, stays-ok}
+use Rattle.desk.proofs.Moves.{moved-so}
+use Rattle.history.specs.Histories.{Call, History, stepFor, runOf, Waiting, without, meantBy, answered, afterwards, waitingAfter, waitingOf, countBy, isWaiting, IsSent, isAdmission, admitsNone}
+use Rattle.history.proofs.WaitingLaws.{hasSuch, without-count, some-such}
+use Rattle.history.proofs.RunLaws.{Along, along, along-step, meant-same, moved-other, step-profile, run-parts}
+use Rattle.history.proofs.Sharing.{waiting, next, kept, waiting-is, stays-ok}
 use Rattle.history.proofs.Moving.{count-none, read-by, sent-accept, sent-divert, decide-19, decide-20, decide-here}
 
 -- a call with this identifier that waits elsewhere than at this post, or after which one more post is asked

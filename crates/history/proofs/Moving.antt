@@ -1,20 +1,20 @@
 -- Demand 3 of a move (document 02, iii), over any history from an opened desk, counted from the history alone: an ACCEPT of a call that has
 -- a second post goes by the same rule as a set-up, for that post, with the call's own place taken as free. After a move the call proceeds
 -- by the second post's ACCEPT alone. Assumes nothing.
-use Prim.Native.Nat.{ℕ, zero, suc, _+_, _<_, _≤_, _^_}
+use Prim.Native.Nat.{ℕ, zero, suc, _+_, _<_, _≤_}
 use mathlib.Core.Path.{_≡_, refl, sym, ap, _∙_, subst}
-use mathlib.Core.Bool.{Bool, true, false, not, cond}
-use mathlib.Core.List.{List, [], _∷_, _++_}
-use mathlib.Core.Logic.{_⊎_, inl, inr, ⊎-elim}
+use mathlib.Core.Bool.{Bool, true, false, not}
+use mathlib.Core.List.{List, [], _∷_}
+use mathlib.Core.Logic.{_⊎_}
 use native.Mathlib.Omega.{arith}
 use lib.Dec.{eqb, ltb}
-use lib.ListN.{length, take}
-use borrow.Author.Tests.{eq-eqb, ne-eqb, eqb-true, lt-ltb, le-ltb, ltb-true}
-use Rattle.codec.specs.Codec.{both, got}
+use lib.ListN.{length}
+use borrow.Author.Tests.{eq-eqb, eqb-true, lt-ltb, le-ltb, ltb-true}
+use Rattle.codec.specs.Codec.{both}
 use Rattle.codec.specs.Stops.{refusal}
-use Rattle.codec.proofs.Good.{both-left, both-right, both-true, both-none, not-both}
+use Rattle.codec.proofs.Good.{both-left, both-right, not-both}
 use Rattle.profile.specs.Counting.{one, sum}
-use Rattle.profile.specs.Rules.{shareIn, sharesOk, profileOk}
+use Rattle.profile.specs.Rules.{sharesOk, profileOk}
 use Rattle.profile.specs.declared.Profile.{Profile}
 use Rattle.message.specs.Values.{identifierIn}
 use Rattle.message.specs.Reading.{readOf}
@@ -26,14 +26,9 @@ use Rattle.places.specs.declared.Place.{Place}
 use Rattle.places.specs.declared.Spot.{Spot}
 use Rattle.places.proofs.HeldLaws.{length-clear}
 use Rattle.places.proofs.PlaceLaws.{passes, clear-keeps}
-use Rattle.places.proofs.SpotLaws.{place-of-exactly}
 use Rattle.places.proofs.CallLaws.{place-of-waiting}
-use Rattle.records.specs.Records.{noParty}
-use Rattle.records.specs.declared.Party.{Party}
-use Rattle.desk.specs.Desks.{deskWith, deskOk}
 use Rattle.desk.specs.Grounds.{waits, waitsHere}
-use Rattle.desk.specs.Orders.{unless, postsOf, placesOf, endAnswer, moveAnswer, acceptAnswer, decideAnswer, sentAnswer, readAnswer, messageAnswer, identifierOk, rejectAnswer, answerOf}
-use Rattle.desk.specs.Steps.{postOf, identifierOf}
+use Rattle.desk.specs.Orders.{postsOf, placesOf, endAnswer, moveAnswer, acceptAnswer, decideAnswer, sentAnswer, messageAnswer, answerOf}
 use Rattle.desk.specs.declared.Answer.{Answer}
 use Rattle.desk.specs.declared.Answer.the-variants as answer
 use Rattle.desk.specs.declared.Desk.{Desk}
@@ -41,11 +36,11 @@ use Rattle.desk.specs.declared.Event.{Event}
 use Rattle.desk.specs.declared.Event.the-variants as event
 use Rattle.desk.proofs.AnswerLaws.{step-answer}
 use Rattle.desk.proofs.Moves.{isMoved}
-use Rattle.history.specs.Histories.{Call, History, stepFor, runOf, leftBy, Waiting, without, meantBy, askedSecond, answered, afterwards, waitingAfter, waitingOf, countBy, isWaiting, heldBy, freeBy, owedToOthers, isAskedNext, isAskedLast, IsSent, isAdmission, admitsNone}
-use Rattle.history.proofs.WaitingLaws.{callIn, hasSuch, Same, same-clear, without-count}
+use Rattle.history.specs.Histories.{Call, stepFor, Waiting, without, countBy, heldBy, freeBy, owedToOthers, isAskedNext, isAskedLast, IsSent}
+use Rattle.history.proofs.WaitingLaws.{callIn, hasSuch, Same, same-clear}
 use Rattle.history.proofs.RuleLaws.{reserved-yes, none-no, else-yes, no-none}
-use Rattle.history.proofs.RunLaws.{Along, along, along-step, moved-other, run-profile}
-use Rattle.history.proofs.Sharing.{history, waiting, next, share, kept, sound, waiting-is, stays-ok}
+use Rattle.history.proofs.RunLaws.{along}
+use Rattle.history.proofs.Sharing.{waiting, next, share, kept, sound, stays-ok}
 
 -- ---- where a waiting call stands
 
