@@ -6,7 +6,7 @@ use mathlib.Core.List.{List, [], _∷_}
 use native.Mathlib.Omega.{arith}
 use lib.Dec.{eqb, leb, ltb}
 use lib.ListN.{length, take}
-use borrow.Author.Tests.{le-leb, leb-true}
+use borrow.Author.Tests.{eqb-true, le-leb, leb-true}
 use Rattle.codec.specs.Codec.{Read, got, no, both}
 use Rattle.codec.specs.Stops.{refusal, published}
 use Rattle.codec.specs.declared.Stop.{Stop}
@@ -50,6 +50,27 @@ by-answer d rows post users spoken (answer.Moved p) = refl
 pub step-answer : (d : Desk) (rows : List Record) (n : ℕ) (l area : List ℕ) (e : Event) → stepOf d rows n l area e .answer ≡ answerOf d rows n l (length area) e
 unfolding stepOf
 step-answer d rows n l area e = by-answer d (take n rows) _ _ _ (answerOf d rows n l (length area) e)
+
+-- ---- a message that was read, by its type
+
+module _ (d : Desk) (rows : List Record) (n room post : ℕ) (v : Value) (P : Answer → Type 0) where
+  -- what holds of each type's answer holds of the answer
+  pub by-type : (v .pdu ≡ 2 → P (activateAnswer d rows n room v))
+      → P (interrogateAnswer d rows n post v)
+      → P (decideAnswer d room post (identifierIn v) (acceptAnswer d (placeOf (placesOf d) (identifierIn v) .place)))
+      → P (decideAnswer d room post (identifierIn v) answer.Diverted)
+      → P (answer.Refused (refusal 8))
+      → P (sentAnswer d rows n room post v)
+  unfolding sentAnswer
+  by-type activate interrogate accept divert other = first (eqb (v .pdu) 2) refl (next (eqb (v .pdu) 8) interrogate (next (eqb (v .pdu) 12) accept (next (eqb (v .pdu) 15) divert other)))
+    where
+      next : (b : Bool) {x y : Answer} → P x → P y → P (cond b x y)
+      next true p q = p
+      next false p q = q
+
+      first : (b : Bool) {y : Answer} → eqb (v .pdu) 2 ≡ b → P y → P (cond b (activateAnswer d rows n room v) y)
+      first true e q = activate (eqb-true _ _ e)
+      first false e q = q
 
 -- ---- a test that passes every refusal in the table passes a call's answer if it passes what the call can be answered otherwise
 
@@ -119,24 +140,24 @@ module _ (ok : Answer → Bool) (refused : (s : Stop) → pastOne (s .number) �
 
     module _ (rows : List Record) (n : ℕ) (acks : ok answer.Acks ≡ true) (state : (k : ℕ) → ok (answer.State k) ≡ true) (proceed : ok answer.Proceed ≡ true)
         (diverted : ok answer.Diverted ≡ true) (moved : (post : ℕ) → ok (answer.Moved post) ≡ true) (passes : profileOk (d .profile) ≡ true) where
-      type-ok : (room post : ℕ) (v : Value) (a b c e : Bool)
-          → ok (cond a (activateAnswer d rows n room v) (cond b (interrogateAnswer d rows n post v)
-          (cond c (decideAnswer d room post (identifierIn v) (acceptAnswer d (placeOf (placesOf d) (identifierIn v) .place))) (cond e (decideAnswer d room post (identifierIn v) answer.Diverted) (answer.Refused (refusal 8)))))) ≡ true
+      sent-ok : (room post : ℕ) (v : Value) → ok (sentAnswer d rows n room post v) ≡ true
       unfolding activateAnswer interrogateAnswer decideAnswer pastOne both refusal
-      type-ok room post v true b c e =
+      sent-ok room post v =
+          by-type d rows n room post v (λ a. ok a ≡ true)
+          (λ _.
           unless-ok (ltb room 300) 14 _ refl
-          (unless-ok (not (recordsOk rows n (postsOf d))) 15 _ refl (unless-ok (namesDispatchers (d .profile .air) v) 21 answer.Acks refl acks))
-      type-ok room post v false true c e = unless-ok (not (recordsOk rows n (postsOf d))) 15 _ refl (state _)
-      type-ok room post v false false true e = unless-ok (ltb room 300) 14 _ refl (end-ok post (identifierIn v) _ (accept-ok _ proceed moved))
-      type-ok room post v false false false true = unless-ok (ltb room 300) 14 _ refl (end-ok post (identifierIn v) answer.Diverted diverted)
-      type-ok room post v false false false false = refused (refusal 8) refl
+          (unless-ok (not (recordsOk rows n (postsOf d))) 15 _ refl (unless-ok (namesDispatchers (d .profile .air) v) 21 answer.Acks refl acks)))
+          (unless-ok (not (recordsOk rows n (postsOf d))) 15 _ refl (state _))
+          (unless-ok (ltb room 300) 14 _ refl (end-ok post (identifierIn v) _ (accept-ok _ proceed moved)))
+          (unless-ok (ltb room 300) 14 _ refl (end-ok post (identifierIn v) answer.Diverted diverted))
+          (refused (refusal 8) refl)
 
       message-ok : (l : List ℕ) (room post bits : ℕ) → ok (messageAnswer d rows n l room post bits) ≡ true
-      unfolding messageAnswer sentAnswer pastOne both
+      unfolding messageAnswer pastOne both
       message-ok l room post bits = unless-ok (not (ltb post (postsOf d))) 2 _ refl (go (readOf (d .profile) l bits) refl)
         where
           go : (r : Read Value) → readOf (d .profile) l bits ≡ r → ok (readAnswer r (λ v. sentAnswer d rows n room post v)) ≡ true
-          go (got v p) e = type-ok room post v (eqb (v .pdu) 2) (eqb (v .pdu) 8) (eqb (v .pdu) 12) (eqb (v .pdu) 15)
+          go (got v p) e = sent-ok room post v
           go (no s) e = refused s (reading-past (s .number) (read-known (d .profile) l bits s passes e))
 
 -- what an event can be answered but a refusal passes the test

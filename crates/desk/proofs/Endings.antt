@@ -3,27 +3,25 @@ use Prim.Native.Nat.{ℕ}
 use mathlib.Core.Path.{_≡_, refl, sym, ap, _∙_}
 use mathlib.Core.Bool.{Bool, true, false, not, cond}
 use mathlib.Core.List.{List}
-use lib.Dec.{eqb, ltb}
+use lib.Dec.{ltb}
 use lib.ListN.{length}
 use Rattle.codec.specs.Codec.{Read, got, no}
-use Rattle.codec.specs.Stops.{refusal}
 use Rattle.codec.proofs.Good.{not-both}
 use Rattle.message.specs.Values.{identifierIn}
 use Rattle.message.specs.Reading.{readOf}
 use Rattle.message.specs.declared.Value.{Value}
-use Rattle.places.specs.Spots.{placeOf}
 use Rattle.records.specs.Records.{recordsOk}
 use Rattle.records.specs.declared.Record.{Record}
 use Rattle.desk.specs.Desks.{deskOk}
 use Rattle.desk.specs.Grounds.{waits}
-use Rattle.desk.specs.Orders.{unless, postsOf, placesOf, namesDispatchers, activateAnswer, interrogateAnswer, endAnswer, acceptAnswer, decideAnswer, sentAnswer, readAnswer, messageAnswer, identifierOk, rejectAnswer, cancelAnswer, eventAnswer, answerOf}
+use Rattle.desk.specs.Orders.{unless, postsOf, namesDispatchers, activateAnswer, interrogateAnswer, endAnswer, decideAnswer, sentAnswer, readAnswer, messageAnswer, identifierOk, rejectAnswer, cancelAnswer, eventAnswer, answerOf}
 use Rattle.desk.specs.Steps.{valueBy, identifierOf, stepOf}
 use Rattle.desk.specs.declared.Answer.{Answer}
 use Rattle.desk.specs.declared.Answer.the-variants as answer
 use Rattle.desk.specs.declared.Desk.{Desk}
 use Rattle.desk.specs.declared.Event.{Event}
 use Rattle.desk.specs.declared.Event.the-variants as event
-use Rattle.desk.proofs.AnswerLaws.{step-answer, setup-ok}
+use Rattle.desk.proofs.AnswerLaws.{step-answer, by-type, setup-ok}
 use Rattle.desk.proofs.SetUps.{not-true}
 
 -- an answer that ends a waiting call
@@ -59,20 +57,19 @@ module _ (d : Desk) where
   cancel-not identifier e = rw e (unless-not (not (identifierOk identifier)) 16 _ refl)
 
   module _ (rows : List Record) (n room post : ℕ) where
-    type-not : (v : Value) (a b c e : Bool) → waits d (identifierIn v) ≡ false
-        → isEnding (cond a (activateAnswer d rows n room v) (cond b (interrogateAnswer d rows n post v)
-        (cond c (decideAnswer d room post (identifierIn v) (acceptAnswer d (placeOf (placesOf d) (identifierIn v) .place))) (cond e (decideAnswer d room post (identifierIn v) answer.Diverted) (answer.Refused (refusal 8)))))) ≡ false
+    sent-not : (v : Value) → waits d (identifierIn v) ≡ false → isEnding (sentAnswer d rows n room post v) ≡ false
     unfolding activateAnswer interrogateAnswer decideAnswer
-    type-not v true b c e w =
-        unless-not (ltb room 300) 14 _ (unless-not (not (recordsOk rows n (postsOf d))) 15 _ (unless-not (namesDispatchers (d .profile .air) v) 21 answer.Acks refl))
-    type-not v false true c e w = unless-not (not (recordsOk rows n (postsOf d))) 15 _ refl
-    type-not v false false true e w = unless-not (ltb room 300) 14 _ (end-not post (identifierIn v) _ w)
-    type-not v false false false true w = unless-not (ltb room 300) 14 _ (end-not post (identifierIn v) answer.Diverted w)
-    type-not v false false false false w = refl
+    sent-not v w =
+        by-type d rows n room post v (λ a. isEnding a ≡ false)
+        (λ _.
+        unless-not (ltb room 300) 14 _ (unless-not (not (recordsOk rows n (postsOf d))) 15 _ (unless-not (namesDispatchers (d .profile .air) v) 21 answer.Acks refl)))
+        (unless-not (not (recordsOk rows n (postsOf d))) 15 _ refl)
+        (unless-not (ltb room 300) 14 _ (end-not post (identifierIn v) _ w))
+        (unless-not (ltb room 300) 14 _ (end-not post (identifierIn v) answer.Diverted w))
+        refl
 
     message-not : (r : Read Value) → waits d (identifierIn (valueBy r)) ≡ false → isEnding (readAnswer r (λ v. sentAnswer d rows n room post v)) ≡ false
-    unfolding sentAnswer
-    message-not (got v p) w = type-not v (eqb (v .pdu) 2) (eqb (v .pdu) 8) (eqb (v .pdu) 12) (eqb (v .pdu) 15) w
+    message-not (got v p) w = sent-not v w
     message-not (no s) w = refl
 
 module _ (d : Desk) (rows : List Record) (n : ℕ) (l : List ℕ) (room : ℕ) where

@@ -4,10 +4,9 @@ use Prim.Native.Nat.{ℕ}
 use mathlib.Core.Path.{_≡_, refl, sym, ap, _∙_}
 use mathlib.Core.Bool.{Bool, true, false, not, cond}
 use mathlib.Core.List.{List}
-use lib.Dec.{eqb, ltb}
+use lib.Dec.{ltb}
 use lib.ListN.{length}
 use Rattle.codec.specs.Codec.{Read, got, no}
-use Rattle.codec.specs.Stops.{refusal}
 use Rattle.codec.proofs.Good.{not-both}
 use Rattle.message.specs.Values.{identifierIn}
 use Rattle.message.specs.Reading.{readOf}
@@ -25,7 +24,7 @@ use Rattle.desk.specs.declared.Answer.the-variants as answer
 use Rattle.desk.specs.declared.Desk.{Desk}
 use Rattle.desk.specs.declared.Event.{Event}
 use Rattle.desk.specs.declared.Event.the-variants as event
-use Rattle.desk.proofs.AnswerLaws.{step-answer, answer-ok}
+use Rattle.desk.proofs.AnswerLaws.{step-answer, by-type, answer-ok}
 
 abbrev pub isMoved : Answer → Bool
 isMoved (answer.Refused s) = false
@@ -116,22 +115,19 @@ module _ (to : ℕ) where
         unless-never false c x h = h
 
     module _ (rows : List Record) (n room post : ℕ) where
-      type-moved : (v : Value) (a b c e : Bool)
-          → cond a (activateAnswer d rows n room v) (cond b (interrogateAnswer d rows n post v)
-          (cond c (decideAnswer d room post (identifierIn v) (acceptAnswer d (placeOf (placesOf d) (identifierIn v) .place)))
-          (cond e (decideAnswer d room post (identifierIn v) answer.Diverted) (answer.Refused (refusal 8))))) ≡ answer.Moved to
-          → MovedCall d (identifierIn v) post to
+      sent-moved : (v : Value) → sentAnswer d rows n room post v ≡ answer.Moved to → MovedCall d (identifierIn v) post to
       unfolding activateAnswer interrogateAnswer
-      type-moved v true b c e z =
-          not-both (ap isMoved (past (namesDispatchers (d .profile .air) v) 21 _ (past (not (recordsOk rows n (postsOf d))) 15 _ (past (ltb room 300) 14 _ z .1) .1) .1))
-      type-moved v false true c e z = not-both (ap isMoved (past (not (recordsOk rows n (postsOf d))) 15 _ z .1))
-      type-moved v false false true e z = decide-moved room post (identifierIn v) z
-      type-moved v false false false true z = not-both (sym (decide-never room post (identifierIn v) answer.Diverted refl) ∙ ap isMoved z)
-      type-moved v false false false false z = not-both (ap isMoved z)
+      sent-moved v =
+          by-type d rows n room post v (λ a. a ≡ answer.Moved to → MovedCall d (identifierIn v) post to)
+          (λ _ z.
+          not-both (ap isMoved (past (namesDispatchers (d .profile .air) v) 21 _ (past (not (recordsOk rows n (postsOf d))) 15 _ (past (ltb room 300) 14 _ z .1) .1) .1)))
+          (λ z. not-both (ap isMoved (past (not (recordsOk rows n (postsOf d))) 15 _ z .1)))
+          (decide-moved room post (identifierIn v))
+          (λ z. not-both (sym (decide-never room post (identifierIn v) answer.Diverted refl) ∙ ap isMoved z))
+          (λ z. not-both (ap isMoved z))
 
       message-moved : (r : Read Value) → readAnswer r (λ v. sentAnswer d rows n room post v) ≡ answer.Moved to → MovedCall d (identifierIn (valueBy r)) post to
-      unfolding sentAnswer
-      message-moved (got v p) z = type-moved v (eqb (v .pdu) 2) (eqb (v .pdu) 8) (eqb (v .pdu) 12) (eqb (v .pdu) 15) z
+      message-moved (got v p) z = sent-moved v z
       message-moved (no s) z = not-both (ap isMoved z)
 
     module _ (rows : List Record) (n : ℕ) (l : List ℕ) (room : ℕ) where

@@ -6,12 +6,11 @@ use mathlib.Core.Bool.{Bool, true, false, not, cond}
 use mathlib.Core.List.{List, [], _∷_}
 use mathlib.Core.Logic.{⊎-elim}
 use native.Mathlib.Omega.{arith}
-use lib.Dec.{eqb, ltb}
+use lib.Dec.{ltb}
 use lib.ListN.{length, getD, take}
-use borrow.Author.Tests.{lt-ltb, eqb-true}
+use borrow.Author.Tests.{lt-ltb}
 use Rattle.bits.proofs.SetLaws.{lt-or}
 use Rattle.codec.specs.Codec.{Read, got, no}
-use Rattle.codec.specs.Stops.{refusal}
 use Rattle.codec.proofs.Good.{both-left, not-both}
 use Rattle.profile.specs.Rules.{profileOk}
 use Rattle.profile.specs.declared.Profile.{Profile}
@@ -44,6 +43,7 @@ use Rattle.desk.specs.declared.Desk.{Desk}
 use Rattle.desk.specs.declared.Event.{Event}
 use Rattle.desk.specs.declared.Event.the-variants as event
 use Rattle.desk.proofs.ActivateLaws.{activate-users, request}
+use Rattle.desk.proofs.AnswerLaws.{by-type}
 use Rattle.desk.proofs.LaidLaws.{laid-count, unfilled-stay, all-length, all-read}
 
 -- ---- a call lays what it sends
@@ -165,17 +165,17 @@ module _ (d : Desk) (rows : List Record) (post : ℕ) (users : Group) (room : �
 -- a message that was read, by its type
 module _ (d : Desk) (rows : List Record) (n : ℕ) (room post : ℕ) (passes : profileOk (d .profile) ≡ true) where
   sent-fits : (v : Value) → validOf (d .profile .air) v ≡ true → Fit d (take n rows) post (v .users) room (sentAnswer d rows n room post v)
-  unfolding sentAnswer interrogateAnswer
-  sent-fits v ok = go (eqb (v .pdu) 2) refl (eqb (v .pdu) 8) (eqb (v .pdu) 12) (eqb (v .pdu) 15)
+  unfolding interrogateAnswer
+  sent-fits v ok =
+      by-type d rows n room post v Fitting
+      (λ z. activate-fits d (take n rows) post (v .users) room passes rows n v (activate-users (d .profile .air) v ok z))
+      (plain-fits d (take n rows) post (v .users) room (not (recordsOk rows n (postsOf d))) 15 _ (nothing-fits (d .profile) room))
+      (decide-fits d (take n rows) post (v .users) room passes post (identifierIn v) _ (λ h. accept-fits d (take n rows) post (v .users) room passes h (placeOf (placesOf d) (identifierIn v) .place)))
+      (decide-fits d (take n rows) post (v .users) room passes post (identifierIn v) answer.Diverted (diverted-fits d (take n rows) post (v .users) room passes))
+      (nothing-fits (d .profile) room)
     where
-      go : (a : Bool) → eqb (v .pdu) 2 ≡ a → (b c e : Bool)
-          → Fit d (take n rows) post (v .users) room (cond a (activateAnswer d rows n room v) (cond b (interrogateAnswer d rows n post v)
-          (cond c (decideAnswer d room post (identifierIn v) (acceptAnswer d (placeOf (placesOf d) (identifierIn v) .place))) (cond e (decideAnswer d room post (identifierIn v) answer.Diverted) (answer.Refused (refusal 8))))))
-      go true z b c e = activate-fits d (take n rows) post (v .users) room passes rows n v (activate-users (d .profile .air) v ok (eqb-true _ _ z))
-      go false z true c e = plain-fits d (take n rows) post (v .users) room (not (recordsOk rows n (postsOf d))) 15 _ (nothing-fits (d .profile) room)
-      go false z false true e = decide-fits d (take n rows) post (v .users) room passes post (identifierIn v) _ (λ h. accept-fits d (take n rows) post (v .users) room passes h (placeOf (placesOf d) (identifierIn v) .place))
-      go false z false false true = decide-fits d (take n rows) post (v .users) room passes post (identifierIn v) answer.Diverted (diverted-fits d (take n rows) post (v .users) room passes)
-      go false z false false false = nothing-fits (d .profile) room
+      Fitting : Answer → Type 0
+      Fitting a = Fit d (take n rows) post (v .users) room a
 
   message-fits : (l : List ℕ) (bits : ℕ) → Fit d (take n rows) post (valueBy (readOf (d .profile) l bits) .users) room (messageAnswer d rows n l room post bits)
   unfolding messageAnswer readingOf
