@@ -1,14 +1,15 @@
 -- A valid value's numbers fit the bytes of the layout, and each of its groups has fifteen places. Assumes nothing.
 use Prim.Native.Nat.{ℕ, zero, suc, _+_, _-_, _*_, _/_, _^_, _≤_, _<_, min}
 use mathlib.Core.Path.{_≡_, refl, sym, ap, _∙_, subst}
-use mathlib.Core.Bool.{Bool, true, false}
+use mathlib.Core.Bool.{Bool, true, false, not}
 use mathlib.Core.List.{List, [], _∷_, _++_}
+use native.Mathlib.Nat.{lt-of-lt-of-le}
 use native.Mathlib.Omega.{arith}
-use lib.Dec.{eqb, ltb}
-use lib.ListN.{length, take, drop, set, length-append, length-set, take-append-drop}
-use lib.Pow.{shl-lt}
-use borrow.Author.Tests.{eqb-true, ltb-true}
-use Rattle.codec.specs.Codec.{both, number, pure, choose, vecOk}
+use lib.Dec.{eqb, leb, ltb}
+use lib.ListN.{length, getD, take, drop, set, replicate, length-append, length-set, take-append-drop}
+use lib.Pow.{pow-pos, pow-mono, shl-lt}
+use borrow.Author.Tests.{eqb-true, leb-true, ltb-true}
+use Rattle.codec.specs.Codec.{both, number, pure, guard, choose, vecOk}
 use Rattle.codec.specs.Options.{Optional, absent, there, flag, optional}
 use Rattle.codec.proofs.Good.{both-left, both-right, not-both}
 use Rattle.profile.specs.Rules.{meaningIn}
@@ -19,13 +20,13 @@ use Rattle.message.specs.Numbers.{widths, widthOf}
 use Rattle.message.specs.Addresses.{nobody, isZero, isNobody, kindC, extensionC, addressC}
 use Rattle.message.specs.Groups.{addressesIn, nobodies, areNobody, placesC, addressesC, rangeC, groupC, noGroup, withAddress, spanOf}
 use Rattle.message.specs.Acks.{maskC, maskedC, resultC}
-use Rattle.message.specs.Values.{blank, withNumbers, withNumber, withGiven}
-use Rattle.message.specs.Rows.{table, rowOf, Holds, partC, put, Tuple, partsC, puts, gets, Options, putOption, putOptions, getOptions, eachC, optionsC, firstParts, partsOf, optionsOf}
+use Rattle.message.specs.Values.{blank, withNumber, withGiven}
+use Rattle.message.specs.Rows.{table, rowOf, Holds, partC, put, Tuple, partsC, puts, gets, Options, putOption, putOptions, getOptions, someOf, noneOf, eachC, optionsC, firstParts, partsOf, optionsOf}
 use Rattle.message.specs.Messages.{fill, taken, bodyC}
 use Rattle.message.proofs.AddressLaws.{zero-is, is-nobody}
 use Rattle.message.proofs.GroupLaws.{few-addresses, range-allowed}
 use Rattle.message.proofs.ValueLaws.{value-one}
-use Rattle.message.proofs.RowLaws.{option-absent}
+use Rattle.message.proofs.RowLaws.{option-absent, options-absent, none-only}
 use Rattle.message.proofs.TableLaws.{each-row}
 use Rattle.message.specs.declared.Address.{Address}
 use Rattle.message.specs.declared.Group.{Group}
@@ -46,22 +47,24 @@ pub record Group-fits (g : Group) : Type 0 where
   pub places : length (g .addresses) ≡ 15
   pub each : All Address-fits (g .addresses)
 
--- the numbers that have bytes fit them, and there are no others
-pub record Numbers-fit (l : List ℕ) : Type 0 where
-  pub identifier : ℕ
-  pub cause : ℕ
-  pub result : ℕ
-  pub reason : ℕ
-  pub is : l ≡ identifier ∷ cause ∷ result ∷ reason ∷ 0 ∷ 0 ∷ 0 ∷ 0 ∷ 0 ∷ 0 ∷ 0 ∷ 0 ∷ []
-  pub identifier-small : identifier < 2 ^ 16
-  pub cause-small : cause < 256
-  pub result-small : result < 256
-  pub reason-small : reason < 256
+-- how many bytes the layout has for each of a value's numbers; one without bytes is 0
+unfoldable pub sizes : List ℕ
+sizes = 2 ∷ 1 ∷ 1 ∷ 1 ∷ 0 ∷ 0 ∷ 0 ∷ 0 ∷ 0 ∷ 0 ∷ 0 ∷ 0 ∷ []
 
--- at most the first option is there
+unfoldable pub sizeOf : ℕ → ℕ
+sizeOf k = getD sizes k 0
+
+pub record Numbers-fit (l : List ℕ) : Type 0 where
+  pub long : length l ≡ 12
+  pub each : (k : ℕ) → getD l k 0 < 2 ^ (8 * sizeOf k)
+
+-- how many of a row's options have a byte; the others are not there
+abbrev pub flags : ℕ
+flags = 1
+
 pub record Given-fits (l : List Bool) : Type 0 where
-  pub first : Bool
-  pub is : l ≡ first ∷ false ∷ false ∷ false ∷ false ∷ false ∷ false ∷ []
+  pub long : length l ≡ 7
+  pub rest : (i : ℕ) → flags ≤ i → getD l i false ≡ false
 
 pub record Value-fits (v : Value) : Type 0 where
   pub numbers : Numbers-fit (v .numbers)
@@ -178,7 +181,7 @@ masked-fits n false m h e = let z = zero-is m (sym (masked-none n m false refl) 
 -- a part that the layout has bytes for
 abbrev hasBytes : Part → Bool
 hasBytes part.Nothing = true
-hasBytes (part.Number k) = ltb k 4
+hasBytes (part.Number k) = leb (widthOf k) (8 * sizeOf k)
 hasBytes part.Users = true
 hasBytes (part.User i) = true
 hasBytes part.Masked = true
@@ -186,90 +189,38 @@ hasBytes part.Result = true
 hasBytes part.Dispatchers = true
 hasBytes part.Dispatcher = true
 
-module _ {l : List ℕ} (n : Numbers-fit l) (x : ℕ) where
-  set-identifier : x < 2 ^ 16 → Numbers-fit (set l place.identifier x)
-  set-identifier h =
-      record {
-        identifier = x;
-        cause = n .cause;
-        result = n .result;
-        reason = n .reason;
-        is = ap (λ (y : List ℕ). set y 0 x) (n .is);
-        identifier-small = h;
-        cause-small = n .cause-small;
-        result-small = n .result-small;
-        reason-small = n .reason-small;
-      }
+-- what each element has, each has after one was stored
+set-each : {A : Type 0} (d : A) (P : ℕ → A → Type 0) (l : List A) (k : ℕ) (x : A) → P k x → ((i : ℕ) → P i (getD l i d)) → (i : ℕ) → P i (getD (set l k x) i d)
+set-each d P [] k x p h i = h i
+set-each d P (a ∷ l) zero x p h zero = p
+set-each d P (a ∷ l) zero x p h (suc i) = h (suc i)
+set-each d P (a ∷ l) (suc k) x p h zero = h 0
+set-each d P (a ∷ l) (suc k) x p h (suc i) = set-each d (λ j y. P (suc j) y) l k x p (λ j. h (suc j)) i
 
-  set-cause : x < 256 → Numbers-fit (set l place.cause x)
-  set-cause h =
-      record {
-        identifier = n .identifier;
-        cause = x;
-        result = n .result;
-        reason = n .reason;
-        is = ap (λ (y : List ℕ). set y 1 x) (n .is);
-        identifier-small = n .identifier-small;
-        cause-small = h;
-        result-small = n .result-small;
-        reason-small = n .reason-small;
-      }
+set-number : (l : List ℕ) (k x : ℕ) → Numbers-fit l → x < 2 ^ (8 * sizeOf k) → Numbers-fit (set l k x)
+set-number l k x n h =
+    record { long = length-set l k x ∙ n .long; each = set-each 0 (λ i y. y < 2 ^ (8 * sizeOf i)) l k x h (n .each) }
 
-  set-result : x < 256 → Numbers-fit (set l place.result x)
-  set-result h =
-      record {
-        identifier = n .identifier;
-        cause = n .cause;
-        result = x;
-        reason = n .reason;
-        is = ap (λ (y : List ℕ). set y 2 x) (n .is);
-        identifier-small = n .identifier-small;
-        cause-small = n .cause-small;
-        result-small = h;
-        reason-small = n .reason-small;
-      }
+number-fits : (k x : ℕ) (v : Value) → Value-fits v → x < 2 ^ (8 * sizeOf k) → Value-fits (withNumber k x v)
+number-fits k x v f h =
+    record { numbers = set-number (v .numbers) k x (f .numbers) h; users = f .users; mask = f .mask; given = f .given; dispatchers = f .dispatchers }
 
-  set-reason : x < 256 → Numbers-fit (set l place.reason x)
-  set-reason h =
-      record {
-        identifier = n .identifier;
-        cause = n .cause;
-        result = n .result;
-        reason = x;
-        is = ap (λ (y : List ℕ). set y 3 x) (n .is);
-        identifier-small = n .identifier-small;
-        cause-small = n .cause-small;
-        result-small = n .result-small;
-        reason-small = h;
-      }
-
-with-numbers : (v : Value) (l : List ℕ) → Value-fits v → Numbers-fit l → Value-fits (withNumbers l v)
-with-numbers v l p n = record { numbers = n; users = p .users; mask = p .mask; given = p .given; dispatchers = p .dispatchers }
-
-number-fits : (k x : ℕ) (v : Value) → Value-fits v → ltb k 4 ≡ true → x < 2 ^ widthOf k → Value-fits (withNumber k x v)
-unfolding widthOf widths
-number-fits zero x v p e h = with-numbers v _ p (set-identifier (p .numbers) x (omega arith))
-number-fits (suc zero) x v p e h = with-numbers v _ p (set-cause (p .numbers) x (omega arith))
-number-fits (suc (suc zero)) x v p e h = with-numbers v _ p (set-result (p .numbers) x (omega arith))
-number-fits (suc (suc (suc zero))) x v p e h = with-numbers v _ p (set-reason (p .numbers) x (omega arith))
-number-fits (suc (suc (suc (suc k)))) x v p e h = let z = ltb-true (suc (suc (suc (suc k)))) 4 e in absurd (omega arith)
-
-reason-most : (r w : ℕ) → resultC .ok (r, w) ≡ true → w < 256
-unfolding resultC number
+reason-most : (r w : ℕ) → resultC .ok (r, w) ≡ true → w < 2 ^ (8 * sizeOf place.reason)
+unfolding resultC number sizeOf sizes
 reason-most r w e = go (eqb r 1) (both-right (ltb r (2 ^ 1)) _ e)
   where
-    go : (b : Bool) → choose b (pure 0 isZero) (number element.reason 7) .ok w ≡ true → w < 256
+    go : (b : Bool) → choose b (pure 0 isZero) (number element.reason 7) .ok w ≡ true → w < 2 ^ 8
     go true h = let z = zero-is w h in omega arith
     go false h = let z : w < 2 ^ 7 = ltb-true _ _ h in omega arith
 
-result-most : (r w : ℕ) → resultC .ok (r, w) ≡ true → r < 256
-unfolding resultC number
+result-most : (r w : ℕ) → resultC .ok (r, w) ≡ true → r < 2 ^ (8 * sizeOf place.result)
+unfolding resultC number sizeOf sizes
 result-most r w e = let h : r < 2 ^ 1 = ltb-true _ _ (both-left _ _ e) in omega arith
 
 part-fits : (air : Air) (u : Value) (p : Part) (x : Holds p) (v : Value) → Value-fits v → hasBytes p ≡ true → partC air u p .ok x ≡ true → Value-fits (put p x v)
 unfolding number
 part-fits air u part.Nothing x v f b e = f
-part-fits air u (part.Number k) x v f b e = number-fits k x v f b (ltb-true _ _ e)
+part-fits air u (part.Number k) x v f b e = number-fits k x v f (lt-of-lt-of-le (ltb-true _ _ e) (pow-mono {j = 8 * sizeOf k} (leb-true _ _ b)))
 part-fits air u part.Users x v f b e =
     record { numbers = f .numbers; users = group-fits air false x e; mask = f .mask; given = f .given; dispatchers = f .dispatchers }
 part-fits air u (part.User i) x v f b e =
@@ -277,7 +228,7 @@ part-fits air u (part.User i) x v f b e =
 part-fits air u part.Masked x v f b e =
     record { numbers = f .numbers; users = f .users; mask = masked-fits (min (spanOf air (u .users)) 64) (x .0) (x .1) (omega arith) e; given = f .given; dispatchers = f .dispatchers }
 part-fits air u part.Result x v f b e =
-    with-numbers _ _ (with-numbers v _ f (set-result (f .numbers) (x .0) (result-most (x .0) (x .1) e))) (set-reason (set-result (f .numbers) (x .0) (result-most (x .0) (x .1) e)) (x .1) (reason-most (x .0) (x .1) e))
+    number-fits place.reason (x .1) _ (number-fits place.result (x .0) v f (result-most (x .0) (x .1) e)) (reason-most (x .0) (x .1) e)
 part-fits air u part.Dispatchers x v f b e =
     record { numbers = f .numbers; users = f .users; mask = f .mask; given = f .given; dispatchers = group-fits air true x e }
 part-fits air u part.Dispatcher x v f b e =
@@ -295,44 +246,67 @@ parts-fit air [] x v f b e = f
 parts-fit air (p ∷ ps) x v f b e =
     parts-fit air ps (x .1) (put p (x .0) v) (part-fits air v p (x .0) v f (both-left _ _ b) (both-left _ _ e)) (both-right (hasBytes p) _ b) (both-right (partC air v p .ok (x .0)) _ e)
 
+each-same : {A : Type 0} (d : A) (n i : ℕ) → getD (replicate n d) i d ≡ d
+each-same d zero i = refl
+each-same d (suc n) zero = refl
+each-same d (suc n) (suc i) = each-same d n i
+
 blank-fits : (t : ℕ) → Value-fits (blank t)
 unfolding blank
 blank-fits t =
     record {
-      numbers = record { identifier = 0; cause = 0; result = 0; reason = 0; is = refl; identifier-small = omega arith; cause-small = omega arith; result-small = omega arith; reason-small = omega arith };
+      numbers = record { long = refl; each = λ k. omega (arith, each-same {A = ℕ} 0 12 k, pow-pos (8 * sizeOf k)) };
       users = no-group-fits;
       mask = omega arith;
-      given = record { first = false; is = refl };
+      given = record { long = refl; rest = λ i h. each-same false 7 i };
       dispatchers = no-group-fits;
     }
 
--- no option, or one
-abbrev atMostOne : List Part → Bool
-atMostOne [] = true
-atMostOne (q ∷ []) = hasBytes q
-atMostOne (q ∷ (r ∷ qs)) = false
+with-given : (v : Value) (i : ℕ) (b : Bool) → i < flags → Value-fits v → Value-fits (withGiven i b v)
+with-given v i b h f =
+    record {
+      numbers = f .numbers;
+      users = f .users;
+      mask = f .mask;
+      given =
+          record {
+            long = length-set (v .given) i b ∙ f .given .long;
+            rest = set-each false (λ k x. flags ≤ k → x ≡ false) (v .given) i b (λ k. absurd (omega arith)) (f .given .rest);
+          };
+      dispatchers = f .dispatchers;
+    }
 
-with-given : (v : Value) (b : Bool) → Value-fits v → Value-fits (withGiven 0 b v)
-with-given v b f =
-    record { numbers = f .numbers; users = f .users; mask = f .mask; given = record { first = b; is = ap (λ (y : List Bool). set y 0 b) (f .given .is) }; dispatchers = f .dispatchers }
+option-fits : (air : Air) (u : Value) (i : ℕ) (q : Part) (x : Optional (Holds q)) (v : Value) → Value-fits v → i < flags → hasBytes q ≡ true
+    → optional element.pBit (partC air u q) .ok x ≡ true → Value-fits (putOption i q x v)
+option-fits air u i q absent v f h b e = subst (λ (w : Value). Value-fits w) (sym (option-absent i q v)) f
+option-fits air u i q (there a) v f h b e = with-given (put q a v) i true h (part-fits air u q a v f b (both-right (flag element.pBit .ok true) _ (both-right true _ e)))
 
-option-fits : (air : Air) (u : Value) (q : Part) (x : Optional (Holds q)) (v : Value) → Value-fits v → hasBytes q ≡ true → optional element.pBit (partC air u q) .ok x ≡ true → Value-fits (putOption 0 q x v)
-option-fits air u q absent v f b e = subst (λ (w : Value). Value-fits w) (sym (option-absent 0 q v)) f
-option-fits air u q (there a) v f b e = with-given (put q a v) true (part-fits air u q a v f b (both-right (flag element.pBit .ok true) _ (both-right true _ e)))
+each-fit : (air : Air) (i : ℕ) (qs : List Part) (x : Options qs) (v : Value) → Value-fits v → i + length qs ≤ flags → allHaveBytes qs ≡ true
+    → eachC air i v qs .ok x ≡ true → Value-fits (putOptions i qs x v)
+unfolding eachC putOptions
+each-fit air i [] x v f h b e = f
+each-fit air i (q ∷ qs) x v f h b e =
+    each-fit air (suc i) qs (x .1) (putOption i q (x .0) v) (option-fits air v i q (x .0) v f (omega arith) (both-left _ _ b) (both-left _ _ e)) (omega arith) (both-right (hasBytes q) _ b)
+    (both-right (optional element.pBit (partC air v q) .ok (x .0)) _ e)
 
-options-fit : (air : Air) (qs : List Part) (x : Options qs) (v : Value) → Value-fits v → atMostOne qs ≡ true → optionsC air v qs .ok x ≡ true → Value-fits (putOptions 0 qs x v)
-unfolding optionsC putOptions eachC
-options-fit air [] x v f b e = f
-options-fit air (q ∷ []) (absent, y) v f b e = subst (λ (w : Value). Value-fits w) (sym (option-absent 0 q v)) f
-options-fit air (q ∷ []) (there a, y) v f b e =
-    option-fits air v q (there a) v f b (both-left _ _ (both-left _ _ (both-right (flag element.oBit .ok true) _ (both-right true _ e))))
-options-fit air (q ∷ (r ∷ qs)) x v f b e = not-both b
+options-fit : (air : Air) (qs : List Part) (x : Options qs) (v : Value) → Value-fits v → length qs ≤ flags → allHaveBytes qs ≡ true
+    → optionsC air v qs .ok x ≡ true → Value-fits (putOptions 0 qs x v)
+unfolding optionsC putOptions
+options-fit air [] x v f h b e = f
+options-fit air (q ∷ qs) x v f h b e = go (someOf (q ∷ qs) x) (both-right (flag element.oBit .ok (someOf (q ∷ qs) x)) _ (both-right true _ e))
+  where
+    go : (s : Bool) → choose s (guard 12 (someOf (q ∷ qs)) (eachC air 0 v (q ∷ qs))) (pure (noneOf (q ∷ qs)) (λ y. not (someOf (q ∷ qs) y))) .ok x ≡ true
+        → Value-fits (putOptions 0 (q ∷ qs) x v)
+    go true k = each-fit air 0 (q ∷ qs) x v f (omega arith) b (both-left (eachC air 0 v (q ∷ qs) .ok x) _ k)
+    go false k =
+        subst (λ (w : Value). Value-fits w)
+        (sym (ap (λ (y : Options (q ∷ qs)). putOptions 0 (q ∷ qs) y v) (none-only (q ∷ qs) x k) ∙ options-absent 0 (q ∷ qs) v)) f
 
 abbrev rowHasBytes : Row → Bool
-rowHasBytes r = both (allHaveBytes (partsOf r)) (atMostOne (optionsOf r))
+rowHasBytes r = both (allHaveBytes (partsOf r)) (both (leb (length (optionsOf r)) flags) (allHaveBytes (optionsOf r)))
 
 row-bytes : (t : ℕ) → rowHasBytes (rowOf t) ≡ true
-unfolding rowOf table firstParts both
+unfolding rowOf table firstParts both widthOf widths sizeOf sizes
 row-bytes t = each-row (λ u r. rowHasBytes r) table t refl refl
 
 body-fits : (air : Air) (t : ℕ) (v : Value) → bodyC air t .ok v ≡ true → Value-fits v
@@ -341,9 +315,10 @@ body-fits air t v e =
     let ps = partsOf (rowOf t) in
     let qs = optionsOf (rowOf t) in
     let b = row-bytes t in
+    let c = both-right (allHaveBytes ps) _ b in
     let ok = both-right _ _ e in
     subst (λ (w : Value). Value-fits w) (value-one (fill t ps qs (taken t ps qs v)) v (both-left _ _ e))
-    (options-fit air qs (getOptions 0 qs v) (puts ps (gets ps v) (blank t)) (parts-fit air ps (gets ps v) (blank t) (blank-fits t) (both-left _ _ b) (both-left _ _ ok)) (both-right (allHaveBytes ps) _ b) (both-right _ _ ok))
+    (options-fit air qs (getOptions 0 qs v) (puts ps (gets ps v) (blank t)) (parts-fit air ps (gets ps v) (blank t) (blank-fits t) (both-left _ _ b) (both-left _ _ ok)) (leb-true _ _ (both-left _ _ c)) (both-right (leb (length qs) flags) _ c) (both-right _ _ ok))
 
 pub valid-fits : (air : Air) (v : Value) → validOf air v ≡ true → Value-fits v
 valid-fits air v e = body-fits air (v .pdu) v (valid-body air v e)

@@ -5,14 +5,14 @@
 -- So bytes that are taken are the bytes of exactly one profile or value. And no valid value is left out, nor profile that keeps the rules:
 --     profile-taken, value-taken      its bytes are taken
 -- Assumes nothing.
-use Prim.Native.Nat.{ℕ, zero, suc, _+_, _*_, _%_, _≤_, _<_}
+use Prim.Native.Nat.{ℕ, zero, suc, _+_, _*_, _%_, _^_, _≤_, _<_}
 use mathlib.Core.Path.{_≡_, refl, sym, ap, _∙_}
 use mathlib.Core.Bool.{Bool, true, false, cond}
 use mathlib.Core.Logic.{⊎-elim}
 use mathlib.Core.List.{List, [], _∷_, _++_, append-assoc, append-nil}
 use native.Mathlib.Omega.{arith}
 use lib.Dec.{eqb, leb}
-use lib.ListN.{length, getD, take, drop, length-append, length-drop}
+use lib.ListN.{length, getD, take, drop, length-append, length-drop, drop-of-length-le}
 use lib.Seq.{sets, sets-eq, take-add, take-all, take-at, drop-cons, drop-drop, drop-at, drop-nil, getD-drop}
 use borrow.Author.Tests.{eq-eqb, eqb-true, eqb-false, ne-eqb, leb-true, leb-false, le-leb}
 use Rattle.bits.proofs.SetLaws.{eq-or}
@@ -40,7 +40,7 @@ use Rattle.console.specs.Values.{addressBytes, addressFrom, groupBytes, 
 use Rattle.console.proofs.ByteLaws.{byte-here, length-number}
 use Rattle.console.proofs.PutLaws.{length-address, length-group}
 use Rattle.console.proofs.RowLaws.{AreBytes, bytes-drop, low-byte, number-there, number-back, rows-there, rows-back, byte-front, run-front, past-byte, past-run, all-of, rows-length}
-use Rattle.console.proofs.FitLaws.{Address-fits, Group-fits, Numbers-fit, Given-fits, Value-fits, valid-fits}
+use Rattle.console.proofs.FitLaws.{Address-fits, Group-fits, sizes, sizeOf, Numbers-fit, Given-fits, Value-fits, valid-fits}
 
 -- ---- addresses and groups
 
@@ -86,6 +86,9 @@ flag-back : (b : Bool) → eqb (one b) 1 ≡ b
 flag-back true = refl
 flag-back false = refl
 
+low-small : {n : ℕ} → n < 256 → n % 256 ≡ n
+low-small {n} h = omega arith
+
 -- the bytes after the users, and after the mask
 abbrev afterMask : Value → List ℕ
 afterMask v =
@@ -116,27 +119,35 @@ value-there l h e =
     let d107 = byte-front l 107 _ _ (omega arith) masked (run-front l 108 8 _ _ mask d116) in
     value-is (valueFrom l) ∙ byte-front l 0 _ _ (omega arith) refl (run-front l 1 106 _ _ users d107)
 
--- a value whose numbers and options are those that have bytes
-value-of : (v : Value) (n : Numbers-fit (v .numbers)) (g : Given-fits (v .given))
-    → _≡_ {A = Value}
-    (record {
-      pdu = v .pdu;
-      numbers = n .identifier ∷ n .cause ∷ n .result ∷ n .reason ∷ 0 ∷ 0 ∷ 0 ∷ 0 ∷ 0 ∷ 0 ∷ 0 ∷ 0 ∷ [];
-      users = v .users;
-      masked = v .masked;
-      mask = v .mask;
-      given = g .first ∷ false ∷ false ∷ false ∷ false ∷ false ∷ false ∷ [];
-      dispatchers = v .dispatchers;
-    })
-    v
-value-of v n g =
-    ap (λ (x : List ℕ). withNumbers x (withGivens (g .first ∷ false ∷ false ∷ false ∷ false ∷ false ∷ false ∷ []) v)) (sym (n .is)) ∙ ap (λ (x : List Bool). withGivens x v) (sym (g .is))
+-- n elements from the i-th on, one by one
+abbrev eachOf : {A : Type 0} → A → List A → ℕ → ℕ → List A
+eachOf d l i zero = []
+eachOf d l i (suc n) = getD l i d ∷ eachOf d l (suc i) n
+
+each-are : {A : Type 0} (d : A) (l : List A) (i n : ℕ) → i + n ≡ length l → drop i l ≡ eachOf d l i n
+each-are d l i zero e = drop-of-length-le l {i = i} (omega arith)
+each-are d l i (suc n) e = drop-cons l i d (omega arith) ∙ ap (λ x. getD l i d ∷ x) (each-are d l (suc i) n (omega arith))
+
+-- the numbers and the options that have bytes, and no others
+numbers-are : (l : List ℕ) → Numbers-fit l → l ≡ getD l 0 0 ∷ getD l 1 0 ∷ getD l 2 0 ∷ getD l 3 0 ∷ 0 ∷ 0 ∷ 0 ∷ 0 ∷ 0 ∷ 0 ∷ 0 ∷ 0 ∷ []
+unfolding sizeOf sizes
+numbers-are l n =
+    each-are 0 l 0 12 (sym (n .long)) ∙ rw (none 4 refl, none 5 refl, none 6 refl, none 7 refl, none 8 refl, none 9 refl, none 10 refl, none 11 refl)
+  where
+    none : (k : ℕ) → sizeOf k ≡ 0 → getD l k 0 ≡ 0
+    none k e = let h = n .each k in let z : 2 ^ (8 * sizeOf k) ≡ 1 = rw e in omega (arith, h, z)
+
+given-are : (l : List Bool) → Given-fits l → l ≡ getD l 0 false ∷ false ∷ false ∷ false ∷ false ∷ false ∷ false ∷ []
+given-are l g =
+    each-are false l 0 7 (sym (g .long))
+    ∙ rw (g .rest 1 (omega arith), g .rest 2 (omega arith), g .rest 3 (omega arith), g .rest 4 (omega arith), g .rest 5 (omega arith), g .rest 6 (omega arith))
+
+value-of : (v : Value) (ns : List ℕ) (gs : List Bool) → v .numbers ≡ ns → v .given ≡ gs → withNumbers ns (withGivens gs v) ≡ v
+value-of v ns gs e f = ap (λ (x : List ℕ). withNumbers x (withGivens gs v)) (sym e) ∙ ap (λ (x : List Bool). withGivens x v) (sym f)
 
 fits-back : (v : Value) → Value-fits v → valueFrom (valueBytes v) ≡ v
-unfolding valueFrom
+unfolding valueFrom sizeOf sizes
 fits-back v p =
-    let n = p .numbers in
-    let g = p .given in
     let u = groupBytes (v .users) in
     let y = afterUsers v in
     let m = numberBytes 8 (v .mask) in
@@ -147,23 +158,23 @@ fits-back v p =
     let nu = length-group (v .users) (p .users .places) in
     let nm = length-number 8 (v .mask) in
     let ni = length-number 2 (numberAt place.identifier v) in
-    let at : (k : ℕ) → numberAt k v ≡ getD (n .identifier ∷ n .cause ∷ n .result ∷ n .reason ∷ 0 ∷ 0 ∷ 0 ∷ 0 ∷ 0 ∷ 0 ∷ 0 ∷ 0 ∷ []) k 0 = λ k. ap (λ (x : List ℕ). getD x k 0) (n .is) in
-    let first : givenAt 0 v ≡ g .first = ap (λ (x : List Bool). getD x 0 false) (g .is) in
+    let small = p .numbers .each in
     let eu : groupFrom (u ++ y) ≡ v .users = group-back (v .users) y (p .users) in
     let em : getD (u ++ y) 106 0 ≡ one (v .masked) = past-byte 106 u y nu 0 in
     let ek : numberFrom 8 (drop 107 (u ++ y)) ≡ v .mask = ap (λ (x : List ℕ). numberFrom 8 x) (past-run 106 u y nu 1) ∙ number-back 8 (v .mask) z (p .mask) in
-    let er : getD (u ++ y) 115 0 ≡ n .result = past-byte 106 u y nu 9 ∙ past-byte 8 m z nm 0 ∙ omega (arith, at place.result, n .result-small) in
-    let es : getD (u ++ y) 116 0 ≡ n .reason = past-byte 106 u y nu 10 ∙ past-byte 8 m z nm 1 ∙ omega (arith, at place.reason, n .reason-small) in
-    let ec : getD (u ++ y) 117 0 ≡ n .cause = past-byte 106 u y nu 11 ∙ past-byte 8 m z nm 2 ∙ omega (arith, at place.cause, n .cause-small) in
-    let ei : numberFrom 2 (drop 118 (u ++ y)) ≡ n .identifier =
-    ap (λ (x : List ℕ). numberFrom 2 x) (past-run 106 u y nu 12 ∙ past-run 8 m z nm 3)
-    ∙ number-back 2 (numberAt place.identifier v) w (omega (arith, at place.identifier, n .identifier-small)) ∙ at place.identifier in
-    let eo : getD (u ++ y) 120 0 ≡ one (givenAt 0 v) = past-byte 106 u y nu 14 ∙ past-byte 8 m z nm 5 ∙ past-byte 2 i w ni 0 in
-    let eb : eqb (getD (u ++ y) 120 0) 1 ≡ g .first = ap (λ (k : ℕ). eqb k 1) eo ∙ flag-back (givenAt 0 v) ∙ first in
+    let er : getD (u ++ y) 115 0 ≡ numberAt place.result v = past-byte 106 u y nu 9 ∙ past-byte 8 m z nm 0 ∙ low-small (small place.result) in
+    let es : getD (u ++ y) 116 0 ≡ numberAt place.reason v = past-byte 106 u y nu 10 ∙ past-byte 8 m z nm 1 ∙ low-small (small place.reason) in
+    let ec : getD (u ++ y) 117 0 ≡ numberAt place.cause v = past-byte 106 u y nu 11 ∙ past-byte 8 m z nm 2 ∙ low-small (small place.cause) in
+    let ei : numberFrom 2 (drop 118 (u ++ y)) ≡ numberAt place.identifier v =
+    ap (λ (x : List ℕ). numberFrom 2 x) (past-run 106 u y nu 12 ∙ past-run 8 m z nm 3) ∙ number-back 2 (numberAt place.identifier v) w (small place.identifier) in
+    let eo : eqb (getD (u ++ y) 120 0) 1 ≡ givenAt 0 v =
+    ap (λ (k : ℕ). eqb k 1) (past-byte 106 u y nu 14 ∙ past-byte 8 m z nm 5 ∙ past-byte 2 i w ni 0) ∙ flag-back (givenAt 0 v) in
     let ed : groupFrom (drop 121 (u ++ y)) ≡ v .dispatchers =
     ap (λ (x : List ℕ). groupFrom x) (past-run 106 u y nu 15 ∙ past-run 8 m z nm 6 ∙ past-run 2 i w ni 1 ∙ sym (append-nil d))
     ∙ group-back (v .dispatchers) [] (p .dispatchers) in
-    ap (λ (x : List ℕ). valueFrom x) (value-is v) ∙ rw (eu, em, ek, er, es, ec, ei, eb, ed, flag-back (v .masked)) (value-of v n g)
+    ap (λ (x : List ℕ). valueFrom x) (value-is v)
+    ∙ rw (eu, em, ek, er, es, ec, ei, eo, ed, flag-back (v .masked))
+    (value-of v _ _ (numbers-are (v .numbers) (p .numbers)) (given-are (v .given) (p .given)))
 
 -- a valid value is taken from its bytes as it was
 pub value-back : (air : Air) (v : Value) → validOf air v ≡ true → valueFrom (valueBytes v) ≡ v
