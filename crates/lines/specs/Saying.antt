@@ -23,15 +23,23 @@ nameOf t =
     (cond (eqb t 8) (73 ∷ 78 ∷ 84 ∷ 69 ∷ 82 ∷ 82 ∷ 79 ∷ 71 ∷ 65 ∷ 84 ∷ 69 ∷ [])
     -- INTERCEPTED
     (cond (eqb t 10) (73 ∷ 78 ∷ 84 ∷ 69 ∷ 82 ∷ 67 ∷ 69 ∷ 80 ∷ 84 ∷ 69 ∷ 68 ∷ [])
+    -- REQUEST
+    (cond (eqb t 11) (82 ∷ 69 ∷ 81 ∷ 85 ∷ 69 ∷ 83 ∷ 84 ∷ [])
     -- ACCEPT
     (cond (eqb t 12) (65 ∷ 67 ∷ 67 ∷ 69 ∷ 80 ∷ 84 ∷ [])
     -- ACCEPTED
     (cond (eqb t 13) (65 ∷ 67 ∷ 67 ∷ 69 ∷ 80 ∷ 84 ∷ 69 ∷ 68 ∷ [])
+    -- CANCEL
+    (cond (eqb t 14) (67 ∷ 65 ∷ 78 ∷ 67 ∷ 69 ∷ 76 ∷ [])
     -- DIVERT
     (cond (eqb t 15) (68 ∷ 73 ∷ 86 ∷ 69 ∷ 82 ∷ 84 ∷ [])
     -- DIVERTED
     (cond (eqb t 16) (68 ∷ 73 ∷ 86 ∷ 69 ∷ 82 ∷ 84 ∷ 69 ∷ 68 ∷ [])
-    [])))))))
+    -- REJECT
+    (cond (eqb t 17) (82 ∷ 69 ∷ 74 ∷ 69 ∷ 67 ∷ 84 ∷ [])
+    -- REJECTED
+    (cond (eqb t 18) (82 ∷ 69 ∷ 74 ∷ 69 ∷ 67 ∷ 84 ∷ 69 ∷ 68 ∷ [])
+    [])))))))))))
 
 -- a number below 256 in decimal
 abbrev pub decimalOf : ℕ → List ℕ

@@ -100,17 +100,29 @@ fn named(pdu: u8) -> Text
     if pdu == 10 {
         return INTERCEPTED;
     }
+    if pdu == 11 {
+        return REQUEST;
+    }
     if pdu == 12 {
         return ACCEPT;
     }
     if pdu == 13 {
         return ACCEPTED;
     }
+    if pdu == 14 {
+        return CANCEL;
+    }
     if pdu == 15 {
         return DIVERT;
     }
     if pdu == 16 {
         return DIVERTED;
+    }
+    if pdu == 17 {
+        return REJECT;
+    }
+    if pdu == 18 {
+        return REJECTED;
     }
     NO_NAME
 }
@@ -209,6 +221,28 @@ const INTERCEPTED: Text = Text {
     ],
 };
 
+const REQUEST: Text = Text {
+    len: 7,
+    bytes: [
+        b'R',
+        b'E',
+        b'Q',
+        b'U',
+        b'E',
+        b'S',
+        b'T',
+        0,
+        0,
+        0,
+        0,
+        0,
+        0,
+        0,
+        0,
+        0,
+    ],
+};
+
 const ACCEPT: Text = Text {
     len: 6,
     bytes: [
@@ -253,6 +287,28 @@ const ACCEPTED: Text = Text {
     ],
 };
 
+const CANCEL: Text = Text {
+    len: 6,
+    bytes: [
+        b'C',
+        b'A',
+        b'N',
+        b'C',
+        b'E',
+        b'L',
+        0,
+        0,
+        0,
+        0,
+        0,
+        0,
+        0,
+        0,
+        0,
+        0,
+    ],
+};
+
 const DIVERT: Text = Text {
     len: 6,
     bytes: [
@@ -283,6 +339,50 @@ const DIVERTED: Text = Text {
         b'V',
         b'E',
         b'R',
+        b'T',
+        b'E',
+        b'D',
+        0,
+        0,
+        0,
+        0,
+        0,
+        0,
+        0,
+        0,
+    ],
+};
+
+const REJECT: Text = Text {
+    len: 6,
+    bytes: [
+        b'R',
+        b'E',
+        b'J',
+        b'E',
+        b'C',
+        b'T',
+        0,
+        0,
+        0,
+        0,
+        0,
+        0,
+        0,
+        0,
+        0,
+        0,
+    ],
+};
+
+const REJECTED: Text = Text {
+    len: 8,
+    bytes: [
+        b'R',
+        b'E',
+        b'J',
+        b'E',
+        b'C',
         b'T',
         b'E',
         b'D',

@@ -1,4 +1,5 @@
--- Document 01's worked cases 1 to 8 as one checked list, with the values that it says; the kinds, and 5 before 6 and 7. Assumes nothing.
+-- Document 01's worked cases 1 to 8 and those of document 02's messages as one checked list, with the values that they say; the kinds, and 5
+-- before 6 and 7. Assumes nothing.
 use Prim.Native.Nat.{ℕ}
 use mathlib.Core.Path.{_≡_, refl}
 use mathlib.Core.Bool.{true, false}
@@ -19,11 +20,12 @@ use Rattle.message.specs.Acks.{maskC, maskedC, resultC}
 use Rattle.message.specs.Numbers as place
 use Rattle.message.specs.Numbers.{elements, elementOf, widths, widthOf}
 use Rattle.message.specs.Values.{blank, withNumber, withUsers, withDispatchers, withGiven}
-use Rattle.message.specs.Rows.{table, rowIn, rowOf, partsC, puts, eachC, optionsC, putOptions, firstParts}
+use Rattle.message.specs.Rows.{table, rowIn, rowOf, put, partsC, puts, eachC, optionsC, putOptions, firstParts}
 use Rattle.message.specs.Messages.{bodyC, isKnown, isCarried, headerC, messageC}
 use Rattle.message.specs.Reading.{wholeOf, lengthOk, readBits, readOf, bitsOrder, readingOrder}
 use Rattle.message.specs.declared.Value.{Value}
 use Rattle.message.specs.declared.Address.{Address}
+use Rattle.message.specs.declared.Part.the-variants as part
 
 -- these bytes, so many bits, are read as this under the sample profile
 pub data Case : Type 0 where
@@ -45,6 +47,25 @@ call t i = withNumber place.identifier i (blank t)
 
 abbrev pub caused : ℕ → ℕ → Value
 caused t c = withNumber place.cause c (blank t)
+
+-- REQUEST of call 5 with a cause; with a number as its i-th option
+abbrev pub request : ℕ → Value
+request c = withNumber place.cause c (call 11 5)
+
+abbrev pub and : ℕ → ℕ → ℕ → Value → Value
+and i k n v = withGiven i true (withNumber k n v)
+
+-- with all seven: a calling, called 1,004 with extension 5, MNI 5, areas 1 and 2, services 1 and 2
+abbrev pub all : Address → Value
+all calling =
+    and 6 place.calledService 2 (and 5 place.callingService 1 (and 4 place.calledArea 2 (and 3 place.callingArea 1 (and 2 place.mni 5
+    (withGiven 1 true (put (part.User 1) (record { kind = 2; ssi = 1004; extension = 5 }) (withGiven 0 true (put (part.User 0) calling (request 2)))))))))
+
+abbrev pub whole : List ℕ
+whole = 0x25 ∷ 0x60 ∷ 0x02 ∷ 0x8B ∷ 0x40 ∷ 0x00 ∷ 0xFA ∷ 0x70 ∷ 0x00 ∷ 0x1F ∷ 0x60 ∷ 0x00 ∷ 0x00 ∷ 0x2C ∷ 0x00 ∷ 0x00 ∷ 0x16 ∷ 0x32 ∷ 0xB8 ∷ []
+
+abbrev pub longest : List ℕ
+longest = 0x25 ∷ 0x60 ∷ 0x02 ∷ 0x8B ∷ 0x80 ∷ 0x00 ∷ 0xFA ∷ 0x7F ∷ 0xFF ∷ 0xFF ∷ 0xF0 ∷ 0x00 ∷ 0x1F ∷ 0x60 ∷ 0x00 ∷ 0x00 ∷ 0x2C ∷ 0x00 ∷ 0x00 ∷ 0x16 ∷ 0x32 ∷ 0xB8 ∷ []
 
 abbrev pub cases : List Case
 cases =
@@ -86,6 +107,24 @@ cases =
     ∷ reads (0x24 ∷ 0x5E ∷ 0x80 ∷ 0x01 ∷ 0xF4 ∷ 0xA0 ∷ 0x00 ∷ 0x85 ∷ 0x00 ∷ []) 67 (no (short element.oBit 67))
     -- 12: INTERCEPTED, its O-bit 1 and its P-bit 0
     ∷ reads (0x25 ∷ 0x40 ∷ 0x80 ∷ []) 18 (no (refusal 12))
+    -- REQUEST of call 5 with no option, cause 0 and cause 2; with all seven, of 150 bits and, both of kind 2, of 174; with the called's service alone
+    ∷ reads (0x25 ∷ 0x60 ∷ 0x02 ∷ 0x80 ∷ []) 31 (got (request 0) 31)
+    ∷ reads (0x25 ∷ 0x60 ∷ 0x02 ∷ 0x88 ∷ []) 31 (got (request 2) 31)
+    ∷ reads whole 150 (got (all (home 1001)) 150)
+    ∷ reads longest 174 (got (all (record { kind = 2; ssi = 1001; extension = 16777215 })) 174)
+    ∷ reads (0x25 ∷ 0x60 ∷ 0x02 ∷ 0x82 ∷ 0x07 ∷ []) 40 (got (and 6 place.calledService 3 (request 0)) 40)
+    -- 12: seven P-bits that are 0; cut in the last of them; 13: a bit after an O-bit of 0; 10: kinds 0 and 3; cut in the called's SSI
+    ∷ reads (0x25 ∷ 0x60 ∷ 0x02 ∷ 0x82 ∷ 0x00 ∷ []) 38 (no (refusal 12))
+    ∷ reads (0x25 ∷ 0x60 ∷ 0x02 ∷ 0x82 ∷ 0x00 ∷ []) 37 (no (short element.pBit 37))
+    ∷ reads (0x25 ∷ 0x60 ∷ 0x02 ∷ 0x80 ∷ []) 32 (no (refusal 13))
+    ∷ reads (0x25 ∷ 0x60 ∷ 0x02 ∷ 0x83 ∷ 0x00 ∷ []) 34 (no (refusal 10))
+    ∷ reads (0x25 ∷ 0x60 ∷ 0x02 ∷ 0x83 ∷ 0xC0 ∷ []) 34 (no (refusal 10))
+    ∷ reads whole 80 (no (short element.ssi 61))
+    -- CANCEL, call 5; REJECT, call 5, cause 2; REJECTED, cause 2, without and with dispatcher 1,001
+    ∷ reads (0x25 ∷ 0xC0 ∷ 0x02 ∷ 0x80 ∷ []) 25 (got (call 14 5) 25)
+    ∷ reads (0x26 ∷ 0x20 ∷ 0x02 ∷ 0x88 ∷ []) 30 (got (withNumber place.cause 2 (call 17 5)) 30)
+    ∷ reads (0x26 ∷ 0x42 ∷ 0x00 ∷ []) 17 (got (caused 18 2) 17)
+    ∷ reads (0x26 ∷ 0x42 ∷ 0xD0 ∷ 0x00 ∷ 0x3E ∷ 0x90 ∷ []) 44 (got (withGiven 0 true (withDispatchers (oneGroup (home 1001)) (caused 18 2))) 44)
     ∷ []
 
 pub cases-right : list.map gives cases ≡ list.map wants cases

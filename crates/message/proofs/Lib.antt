@@ -10,4 +10,3 @@ pub mod Cases
 pub mod RowLaws
 pub mod SlotLaws
 pub mod TableLaws
-pub mod Tried

@@ -16,7 +16,7 @@ use Rattle.message.specs.Elements as element
 use Rattle.message.specs.Numbers.{elementOf, widthOf}
 use Rattle.message.specs.Groups.{noGroup, nobodies}
 use Rattle.message.specs.Values.{blank, sameValue}
-use Rattle.message.specs.Rows.{table, rowIn, rowOf, Holds, partC, put, get, Tuple, partsC, puts, gets, Options, orElse, putOption, putOptions, getOptions, someOf, noneOf, eachC, optionsC, firstParts, partsOf, optionsOf}
+use Rattle.message.specs.Rows.{identifier, cause, ofRequest, table, rowIn, rowOf, Holds, partC, put, get, Tuple, partsC, puts, gets, Options, orElse, putOption, putOptions, getOptions, someOf, noneOf, eachC, optionsC, firstParts, partsOf, optionsOf}
 use Rattle.message.specs.Messages.{fill, taken, holdsJust, messageOf, bodyC, isKnown, isCarried, headerC, messageC}
 use Rattle.message.specs.declared.Address.{Address}
 use Rattle.message.specs.declared.Group.{Group}
@@ -80,6 +80,20 @@ module _ (air : Air) (t : ℕ) (ps qs : List Part) (back : Back t ps qs) where
       (λ v e _. value-one (fill t ps qs (taken t ps qs v)) v e)
       (good-seq (partsC air (blank t) ps) (λ x. optionsC air (puts ps x (blank t)) qs) (good-parts air (blank t) ps) (λ x _. good-row-options air (puts ps x (blank t)) qs))
 
+pair-eq : {A B : Type 0} {a c : A} {b d : B} → a ≡ c → b ≡ d → _≡_ {A = A × B} (a, b) (c, d)
+pair-eq {A} {B} {a} {c} {b} {d} e h = ap (λ (x : A). (x, b)) e ∙ ap (λ (y : B). (c, y)) h
+
+-- REQUEST is, with its seven options
+request-back : (t : ℕ) → Back t (identifier ∷ cause ∷ []) ofRequest
+unfolding gets puts getOptions putOptions blank noGroup nobodies
+request-back t x y =
+    pair-eq refl
+    (pair-eq (given-back (y .0) _)
+    (pair-eq (given-back (y .1 .0) _)
+    (pair-eq (given-back (y .1 .1 .0) _)
+    (pair-eq (given-back (y .1 .1 .1 .0) _)
+    (pair-eq (given-back (y .1 .1 .1 .1 .0) _) (pair-eq (given-back (y .1 .1 .1 .1 .1 .0) _) (pair-eq (given-back (y .1 .1 .1 .1 .1 .1 .0) _) refl)))))))
+
 -- every row of the table is one: each in its turn
 arm : (b : Bool) (t : ℕ) (r s : Row) → Back t (partsOf r) (optionsOf r) → Back t (partsOf s) (optionsOf s) → Back t (partsOf (cond b r s)) (optionsOf (cond b r s))
 arm true t r s h k = h
@@ -92,11 +106,15 @@ back-of t =
     (arm (eqb t 3) t _ _ (λ x y. refl)
     (arm (eqb t 8) t _ _ (λ x y. refl)
     (arm (eqb t 10) t _ _ (λ x y. ap (λ (o : Optional Address). (x, (o, tt))) (given-back (y .0) _))
+    (arm (eqb t 11) t _ _ (request-back t)
     (arm (eqb t 12) t _ _ (λ x y. refl)
     (arm (eqb t 13) t _ _ (λ x y. refl)
+    (arm (eqb t 14) t _ _ (λ x y. refl)
     (arm (eqb t 15) t _ _ (λ x y. refl)
     (arm (eqb t 16) t _ _ (λ x y. ap (λ (o : Optional Address). (x, (o, tt))) (given-back (y .0) _))
-    (λ x y. refl))))))))
+    (arm (eqb t 17) t _ _ (λ x y. refl)
+    (arm (eqb t 18) t _ _ (λ x y. ap (λ (o : Optional Address). (x, (o, tt))) (given-back (y .0) _))
+    (λ x y. refl))))))))))))
 
 good-body : (air : Air) (t : ℕ) → Good (bodyC air t)
 unfolding bodyC

@@ -62,7 +62,13 @@ dispatchers = part.Dispatchers
 abbrev pub dispatcher : Part
 dispatcher = part.Dispatcher
 
--- document 01's table, by PDU type
+-- REQUEST's options: the calling, the called, the network, the areas and the basic services of both
+abbrev pub ofRequest : List Part
+ofRequest =
+    part.User 0 ∷ part.User 1 ∷ part.Number place.mni ∷ part.Number place.callingArea ∷ part.Number place.calledArea
+    ∷ part.Number place.callingService ∷ part.Number place.calledService ∷ []
+
+-- document 01's table and those of document 02, by PDU type
 unfoldable pub table : List (ℕ × Row)
 table =
     -- ACTIVATE
@@ -73,14 +79,22 @@ table =
     ∷ (8, row (user ∷ []) [])
     -- INTERCEPTED
     ∷ (10, row (cause ∷ []) (dispatcher ∷ []))
+    -- REQUEST
+    ∷ (11, row (identifier ∷ cause ∷ []) ofRequest)
     -- ACCEPT
     ∷ (12, row (identifier ∷ []) [])
     -- ACCEPTED
     ∷ (13, row [] [])
+    -- CANCEL
+    ∷ (14, row (identifier ∷ []) [])
     -- DIVERT
     ∷ (15, row (identifier ∷ []) [])
     -- DIVERTED
     ∷ (16, row (cause ∷ []) (dispatcher ∷ []))
+    -- REJECT
+    ∷ (17, row (identifier ∷ cause ∷ []) [])
+    -- REJECTED
+    ∷ (18, row (cause ∷ []) (dispatcher ∷ []))
     ∷ []
 
 -- any other type is not carried

@@ -34,8 +34,8 @@ pub struct Group {
 }
 
 // A message. All that it doesn't carry is zero. A number stands at its place (specs/Numbers); `given` says which of the row's options are
-// there. INTERROGATE's address is user address 0, the dispatcher of INTERCEPTED and DIVERTED dispatcher address 0, both with range number
-// 0. Identity i, from 0, is bit 63 − i of the mask.
+// there. INTERROGATE's address is user address 0, REQUEST's calling and called are user addresses 0 and 1, the dispatcher of INTERCEPTED,
+// DIVERTED and REJECTED is dispatcher address 0, all with range number 0. Identity i, from 0, is bit 63 − i of the mask.
 pub struct Value {
     pub pdu: u8,
     pub numbers: [u32; 12],
@@ -231,6 +231,16 @@ pub const RESULT_AT: u8 = 2;
 
 pub const REASON_AT: u8 = 3;
 
+pub const MNI_AT: u8 = 4;
+
+pub const CALLING_AREA_AT: u8 = 5;
+
+pub const CALLED_AREA_AT: u8 = 6;
+
+pub const CALLING_SERVICE_AT: u8 = 7;
+
+pub const CALLED_SERVICE_AT: u8 = 8;
+
 const ELEMENTS: [u8; 12] = [
     IDENTIFIER,
     CAUSE,
@@ -274,7 +284,7 @@ const IDENTIFIER_PART: Part = Part::Number(IDENTIFIER_AT);
 
 const CAUSE_PART: Part = Part::Number(CAUSE_AT);
 
-// Document 01's table: what each message has after the first 11 bits; any other type is not carried.
+// The table of documents 01 and 02: what each message has after the first 11 bits; any other type is not carried.
 pub fn row_of(pdu: u8) -> Row
     ensures { λ r. ⌜ r ≡ rowOf pdu ⌝ }
 {
@@ -294,6 +304,10 @@ pub fn row_of(pdu: u8) -> Row
     if pdu == 10 {
         return rows::one_and_option(CAUSE_PART, Part::Dispatcher);
     }
+    // REQUEST
+    if pdu == 11 {
+        return rows::request();
+    }
     // ACCEPT
     if pdu == 12 {
         return rows::one(IDENTIFIER_PART);
@@ -302,12 +316,24 @@ pub fn row_of(pdu: u8) -> Row
     if pdu == 13 {
         return rows::none();
     }
+    // CANCEL
+    if pdu == 14 {
+        return rows::one(IDENTIFIER_PART);
+    }
     // DIVERT
     if pdu == 15 {
         return rows::one(IDENTIFIER_PART);
     }
     // DIVERTED
     if pdu == 16 {
+        return rows::one_and_option(CAUSE_PART, Part::Dispatcher);
+    }
+    // REJECT
+    if pdu == 17 {
+        return rows::two(IDENTIFIER_PART, CAUSE_PART);
+    }
+    // REJECTED
+    if pdu == 18 {
         return rows::one_and_option(CAUSE_PART, Part::Dispatcher);
     }
     rows::not_carried()

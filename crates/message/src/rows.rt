@@ -1,7 +1,7 @@
 // Rows put together from their parts.
 ghost use mathlib.Core.Path.{_≡_};
 ghost use mathlib.Core.List.{[], _∷_};
-ghost use Rattle.message.specs.Rows.{row, noRow};
+ghost use Rattle.message.specs.Rows.{row, noRow, identifier, cause, ofRequest};
 use crate::Part;
 use crate::Row;
 use crate::Slot;
@@ -47,6 +47,20 @@ pub(crate) fn one(p: Part) -> Row
     }
 }
 
+pub(crate) fn two(p: Part, q: Part) -> Row
+    ensures { λ r. ⌜ r ≡ row (p ∷ q ∷ []) [] ⌝ }
+{
+    let a = Slot { part: p };
+    let b = Slot { part: q };
+    Row {
+        carried: true,
+        count: 2,
+        parts: [a, b, NOTHING, NOTHING, NOTHING, NOTHING],
+        options: 0,
+        optional: [NOTHING; 7],
+    }
+}
+
 pub(crate) fn three(p: Part, q: Part, s: Part) -> Row
     ensures { λ r. ⌜ r ≡ row (p ∷ q ∷ s ∷ []) [] ⌝ }
 {
@@ -73,5 +87,53 @@ pub(crate) fn one_and_option(p: Part, o: Part) -> Row
         parts: [a, NOTHING, NOTHING, NOTHING, NOTHING, NOTHING],
         options: 1,
         optional: [b, NOTHING, NOTHING, NOTHING, NOTHING, NOTHING, NOTHING],
+    }
+}
+
+// Identifier and cause, then the calling, the called, the network, the areas and the basic services of both.
+pub(crate) fn request() -> Row
+    ensures { λ r. ⌜ r ≡ row (identifier ∷ cause ∷ []) ofRequest ⌝ }
+{
+    let a = Slot {
+        part: Part::Number(crate::IDENTIFIER_AT),
+    };
+    let b = Slot {
+        part: Part::Number(crate::CAUSE_AT),
+    };
+    let calling = Slot {
+        part: Part::User(0),
+    };
+    let called = Slot {
+        part: Part::User(1),
+    };
+    let network = Slot {
+        part: Part::Number(crate::MNI_AT),
+    };
+    let calling_area = Slot {
+        part: Part::Number(crate::CALLING_AREA_AT),
+    };
+    let called_area = Slot {
+        part: Part::Number(crate::CALLED_AREA_AT),
+    };
+    let calling_service = Slot {
+        part: Part::Number(crate::CALLING_SERVICE_AT),
+    };
+    let called_service = Slot {
+        part: Part::Number(crate::CALLED_SERVICE_AT),
+    };
+    Row {
+        carried: true,
+        count: 2,
+        parts: [a, b, NOTHING, NOTHING, NOTHING, NOTHING],
+        options: 7,
+        optional: [
+            calling,
+            called,
+            network,
+            calling_area,
+            called_area,
+            calling_service,
+            called_service,
+        ],
     }
 }

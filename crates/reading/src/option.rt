@@ -123,8 +123,8 @@ fn read_option(
 {
     match element::bit(message::P_BIT, buf, bits, at) {
         FlagTook::Refused(s) => no_each(s),
-        FlagTook::Got(o, p) => {
-            if o {
+        FlagTook::Got(there, p) => {
+            if there {
                 let b = part::read_part(air, value, part, buf, bits, p);
                 if b.found {
                     let v = b.value;

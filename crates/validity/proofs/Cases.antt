@@ -1,4 +1,5 @@
--- Values that are valid and values that are not, one for each rule of document 01, as one checked list. Assumes nothing.
+-- Values that are valid and values that are not, one for each rule of document 01 and for document 02's messages, as one checked list.
+-- Assumes nothing.
 use Prim.Native.Nat.{ℕ}
 use mathlib.Core.Path.{_≡_, refl}
 use mathlib.Core.Bool.{Bool, true, false}
@@ -19,6 +20,7 @@ use Rattle.message.specs.Numbers.{widths, widthOf}
 use Rattle.message.specs.Values.{blank, withNumber, withUsers, withMask, withDispatchers, withGiven, sameBools, sameNumbers, sameAddress, sameAddresses, sameGroup, sameValue}
 use Rattle.message.specs.Rows.{table, rowIn, rowOf, partsC, puts, gets, eachC, optionsC, putOptions, getOptions, firstParts}
 use Rattle.message.specs.Messages.{bodyC, isKnown, isCarried, headerC, messageC}
+use Rattle.message.proofs.Cases.{request, and, all}
 use Rattle.message.specs.declared.Address.{Address}
 use Rattle.message.specs.declared.Group.{Group}
 use Rattle.message.specs.declared.Value.{Value}
@@ -146,7 +148,7 @@ cases =
     ∷ bad (value 2 four false 0 0 1 0 0 false noGroup)
     ∷ bad (value 2 four false 0 0 0 1 0 false noGroup)
     ∷ bad (value 2 four false 0 0 0 0 1 false noGroup)
-    -- nor a second option, and no message carries REQUEST's network
+    -- nor a second option, nor REQUEST's network
     ∷ bad (withGiven 1 true (activate four))
     ∷ bad (withNumber place.mni 1 (activate four))
     -- ACK: accepted, with masks 1100, 1111 and 0000 and with none; not accepted, with mask 0010 and with none
@@ -196,6 +198,41 @@ cases =
     ∷ bad (value 16 noGroup true 0 0 0 0 0 false noGroup)
     ∷ bad (value 16 noGroup false 0 1 0 0 0 false noGroup)
     ∷ bad (value 16 noGroup false 0 0 1 0 0 false noGroup)
+    -- REQUEST: without an option, with all seven, with the last alone
+    ∷ good (request 2)
+    ∷ good (all (home 1001))
+    ∷ good (and 6 place.calledService 3 (request 0))
+    -- causes 31 and 32, an identifier of 15 bits
+    ∷ good (request 31)
+    ∷ bad (request 32)
+    ∷ bad (withNumber place.identifier 16384 (request 0))
+    -- an MNI of 24 bits, of 25, and one that is not said to be there; areas 15 and 16; basic services 3 and 4
+    ∷ good (and 2 place.mni 0xFF_FFFF (request 0))
+    ∷ bad (and 2 place.mni 0x100_0000 (request 0))
+    ∷ bad (withNumber place.mni 5 (request 0))
+    ∷ good (and 3 place.callingArea 15 (request 0))
+    ∷ bad (and 3 place.callingArea 16 (request 0))
+    ∷ bad (and 4 place.calledArea 16 (request 0))
+    ∷ bad (and 5 place.callingService 4 (request 0))
+    ∷ bad (and 6 place.calledService 4 (request 0))
+    -- a calling that is said to be there and is not, a called that is not said to be; a range number; a dispatcher
+    ∷ bad (withGiven 0 true (request 0))
+    ∷ bad (withUsers (two 0 nobody (home 1004)) (request 0))
+    ∷ bad (withUsers (none 1) (request 0))
+    ∷ bad (withDispatchers (one 0 (home 1)) (request 0))
+    -- CANCEL, with a cause, with an option
+    ∷ good (call 14 5)
+    ∷ bad (plainV 14 nobody 1 5 false nobody)
+    ∷ bad (plainV 14 nobody 0 5 true nobody)
+    -- REJECT, with a cause of 6 bits, with an option
+    ∷ good (plainV 17 nobody 2 5 false nobody)
+    ∷ bad (plainV 17 nobody 32 5 false nobody)
+    ∷ bad (plainV 17 nobody 2 5 true nobody)
+    -- REJECTED, without and with a dispatcher, with a cause of 6 bits, with an identifier
+    ∷ good (plainV 18 nobody 2 0 false nobody)
+    ∷ good (plainV 18 nobody 2 0 true (home 1001))
+    ∷ bad (plainV 18 nobody 32 0 false nobody)
+    ∷ bad (plainV 18 nobody 0 5 false nobody)
     ∷ []
 
 pub cases-right : list.map gives cases ≡ list.map wants cases

@@ -1,5 +1,6 @@
 -- Values of each message, with and without option, mask and reason, written and read back: the rows of docs/ROUNDS.md that the program
--- `rounds` runs, computed on the definitions of `write` and `read`. The bytes are the paper's or the independent model's. Assumes nothing.
+-- `rounds` runs, and document 02's messages, computed on the definitions of `write` and `read`. The bytes are the papers' or the
+-- independent model's. Assumes nothing.
 use Prim.Native.Nat.{ℕ, _+_, _*_, _^_}
 use mathlib.Core.Path.{_≡_, refl}
 use mathlib.Core.Bool.{true, false}
@@ -17,11 +18,13 @@ use Rattle.profile.specs.Sample.{sample, sampleMeanings, sampleShare}
 use Rattle.message.specs.Addresses.{nobody, isNobody, kindC, extensionC, addressC}
 use Rattle.message.specs.Groups.{addressesIn, allowedIn, nobodies, areNobody, placesC, rangeOk, endsOk, addressesC, rangeC, groupC, noGroup, oneGroup, spanIn, spanOf}
 use Rattle.message.specs.Acks.{maskC, maskedC, resultC}
+use Rattle.message.specs.Numbers as place
 use Rattle.message.specs.Numbers.{elements, elementOf, widths, widthOf}
 use Rattle.message.specs.Values.{blank, sameBools, sameNumbers, sameAddress, sameAddresses, sameGroup, sameValue}
 use Rattle.message.specs.Rows.{table, rowIn, rowOf, partsC, puts, gets, eachC, optionsC, putOptions, getOptions, firstParts}
 use Rattle.message.specs.Messages.{bodyC, isKnown, isCarried, headerC, messageC}
 use Rattle.message.specs.Reading.{wholeOf, lengthOk, readBits, readOf}
+use Rattle.message.proofs.Cases.{request, and, all, whole, longest}
 use Rattle.message.specs.declared.Address.{Address}
 use Rattle.message.specs.declared.Group.{Group}
 use Rattle.message.specs.declared.Value.{Value}
@@ -85,6 +88,22 @@ rows =
     (0x26 ∷ 0x00 ∷ 0x00 ∷ [])
     ∷ row (plainV 16 nobody 31 0 true (abroad 16777215 1)) 68
     (0x26 ∷ 0x1F ∷ 0xEF ∷ 0xFF ∷ 0xFF ∷ 0xF0 ∷ 0x00 ∷ 0x00 ∷ 0x10 ∷ [])
+    -- REQUEST: without an option; with all seven, and both addresses of kind 2; with the last alone
+    ∷ row (request 2) 31
+    (0x25 ∷ 0x60 ∷ 0x02 ∷ 0x88 ∷ [])
+    ∷ row (all (home 1001)) 150 whole
+    ∷ row (all (abroad 1001 16777215)) 174 longest
+    ∷ row (and 6 place.calledService 3 (request 0)) 40
+    (0x25 ∷ 0x60 ∷ 0x02 ∷ 0x82 ∷ 0x07 ∷ [])
+    -- CANCEL; REJECT; REJECTED, without and with an option
+    ∷ row (call 14 5) 25
+    (0x25 ∷ 0xC0 ∷ 0x02 ∷ 0x80 ∷ [])
+    ∷ row (plainV 17 nobody 2 5 false nobody) 30
+    (0x26 ∷ 0x20 ∷ 0x02 ∷ 0x88 ∷ [])
+    ∷ row (plainV 18 nobody 2 0 false nobody) 17
+    (0x26 ∷ 0x42 ∷ 0x00 ∷ [])
+    ∷ row (plainV 18 nobody 2 0 true (home 1001)) 44
+    (0x26 ∷ 0x42 ∷ 0xD0 ∷ 0x00 ∷ 0x3E ∷ 0x90 ∷ [])
     ∷ []
 
 -- ---- written: into an area with a byte to spare, whose bytes are AA; that one stays

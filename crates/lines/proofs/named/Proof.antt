@@ -74,14 +74,76 @@ returns-8 c =
 returns-9 : tie.Need-returns-9
 unfolding nameOf textOf
 returns-9 c =
-    let p1 = c .before .before .before .before .before .before .before in
-    let p2 = c .before .before .before .before .before .before in
-    let p3 = c .before .before .before .before .before in
-    let p4 = c .before .before .before .before in
-    let p5 = c .before .before .before in
-    let p6 = c .before .before in
-    let p7 = c .before in
-    rw (ne-eqb _ _ (p1 .if1 .left), ne-eqb _ _ (p2 .if2 .left), ne-eqb _ _ (p3 .if3 .left), ne-eqb _ _ (p4 .if4 .left), ne-eqb _ _ (p5 .if5 .left), ne-eqb _ _ (p6 .if6 .left), ne-eqb _ _ (p7 .if7 .left), ne-eqb _ _ (c .if8 .left))
+    let p1 = c .before .before .before .before .before .before .before .before in
+    let p2 = c .before .before .before .before .before .before .before in
+    let p3 = c .before .before .before .before .before .before in
+    let p4 = c .before .before .before .before .before in
+    let p5 = c .before .before .before .before in
+    let p6 = c .before .before .before in
+    let p7 = c .before .before in
+    let p8 = c .before in
+    rw (ne-eqb _ _ (p1 .if1 .left), ne-eqb _ _ (p2 .if2 .left), ne-eqb _ _ (p3 .if3 .left), ne-eqb _ _ (p4 .if4 .left), ne-eqb _ _ (p5 .if5 .left), ne-eqb _ _ (p6 .if6 .left), ne-eqb _ _ (p7 .if7 .left), ne-eqb _ _ (p8 .if8 .left), eq-eqb _ _ (c .if9 .taken))
+
+returns-10 : tie.Need-returns-10
+unfolding nameOf textOf
+returns-10 c =
+    let p1 = c .before .before .before .before .before .before .before .before .before in
+    let p2 = c .before .before .before .before .before .before .before .before in
+    let p3 = c .before .before .before .before .before .before .before in
+    let p4 = c .before .before .before .before .before .before in
+    let p5 = c .before .before .before .before .before in
+    let p6 = c .before .before .before .before in
+    let p7 = c .before .before .before in
+    let p8 = c .before .before in
+    let p9 = c .before in
+    rw (ne-eqb _ _ (p1 .if1 .left), ne-eqb _ _ (p2 .if2 .left), ne-eqb _ _ (p3 .if3 .left), ne-eqb _ _ (p4 .if4 .left), ne-eqb _ _ (p5 .if5 .left), ne-eqb _ _ (p6 .if6 .left), ne-eqb _ _ (p7 .if7 .left), ne-eqb _ _ (p8 .if8 .left), ne-eqb _ _ (p9 .if9 .left), eq-eqb _ _ (c .if10 .taken))
+
+returns-11 : tie.Need-returns-11
+unfolding nameOf textOf
+returns-11 c =
+    let p1 = c .before .before .before .before .before .before .before .before .before .before in
+    let p2 = c .before .before .before .before .before .before .before .before .before in
+    let p3 = c .before .before .before .before .before .before .before .before in
+    let p4 = c .before .before .before .before .before .before .before in
+    let p5 = c .before .before .before .before .before .before in
+    let p6 = c .before .before .before .before .before in
+    let p7 = c .before .before .before .before in
+    let p8 = c .before .before .before in
+    let p9 = c .before .before in
+    let p10 = c .before in
+    rw (ne-eqb _ _ (p1 .if1 .left), ne-eqb _ _ (p2 .if2 .left), ne-eqb _ _ (p3 .if3 .left), ne-eqb _ _ (p4 .if4 .left), ne-eqb _ _ (p5 .if5 .left), ne-eqb _ _ (p6 .if6 .left), ne-eqb _ _ (p7 .if7 .left), ne-eqb _ _ (p8 .if8 .left), ne-eqb _ _ (p9 .if9 .left), ne-eqb _ _ (p10 .if10 .left), eq-eqb _ _ (c .if11 .taken))
+
+returns-12 : tie.Need-returns-12
+unfolding nameOf textOf
+returns-12 c =
+    let p1 = c .before .before .before .before .before .before .before .before .before .before .before in
+    let p2 = c .before .before .before .before .before .before .before .before .before .before in
+    let p3 = c .before .before .before .before .before .before .before .before .before in
+    let p4 = c .before .before .before .before .before .before .before .before in
+    let p5 = c .before .before .before .before .before .before .before in
+    let p6 = c .before .before .before .before .before .before in
+    let p7 = c .before .before .before .before .before in
+    let p8 = c .before .before .before .before in
+    let p9 = c .before .before .before in
+    let p10 = c .before .before in
+    let p11 = c .before in
+    rw (ne-eqb _ _ (p1 .if1 .left), ne-eqb _ _ (p2 .if2 .left), ne-eqb _ _ (p3 .if3 .left), ne-eqb _ _ (p4 .if4 .left), ne-eqb _ _ (p5 .if5 .left), ne-eqb _ _ (p6 .if6 .left), ne-eqb _ _ (p7 .if7 .left), ne-eqb _ _ (p8 .if8 .left), ne-eqb _ _ (p9 .if9 .left), ne-eqb _ _ (p10 .if10 .left), ne-eqb _ _ (p11 .if11 .left), eq-eqb _ _ (c .if12 .taken))
+
+returns-13 : tie.Need-returns-13
+unfolding nameOf textOf
+returns-13 c =
+    let p1 = c .before .before .before .before .before .before .before .before .before .before .before in
+    let p2 = c .before .before .before .before .before .before .before .before .before .before in
+    let p3 = c .before .before .before .before .before .before .before .before .before in
+    let p4 = c .before .before .before .before .before .before .before .before in
+    let p5 = c .before .before .before .before .before .before .before in
+    let p6 = c .before .before .before .before .before .before in
+    let p7 = c .before .before .before .before .before in
+    let p8 = c .before .before .before .before in
+    let p9 = c .before .before .before in
+    let p10 = c .before .before in
+    let p11 = c .before in
+    rw (ne-eqb _ _ (p1 .if1 .left), ne-eqb _ _ (p2 .if2 .left), ne-eqb _ _ (p3 .if3 .left), ne-eqb _ _ (p4 .if4 .left), ne-eqb _ _ (p5 .if5 .left), ne-eqb _ _ (p6 .if6 .left), ne-eqb _ _ (p7 .if7 .left), ne-eqb _ _ (p8 .if8 .left), ne-eqb _ _ (p9 .if9 .left), ne-eqb _ _ (p10 .if10 .left), ne-eqb _ _ (p11 .if11 .left), ne-eqb _ _ (c .if12 .left))
 
 pub named-spec : {M : Type 1} → statement M
 named-spec =
@@ -95,4 +157,8 @@ named-spec =
     returns-6
     returns-7
     returns-8
-    returns-9)
+    returns-9
+    returns-10
+    returns-11
+    returns-12
+    returns-13)

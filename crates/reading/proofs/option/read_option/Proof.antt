@@ -16,8 +16,8 @@ enum-known-s c = search needs
 no-each-requires : tie.Need-no-each-requires
 no-each-requires c κs = search needs
 
-enum-known-o : tie.Need-enum-known-o
-enum-known-o c = search needs
+enum-known-there : tie.Need-enum-known-there
+enum-known-there c = search needs
 
 read-part-requires : tie.Need-read-part-requires
 read-part-requires c κs = search needs
@@ -37,7 +37,7 @@ returns c =
     let p4 = c .before .before .before .before in
     let p5 = c .before .before .before in
     let p6 = c .before in
-    rw (c .these .ensures, p6 .with-given .ensures, sym (p1 .bit .ensures) ∙ ap flagOf (p2 .o .given .1), p3 .if1 .taken, body-got _ (p4 .read-part .result) (p4 .read-part .ensures) (p5 .if2 .taken))
+    rw (c .these .ensures, p6 .with-given .ensures, sym (p1 .bit .ensures) ∙ ap flagOf (p2 .there .given .1), p3 .if1 .taken, body-got _ (p4 .read-part .result) (p4 .read-part .ensures) (p5 .if2 .taken))
 
 no-each-requires-2 : tie.Need-no-each-requires-2
 no-each-requires-2 c κs = search needs
@@ -50,7 +50,7 @@ returns-2 c =
     let p3 = c .before .before .before .before in
     let p4 = c .before .before .before in
     let p5 = c .before .before in
-    rw (c .no-each2 .ensures, sym (p1 .bit .ensures) ∙ ap flagOf (p2 .o .given .1), p3 .if1 .taken, body-no _ (p4 .read-part .result) (p4 .read-part .ensures) (p5 .if2 .left))
+    rw (c .no-each2 .ensures, sym (p1 .bit .ensures) ∙ ap flagOf (p2 .there .given .1), p3 .if1 .taken, body-no _ (p4 .read-part .result) (p4 .read-part .ensures) (p5 .if2 .left))
 
 these-requires-2 : tie.Need-these-requires-2
 these-requires-2 c κs = search needs
@@ -68,7 +68,7 @@ returns-4 c =
     let p1 = c .before .before .before .before .before in
     let p2 = c .before .before .before in
     let p3 = c .before in
-    rw (c .these2 .ensures, sym (p1 .bit .ensures) ∙ ap flagOf (p2 .o .given .1), p3 .if1 .left)
+    rw (c .these2 .ensures, sym (p1 .bit .ensures) ∙ ap flagOf (p2 .there .given .1), p3 .if1 .left)
 
 pub read-option-spec : {M : Type 1} → statement M
 read-option-spec =
@@ -77,7 +77,7 @@ read-option-spec =
     bit-requires
     enum-known-s
     no-each-requires
-    enum-known-o
+    enum-known-there
     read-part-requires
     with-given-requires
     these-requires
