@@ -6,12 +6,16 @@ use mathlib.Core.List.{List, [], _∷_, _++_, append-nil}
 use native.Mathlib.Nat.{add-zero, sub-zero, lt-of-lt-of-le}
 use native.Mathlib.Numerals.{add-one}
 use native.Mathlib.Omega.{arith}
+use lib.Dec.{eqb}
 use lib.ListN.{length, getD, drop, set, length-append, drop-of-length-le}
 use lib.Pow.{pow-add, pow-mono}
 use lib.Seq.{sets, sets-eq, length-sets, set-comm, getD-drop, drop-drop, drop-cons}
 use borrow.Author.Tests.{eq-eqb, ne-eqb}
 use Rattle.codec.specs.Codec.{both}
+use Rattle.message.specs.declared.Group.{Group}
+use Rattle.message.specs.declared.Value.{Value}
 use Rattle.console.specs.Bytes.{numberFrom, numberBytes, rowsFrom, rowsBytes, areZero}
+use Rattle.console.specs.Values.{groupFrom, valueFrom}
 
 -- ---- the first byte, and the next, from position at on
 
@@ -163,3 +167,25 @@ module _ (l : List ℕ) (i : ℕ) (so : Bool) (from : so ≡ areZero (drop i l))
 pub zero-end : (l : List ℕ) (i : ℕ) (so : Bool) → so ≡ areZero (drop i l) → length l ≤ i → true ≡ so
 unfolding areZero
 zero-end l i so from h = sym (from ∙ rw (drop-of-length-le l h))
+
+-- ---- a value, from what each of its bytes says
+
+module _ (l : List ℕ) (users dispatchers : Group) (identifier cause result reason mni a₁ a₂ s₁ s₂ o₀ o₁ o₂ o₃ o₄ o₅ o₆ pdu present mask : ℕ) where
+  pub value-from-all : users ≡ groupFrom (drop 1 l) → dispatchers ≡ groupFrom (drop 122 l) → identifier ≡ numberFrom 2 (drop 119 l) → cause ≡ getD l 118 0
+      → result ≡ getD l 116 0 → reason ≡ getD l 117 0 → mni ≡ numberFrom 3 (drop 234 l) → a₁ ≡ getD l 237 0 → a₂ ≡ getD l 238 0 → s₁ ≡ getD l 239 0
+      → s₂ ≡ getD l 240 0 → o₀ ≡ getD l 121 0 → o₁ ≡ getD l 228 0 → o₂ ≡ getD l 229 0 → o₃ ≡ getD l 230 0 → o₄ ≡ getD l 231 0 → o₅ ≡ getD l 232 0
+      → o₆ ≡ getD l 233 0 → pdu ≡ getD l 0 0 → present ≡ getD l 107 0 → mask ≡ numberFrom 8 (drop 108 l)
+      → _≡_ {A = Value}
+      (record {
+        pdu = pdu;
+        numbers = identifier ∷ cause ∷ result ∷ reason ∷ mni ∷ a₁ ∷ a₂ ∷ s₁ ∷ s₂ ∷ 0 ∷ 0 ∷ 0 ∷ [];
+        users = users;
+        masked = eqb present 1;
+        mask = mask;
+        given = eqb o₀ 1 ∷ eqb o₁ 1 ∷ eqb o₂ 1 ∷ eqb o₃ 1 ∷ eqb o₄ 1 ∷ eqb o₅ 1 ∷ eqb o₆ 1 ∷ [];
+        dispatchers = dispatchers;
+      })
+      (valueFrom l)
+  unfolding valueFrom
+  value-from-all e₁ e₂ e₃ e₄ e₅ e₆ e₇ e₈ e₉ e₁₀ e₁₁ e₁₂ e₁₃ e₁₄ e₁₅ e₁₆ e₁₇ e₁₈ e₁₉ e₂₀ e₂₁ =
+      rw (e₁, e₂, e₃, e₄, e₅, e₆, e₇, e₈, e₉, e₁₀, e₁₁, e₁₂, e₁₃, e₁₄, e₁₅, e₁₆, e₁₇, e₁₈, e₁₉, e₂₀, e₂₁)

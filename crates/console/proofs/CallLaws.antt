@@ -17,7 +17,7 @@ use Rattle.reading.specs.declared.Reading.{Reading}
 use Rattle.writing.specs.Writing.{Write, laid, refused, writeOf, writtenOf, areaOf}
 use Rattle.writing.specs.declared.Written.{Written}
 use Rattle.console.specs.Profiles.{passes, profileFrom}
-use Rattle.console.specs.Values.{valueBytes, valueFrom, isValue}
+use Rattle.console.specs.Values.{valueSize, valueBytes, valueFrom, isValue}
 use Rattle.console.specs.Console.{roomFor, cadRead, readNumber, readArea, cadReadOf, cadReadArea, cadWrite, writeNumber, writeBits, cadWriteOf, cadWriteArea, cadWriteBits}
 
 -- ---- reading
@@ -27,15 +27,15 @@ abbrev Read-leaves : ℕ → List ℕ → List ℕ → Read Value → Type 0
 Read-leaves c l a x = (c ≡ readNumber x) × (a ≡ readArea l x)
 
 module _ (l : List ℕ) (r : Reading) where
-  found-short : (x : Read Value) → r ≡ readingOf x → r .found ≡ true → length l < 228 → Read-leaves 14 l l (roomFor (length l) x)
+  found-short : (x : Read Value) → r ≡ readingOf x → r .found ≡ true → length l < valueSize → Read-leaves 14 l l (roomFor (length l) x)
   unfolding readingOf roomFor readNumber readArea refusal
-  found-short (got v q) e f h = rw (lt-leb 228 (length l) h) (refl, refl)
+  found-short (got v q) e f h = rw (lt-leb valueSize (length l) h) (refl, refl)
   found-short (no s) e f h = not-both (sym (ap (λ (y : Reading). y .found) e) ∙ f)
 
-  found-room : (x : Read Value) → r ≡ readingOf x → r .found ≡ true → 228 ≤ length l → (a : List ℕ) → a ≡ sets l 0 (valueBytes (r .value))
+  found-room : (x : Read Value) → r ≡ readingOf x → r .found ≡ true → valueSize ≤ length l → (a : List ℕ) → a ≡ sets l 0 (valueBytes (r .value))
       → Read-leaves 0 l a (roomFor (length l) x)
   unfolding readingOf roomFor readNumber readArea
-  found-room (got v q) e f h a w = rw (le-leb 228 (length l) h) (refl, w ∙ ap (λ (y : Reading). sets l 0 (valueBytes (y .value))) e)
+  found-room (got v q) e f h a w = rw (le-leb valueSize (length l) h) (refl, w ∙ ap (λ (y : Reading). sets l 0 (valueBytes (y .value))) e)
   found-room (no s) e f h a w = not-both (sym (ap (λ (y : Reading). y .found) e) ∙ f)
 
   found-not : (x : Read Value) → r ≡ readingOf x → r .found ≡ false → Read-leaves (r .stop .number) l l (roomFor (length l) x)
@@ -56,11 +56,11 @@ module _ (profile message : List ℕ) (n : ℕ) (l : List ℕ) where
     same : readingOf (readOf p message n) ≡ readingOf (readOf (profileFrom profile) message n)
     same = ap (λ (x : Profile). readingOf (readOf x message n)) is
 
-    pub read-14 : r .found ≡ true → length l < 228 → CadRead 14 l
+    pub read-14 : r .found ≡ true → length l < valueSize → CadRead 14 l
     unfolding cadReadOf cadReadArea cadRead
     read-14 f h = rw ok (found-short l r (readOf (profileFrom profile) message n) (said ∙ same) f h)
 
-    pub read-0 : r .found ≡ true → 228 ≤ length l → (a : List ℕ) → a ≡ sets l 0 (valueBytes (r .value)) → CadRead 0 a
+    pub read-0 : r .found ≡ true → valueSize ≤ length l → (a : List ℕ) → a ≡ sets l 0 (valueBytes (r .value)) → CadRead 0 a
     unfolding cadReadOf cadReadArea cadRead
     read-0 f h a w = rw ok (found-room l r (readOf (profileFrom profile) message n) (said ∙ same) f h a w)
 

@@ -14,7 +14,7 @@ use Rattle.codec.specs.Options.{flag}
 use Rattle.profile.specs.Counting.{every, sum}
 use Rattle.profile.specs.Rules.{meaningOf, meaningOk, meaningIn, airOk, shareOk, shareIn, sharesOk, profileOk}
 use Rattle.profile.specs.Sample.{sample, sampleMeanings, sampleShare}
-use Rattle.message.specs.Addresses.{isNobody, kindC, extensionC, addressC}
+use Rattle.message.specs.Addresses.{nobody, isNobody, kindC, extensionC, addressC}
 use Rattle.message.specs.Groups.{addressesIn, allowedIn, nobodies, areNobody, placesC, rangeOk, endsOk, addressesC, rangeC, groupC, noGroup, oneGroup, spanIn, spanOf}
 use Rattle.message.specs.Acks.{maskC, maskedC, resultC}
 use Rattle.message.specs.Numbers as place
@@ -23,13 +23,14 @@ use Rattle.message.specs.Values.{blank, withNumber, withDispatchers, withGiven,
 use Rattle.message.specs.Rows.{table, rowIn, rowOf, partsC, puts, gets, eachC, optionsC, putOptions, getOptions, firstParts}
 use Rattle.message.specs.Messages.{bodyC, isKnown, isCarried, headerC, messageC}
 use Rattle.message.specs.Reading.{wholeOf, lengthOk, readBits, readOf}
+use Rattle.message.proofs.Cases.{request, and, all}
 use Rattle.message.specs.declared.Value.{Value}
 use Rattle.validity.specs.Validity.{validOf}
-use Rattle.validity.proofs.Cases.{home, abroad, two, four, activateV, ackV, call}
+use Rattle.validity.proofs.Cases.{home, abroad, two, four, activateV, ackV, plainV, call}
 use Rattle.writing.specs.Writing.{bitsOf, padded, layOf, layIn, writeValid, writeOf}
 use Rattle.console.specs.Bytes.{numberFrom, numberBytes, rowsFrom, rowsBytes, areZero}
 use Rattle.console.specs.Profiles.{meaningBytes, shareBytes, shareFrom, profileBytes, airFrom, sharesFrom, profileFrom, isProfile, passes}
-use Rattle.console.specs.Values.{addressBytes, addressFrom, groupBytes, groupFrom, valueBytes, valueFrom, isValue}
+use Rattle.console.specs.Values.{addressBytes, addressFrom, groupBytes, groupFrom, firstBytes, moreBytes, valueBytes, valueFrom, isValue}
 use Rattle.console.specs.Console.{roomFor, cadRead, readNumber, cadReadOf, cadWrite, writeNumber, cadWriteOf}
 
 abbrev zeros : ℕ → List ℕ
@@ -65,16 +66,25 @@ ends = 1 ∷ 0 ∷ 3 ∷ 0xE9 ∷ 0 ∷ 0 ∷ 0 ∷ 1 ∷ 0 ∷ 3 ∷ 0xEC ∷ 0
 abbrev rows : List Row
 rows =
     -- DIVERT of worked case 3: the identifier stands in bytes 119 and 120
-    row (call 15 16383) ((15 ∷ []) ++ zeros 118 ++ (0x3F ∷ 0xFF ∷ []) ++ zeros 107)
+    row (call 15 16383) ((15 ∷ []) ++ zeros 118 ++ (0x3F ∷ 0xFF ∷ []) ++ zeros 120)
     -- ACTIVATE of worked case 8
-    ∷ row (activateV four false noGroup) ((2 ∷ 15 ∷ []) ++ ends ++ zeros 212)
+    ∷ row (activateV four false noGroup) ((2 ∷ 15 ∷ []) ++ ends ++ zeros 225)
     -- the first ACK of worked case 9: identities 0 and 1 have the top bits of byte 108
-    ∷ row (ackV four true (12 * 2 ^ 60) 1 0) ((3 ∷ 15 ∷ []) ++ ends ++ zeros 91 ++ (1 ∷ 0xC0 ∷ []) ++ zeros 7 ++ (1 ∷ []) ++ zeros 111)
+    ∷ row (ackV four true (12 * 2 ^ 60) 1 0) ((3 ∷ 15 ∷ []) ++ ends ++ zeros 91 ++ (1 ∷ 0xC0 ∷ []) ++ zeros 7 ++ (1 ∷ []) ++ zeros 124)
     -- a mask of 64 identities, of kind 2; a reason
     ∷ row (ackV (two 15 (abroad 64 9) (abroad 127 9)) true 0x0123456789ABCDEF 0 127)
-    ((3 ∷ 15 ∷ 2 ∷ 0 ∷ 0 ∷ 64 ∷ 0 ∷ 0 ∷ 9 ∷ 2 ∷ 0 ∷ 0 ∷ 127 ∷ 0 ∷ 0 ∷ 9 ∷ []) ++ zeros 91 ++ (1 ∷ 0x01 ∷ 0x23 ∷ 0x45 ∷ 0x67 ∷ 0x89 ∷ 0xAB ∷ 0xCD ∷ 0xEF ∷ 0 ∷ 127 ∷ []) ++ zeros 110)
+    ((3 ∷ 15 ∷ 2 ∷ 0 ∷ 0 ∷ 64 ∷ 0 ∷ 0 ∷ 9 ∷ 2 ∷ 0 ∷ 0 ∷ 127 ∷ 0 ∷ 0 ∷ 9 ∷ []) ++ zeros 91 ++ (1 ∷ 0x01 ∷ 0x23 ∷ 0x45 ∷ 0x67 ∷ 0x89 ∷ 0xAB ∷ 0xCD ∷ 0xEF ∷ 0 ∷ 127 ∷ []) ++ zeros 123)
     -- INTERCEPTED with an option: the dispatcher's address begins at byte 123
-    ∷ row (withGiven 0 true (withDispatchers (oneGroup (home 1)) (withNumber place.cause 2 (blank 10)))) ((10 ∷ []) ++ zeros 117 ++ (2 ∷ 0 ∷ 0 ∷ 1 ∷ 0 ∷ 1 ∷ 0 ∷ 0 ∷ 1 ∷ []) ++ zeros 101)
+    ∷ row (withGiven 0 true (withDispatchers (oneGroup (home 1)) (withNumber place.cause 2 (blank 10)))) ((10 ∷ []) ++ zeros 117 ++ (2 ∷ 0 ∷ 0 ∷ 1 ∷ 0 ∷ 1 ∷ 0 ∷ 0 ∷ 1 ∷ []) ++ zeros 114)
+    -- REQUEST without an option; with all seven: their bytes stand at 121 and from 228 on; with the last alone
+    ∷ row (request 2) ((11 ∷ []) ++ zeros 117 ++ (2 ∷ 0 ∷ 5 ∷ []) ++ zeros 120)
+    ∷ row (all (home 1001))
+    ((11 ∷ 0 ∷ 1 ∷ 0 ∷ 3 ∷ 0xE9 ∷ 0 ∷ 0 ∷ 0 ∷ 2 ∷ 0 ∷ 3 ∷ 0xEC ∷ 0 ∷ 0 ∷ 5 ∷ []) ++ zeros 102 ++ (2 ∷ 0 ∷ 5 ∷ 1 ∷ []) ++ zeros 106 ++ (1 ∷ 1 ∷ 1 ∷ 1 ∷ 1 ∷ 1 ∷ 0 ∷ 0 ∷ 5 ∷ 1 ∷ 2 ∷ 1 ∷ 2 ∷ []))
+    ∷ row (and 6 place.calledService 3 (request 0)) ((11 ∷ []) ++ zeros 118 ++ (0 ∷ 5 ∷ []) ++ zeros 112 ++ (1 ∷ 0 ∷ 0 ∷ 0 ∷ 0 ∷ 0 ∷ 0 ∷ 3 ∷ []))
+    -- CANCEL; REJECT; REJECTED with a dispatcher
+    ∷ row (call 14 5) ((14 ∷ []) ++ zeros 118 ++ (0 ∷ 5 ∷ []) ++ zeros 120)
+    ∷ row (plainV 17 nobody 2 5 false nobody) ((17 ∷ []) ++ zeros 117 ++ (2 ∷ 0 ∷ 5 ∷ []) ++ zeros 120)
+    ∷ row (plainV 18 nobody 2 0 true (home 1001)) ((18 ∷ []) ++ zeros 117 ++ (2 ∷ 0 ∷ 0 ∷ 1 ∷ 0 ∷ 1 ∷ 0 ∷ 3 ∷ 0xE9 ∷ []) ++ zeros 114)
     ∷ []
 
 abbrev bytesIn : Row → List ℕ
@@ -84,7 +94,7 @@ abbrev valueIn : Row → Value
 valueIn (row v l) = v
 
 pub rows-written : list.map (λ r. valueBytes (valueIn r)) rows ≡ list.map bytesIn rows
-unfolding valueBytes groupBytes addressBytes numberBytes rowsBytes blank nobodies noGroup oneGroup
+unfolding valueBytes firstBytes moreBytes groupBytes addressBytes numberBytes rowsBytes blank nobodies noGroup oneGroup
 rows-written = refl
 
 pub rows-taken : list.map (λ r. valueFrom (bytesIn r)) rows ≡ list.map valueIn rows
@@ -102,10 +112,10 @@ accepted = 0x25 ∷ 0xA0 ∷ []
 
 abbrev questions : List Asked
 questions =
-    asked sampleBytes accepted 11 228 0
+    asked sampleBytes accepted 11 241 0
     -- 14 comes last: 13 and 3 before it
-    ∷ asked sampleBytes accepted 11 227 14
-    ∷ asked sampleBytes accepted 12 227 13
+    ∷ asked sampleBytes accepted 11 240 14
+    ∷ asked sampleBytes accepted 12 240 13
     ∷ asked sampleBytes accepted 17 0 3
     -- 1 before all: too few bytes, a byte too many, a meaning of 18, a row past the posts, nine posts, a ceiling of 0
     ∷ asked (9 ∷ []) accepted 17 0 1
@@ -131,16 +141,17 @@ pub data Told : Type 0 where
   told : List ℕ → List ℕ → ℕ → ℕ → Told
 
 abbrev acceptedBytes : List ℕ
-acceptedBytes = (13 ∷ []) ++ zeros 227
+acceptedBytes = (13 ∷ []) ++ zeros 240
 
 abbrev orders : List Told
 orders =
     told sampleBytes acceptedBytes 2 0
-    -- 1, then 22 (by the shape, by a present byte, by a value that is not valid), then 14
+    -- 1, then 22 (by the shape, by a byte of 2 that says what is there, by a value that is not valid), then 14
     ∷ told sampleBytes acceptedBytes 1 14
     ∷ told sampleBytes (13 ∷ []) 1 22
     ∷ told sampleBytes (set acceptedBytes 107 2) 1 22
     ∷ told sampleBytes (set acceptedBytes 121 1) 1 22
+    ∷ told sampleBytes (set acceptedBytes 233 2) 1 22
     ∷ told (set sampleBytes 22 0) (13 ∷ []) 1 1
     ∷ []
 

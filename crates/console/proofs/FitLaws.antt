@@ -49,7 +49,7 @@ pub record Group-fits (g : Group) : Type 0 where
 
 -- how many bytes the layout has for each of a value's numbers; one without bytes is 0
 unfoldable pub sizes : List ℕ
-sizes = 2 ∷ 1 ∷ 1 ∷ 1 ∷ 0 ∷ 0 ∷ 0 ∷ 0 ∷ 0 ∷ 0 ∷ 0 ∷ 0 ∷ []
+sizes = 2 ∷ 1 ∷ 1 ∷ 1 ∷ 3 ∷ 1 ∷ 1 ∷ 1 ∷ 1 ∷ 0 ∷ 0 ∷ 0 ∷ []
 
 unfoldable pub sizeOf : ℕ → ℕ
 sizeOf k = getD sizes k 0
@@ -58,19 +58,11 @@ pub record Numbers-fit (l : List ℕ) : Type 0 where
   pub long : length l ≡ 12
   pub each : (k : ℕ) → getD l k 0 < 2 ^ (8 * sizeOf k)
 
--- how many of a row's options have a byte; the others are not there
-abbrev pub flags : ℕ
-flags = 1
-
-pub record Given-fits (l : List Bool) : Type 0 where
-  pub long : length l ≡ 7
-  pub rest : (i : ℕ) → flags ≤ i → getD l i false ≡ false
-
 pub record Value-fits (v : Value) : Type 0 where
   pub numbers : Numbers-fit (v .numbers)
   pub users : Group-fits (v .users)
   pub mask : v .mask < 2 ^ 64
-  pub given : Given-fits (v .given)
+  pub given : length (v .given) ≡ 7
   pub dispatchers : Group-fits (v .dispatchers)
 
 -- ---- addresses
@@ -258,52 +250,42 @@ blank-fits t =
       numbers = record { long = refl; each = λ k. omega (arith, each-same {A = ℕ} 0 12 k, pow-pos (8 * sizeOf k)) };
       users = no-group-fits;
       mask = omega arith;
-      given = record { long = refl; rest = λ i h. each-same false 7 i };
+      given = refl;
       dispatchers = no-group-fits;
     }
 
-with-given : (v : Value) (i : ℕ) (b : Bool) → i < flags → Value-fits v → Value-fits (withGiven i b v)
-with-given v i b h f =
-    record {
-      numbers = f .numbers;
-      users = f .users;
-      mask = f .mask;
-      given =
-          record {
-            long = length-set (v .given) i b ∙ f .given .long;
-            rest = set-each false (λ k x. flags ≤ k → x ≡ false) (v .given) i b (λ k. absurd (omega arith)) (f .given .rest);
-          };
-      dispatchers = f .dispatchers;
-    }
+with-given : (v : Value) (i : ℕ) (b : Bool) → Value-fits v → Value-fits (withGiven i b v)
+with-given v i b f =
+    record { numbers = f .numbers; users = f .users; mask = f .mask; given = length-set (v .given) i b ∙ f .given; dispatchers = f .dispatchers }
 
-option-fits : (air : Air) (u : Value) (i : ℕ) (q : Part) (x : Optional (Holds q)) (v : Value) → Value-fits v → i < flags → hasBytes q ≡ true
+option-fits : (air : Air) (u : Value) (i : ℕ) (q : Part) (x : Optional (Holds q)) (v : Value) → Value-fits v → hasBytes q ≡ true
     → optional element.pBit (partC air u q) .ok x ≡ true → Value-fits (putOption i q x v)
-option-fits air u i q absent v f h b e = subst (λ (w : Value). Value-fits w) (sym (option-absent i q v)) f
-option-fits air u i q (there a) v f h b e = with-given (put q a v) i true h (part-fits air u q a v f b (both-right (flag element.pBit .ok true) _ (both-right true _ e)))
+option-fits air u i q absent v f b e = subst (λ (w : Value). Value-fits w) (sym (option-absent i q v)) f
+option-fits air u i q (there a) v f b e = with-given (put q a v) i true (part-fits air u q a v f b (both-right (flag element.pBit .ok true) _ (both-right true _ e)))
 
-each-fit : (air : Air) (i : ℕ) (qs : List Part) (x : Options qs) (v : Value) → Value-fits v → i + length qs ≤ flags → allHaveBytes qs ≡ true
-    → eachC air i v qs .ok x ≡ true → Value-fits (putOptions i qs x v)
+each-fit : (air : Air) (i : ℕ) (qs : List Part) (x : Options qs) (v : Value) → Value-fits v → allHaveBytes qs ≡ true → eachC air i v qs .ok x ≡ true
+    → Value-fits (putOptions i qs x v)
 unfolding eachC putOptions
-each-fit air i [] x v f h b e = f
-each-fit air i (q ∷ qs) x v f h b e =
-    each-fit air (suc i) qs (x .1) (putOption i q (x .0) v) (option-fits air v i q (x .0) v f (omega arith) (both-left _ _ b) (both-left _ _ e)) (omega arith) (both-right (hasBytes q) _ b)
+each-fit air i [] x v f b e = f
+each-fit air i (q ∷ qs) x v f b e =
+    each-fit air (suc i) qs (x .1) (putOption i q (x .0) v) (option-fits air v i q (x .0) v f (both-left _ _ b) (both-left _ _ e)) (both-right (hasBytes q) _ b)
     (both-right (optional element.pBit (partC air v q) .ok (x .0)) _ e)
 
-options-fit : (air : Air) (qs : List Part) (x : Options qs) (v : Value) → Value-fits v → length qs ≤ flags → allHaveBytes qs ≡ true
-    → optionsC air v qs .ok x ≡ true → Value-fits (putOptions 0 qs x v)
+options-fit : (air : Air) (qs : List Part) (x : Options qs) (v : Value) → Value-fits v → allHaveBytes qs ≡ true → optionsC air v qs .ok x ≡ true
+    → Value-fits (putOptions 0 qs x v)
 unfolding optionsC putOptions
-options-fit air [] x v f h b e = f
-options-fit air (q ∷ qs) x v f h b e = go (someOf (q ∷ qs) x) (both-right (flag element.oBit .ok (someOf (q ∷ qs) x)) _ (both-right true _ e))
+options-fit air [] x v f b e = f
+options-fit air (q ∷ qs) x v f b e = go (someOf (q ∷ qs) x) (both-right (flag element.oBit .ok (someOf (q ∷ qs) x)) _ (both-right true _ e))
   where
     go : (s : Bool) → choose s (guard 12 (someOf (q ∷ qs)) (eachC air 0 v (q ∷ qs))) (pure (noneOf (q ∷ qs)) (λ y. not (someOf (q ∷ qs) y))) .ok x ≡ true
         → Value-fits (putOptions 0 (q ∷ qs) x v)
-    go true k = each-fit air 0 (q ∷ qs) x v f (omega arith) b (both-left (eachC air 0 v (q ∷ qs) .ok x) _ k)
+    go true k = each-fit air 0 (q ∷ qs) x v f b (both-left (eachC air 0 v (q ∷ qs) .ok x) _ k)
     go false k =
         subst (λ (w : Value). Value-fits w)
         (sym (ap (λ (y : Options (q ∷ qs)). putOptions 0 (q ∷ qs) y v) (none-only (q ∷ qs) x k) ∙ options-absent 0 (q ∷ qs) v)) f
 
 abbrev rowHasBytes : Row → Bool
-rowHasBytes r = both (allHaveBytes (partsOf r)) (both (leb (length (optionsOf r)) flags) (allHaveBytes (optionsOf r)))
+rowHasBytes r = both (allHaveBytes (partsOf r)) (allHaveBytes (optionsOf r))
 
 row-bytes : (t : ℕ) → rowHasBytes (rowOf t) ≡ true
 unfolding rowOf table firstParts both widthOf widths sizeOf sizes
@@ -315,10 +297,9 @@ body-fits air t v e =
     let ps = partsOf (rowOf t) in
     let qs = optionsOf (rowOf t) in
     let b = row-bytes t in
-    let c = both-right (allHaveBytes ps) _ b in
     let ok = both-right _ _ e in
     subst (λ (w : Value). Value-fits w) (value-one (fill t ps qs (taken t ps qs v)) v (both-left _ _ e))
-    (options-fit air qs (getOptions 0 qs v) (puts ps (gets ps v) (blank t)) (parts-fit air ps (gets ps v) (blank t) (blank-fits t) (both-left _ _ b) (both-left _ _ ok)) (leb-true _ _ (both-left _ _ c)) (both-right (leb (length qs) flags) _ c) (both-right _ _ ok))
+    (options-fit air qs (getOptions 0 qs v) (puts ps (gets ps v) (blank t)) (parts-fit air ps (gets ps v) (blank t) (blank-fits t) (both-left _ _ b) (both-left _ _ ok)) (both-right (allHaveBytes ps) _ b) (both-right _ _ ok))
 
 pub valid-fits : (air : Air) (v : Value) → validOf air v ≡ true → Value-fits v
 valid-fits air v e = body-fits air (v .pdu) v (valid-body air v e)

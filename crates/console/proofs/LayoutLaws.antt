@@ -8,14 +8,12 @@
 use Prim.Native.Nat.{ℕ, zero, suc, _+_, _*_, _%_, _^_, _≤_, _<_}
 use mathlib.Core.Path.{_≡_, refl, sym, ap, _∙_}
 use mathlib.Core.Bool.{Bool, true, false, cond}
-use mathlib.Core.Logic.{⊎-elim}
 use mathlib.Core.List.{List, [], _∷_, _++_, append-assoc, append-nil}
 use native.Mathlib.Omega.{arith}
 use lib.Dec.{eqb, leb}
 use lib.ListN.{length, getD, take, drop, length-append, length-drop, drop-of-length-le}
 use lib.Seq.{sets, sets-eq, take-add, take-all, take-at, drop-cons, drop-drop, drop-at, drop-nil, getD-drop}
-use borrow.Author.Tests.{eq-eqb, eqb-true, eqb-false, ne-eqb, leb-true, leb-false, le-leb}
-use Rattle.bits.proofs.SetLaws.{eq-or}
+use borrow.Author.Tests.{eq-eqb, eqb-true, ne-eqb, leb-true, le-leb}
 use Rattle.codec.proofs.Good.{both-true, both-left, both-right}
 use Rattle.profile.specs.Counting.{every, one}
 use Rattle.profile.proofs.CountLaws.{every-at}
@@ -36,11 +34,11 @@ use Rattle.message.specs.declared.Value.{Value}
 use Rattle.validity.specs.Validity.{validOf}
 use Rattle.console.specs.Bytes.{numberFrom, numberBytes, rowsFrom, rowsBytes, areZero}
 use Rattle.console.specs.Profiles.{byteBy, meaningBytes, meaningFrom, shareBytes, shareFrom, profileBytes, airFrom, sharesFrom, profileFrom, isProfile}
-use Rattle.console.specs.Values.{addressBytes, addressFrom, groupBytes, groupFrom, valueBytes, valueFrom, isValue}
+use Rattle.console.specs.Values.{addressBytes, addressFrom, groupBytes, groupFrom, valueSize, firstBytes, moreBytes, valueBytes, valueFrom, isValue}
 use Rattle.console.proofs.ByteLaws.{byte-here, length-number}
-use Rattle.console.proofs.PutLaws.{length-address, length-group}
+use Rattle.console.proofs.PutLaws.{length-address, length-group, length-more}
 use Rattle.console.proofs.RowLaws.{AreBytes, bytes-drop, low-byte, number-there, number-back, rows-there, rows-back, byte-front, run-front, past-byte, past-run, all-of, rows-length}
-use Rattle.console.proofs.FitLaws.{Address-fits, Group-fits, sizes, sizeOf, Numbers-fit, Given-fits, Value-fits, valid-fits}
+use Rattle.console.proofs.FitLaws.{Address-fits, Group-fits, sizes, sizeOf, Numbers-fit, Value-fits, valid-fits}
 
 -- ---- addresses and groups
 
@@ -89,31 +87,55 @@ flag-back false = refl
 low-small : {n : ℕ} → n < 256 → n % 256 ≡ n
 low-small {n} h = omega arith
 
--- the bytes after the users, and after the mask
+-- the bytes after the users, after the mask, and after the identifier
+abbrev afterIdentifier : Value → List ℕ
+afterIdentifier v = one (givenAt 0 v) ∷ (groupBytes (v .dispatchers) ++ moreBytes (v .numbers) (v .given))
+
 abbrev afterMask : Value → List ℕ
 afterMask v =
-    numberAt place.result v % 256 ∷ (numberAt place.reason v % 256 ∷ (numberAt place.cause v % 256 ∷ (numberBytes 2 (numberAt place.identifier v) ++ (one (givenAt 0 v) ∷ groupBytes (v .dispatchers)))))
+    numberAt place.result v % 256 ∷ (numberAt place.reason v % 256 ∷ (numberAt place.cause v % 256 ∷ (numberBytes 2 (numberAt place.identifier v) ++ afterIdentifier v)))
 
 abbrev afterUsers : Value → List ℕ
 afterUsers v = one (v .masked) ∷ (numberBytes 8 (v .mask) ++ afterMask v)
 
+mask-is : (v : Value) → firstBytes (v .numbers) (v .given) ++ (groupBytes (v .dispatchers) ++ moreBytes (v .numbers) (v .given)) ≡ afterMask v
+unfolding firstBytes
+mask-is v =
+    ap (λ (x : List ℕ). numberAt place.result v % 256 ∷ (numberAt place.reason v % 256 ∷ (numberAt place.cause v % 256 ∷ x)))
+    (append-assoc (numberBytes 2 (numberAt place.identifier v)) (one (givenAt 0 v) ∷ []) (groupBytes (v .dispatchers) ++ moreBytes (v .numbers) (v .given)))
+
 value-is : (v : Value) → valueBytes v ≡ v .pdu ∷ (groupBytes (v .users) ++ afterUsers v)
 unfolding valueBytes
-value-is v = simp append-assoc
+value-is v = simp append-assoc (ap (λ (x : List ℕ). v .pdu ∷ (groupBytes (v .users) ++ (one (v .masked) ∷ (numberBytes 8 (v .mask) ++ x)))) (mask-is v))
+
+-- the bytes from the further options on
+more-there : (l : List ℕ) → AreBytes l → isValue l ≡ true → moreBytes (valueFrom l .numbers) (valueFrom l .given) ≡ drop 228 l
+unfolding valueFrom isValue moreBytes
+more-there l h e =
+    let n : length l ≡ valueSize = eqb-true _ _ (both-left _ _ e) in
+    let small = every-at 6 _ (both-right (leb (getD l 121 0) 1) _ (both-right (leb (getD l 107 0) 1) _ (both-right (eqb (length l) valueSize) _ e))) in
+    let flag : (r : ℕ) → r < 6 → one (eqb (getD l (228 + r) 0) 1) ≡ getD l (228 + r) 0 = λ r k. flag-there _ (leb-true _ _ (small r k)) in
+    let mni = number-there 3 (drop 234 l) (bytes-drop 234 l h) (omega (arith, length-drop 234 l)) in
+    let d241 : [] ≡ drop 241 l = sym (drop-of-length-le l {i = 241} (omega arith)) in
+    let d239 = byte-front l 239 _ _ (omega arith) (low-byte l h 239) (byte-front l 240 _ _ (omega arith) (low-byte l h 240) d241) in
+    let d237 = byte-front l 237 _ _ (omega arith) (low-byte l h 237) (byte-front l 238 _ _ (omega arith) (low-byte l h 238) d239) in
+    let d232 = byte-front l 232 _ _ (omega arith) (flag 4 (omega arith)) (byte-front l 233 _ _ (omega arith) (flag 5 (omega arith)) (run-front l 234 3 _ _ mni d237)) in
+    let d230 = byte-front l 230 _ _ (omega arith) (flag 2 (omega arith)) (byte-front l 231 _ _ (omega arith) (flag 3 (omega arith)) d232) in
+    byte-front l 228 _ _ (omega arith) (flag 0 (omega arith)) (byte-front l 229 _ _ (omega arith) (flag 1 (omega arith)) d230)
 
 -- what is taken from a value's bytes is written as those bytes
 pub value-there : (l : List ℕ) → AreBytes l → isValue l ≡ true → valueBytes (valueFrom l) ≡ l
 unfolding valueFrom isValue
 value-there l h e =
-    let n : length l ≡ 228 = eqb-true _ _ (both-left _ _ e) in
-    let flags = both-right (eqb (length l) 228) _ e in
+    let n : length l ≡ valueSize = eqb-true _ _ (both-left _ _ e) in
+    let flags = both-right (eqb (length l) valueSize) _ e in
     let masked : one (eqb (getD l 107 0) 1) ≡ getD l 107 0 = flag-there _ (leb-true _ _ (both-left _ _ flags)) in
-    let option : one (eqb (getD l 121 0) 1) ≡ getD l 121 0 = flag-there _ (leb-true _ _ (both-right (leb (getD l 107 0) 1) _ flags)) in
+    let option : one (eqb (getD l 121 0) 1) ≡ getD l 121 0 = flag-there _ (leb-true _ _ (both-left _ _ (both-right (leb (getD l 107 0) 1) _ flags))) in
     let users = group-there (drop 1 l) (bytes-drop 1 l h) (omega (arith, length-drop 1 l)) in
     let mask = number-there 8 (drop 108 l) (bytes-drop 108 l h) (omega (arith, length-drop 108 l)) in
     let identifier = number-there 2 (drop 119 l) (bytes-drop 119 l h) (omega (arith, length-drop 119 l)) in
-    let d122 : groupBytes (groupFrom (drop 122 l)) ≡ drop 122 l =
-    group-there (drop 122 l) (bytes-drop 122 l h) (omega (arith, length-drop 122 l)) ∙ take-all 106 (drop 122 l) (omega (arith, length-drop 122 l)) in
+    let dispatchers = group-there (drop 122 l) (bytes-drop 122 l h) (omega (arith, length-drop 122 l)) in
+    let d122 = run-front l 122 106 _ _ dispatchers (more-there l h e) in
     let d119 = run-front l 119 2 _ _ identifier (byte-front l 121 _ _ (omega arith) option d122) in
     let d116 = byte-front l 116 _ _ (omega arith) (low-byte l h 116) (byte-front l 117 _ _ (omega arith) (low-byte l h 117) (byte-front l 118 _ _ (omega arith) (low-byte l h 118) d119)) in
     let d107 = byte-front l 107 _ _ (omega arith) masked (run-front l 108 8 _ _ mask d116) in
@@ -128,108 +150,183 @@ each-are : {A : Type 0} (d : A) (l : List A) (i n : ℕ) → i + n ≡ length l 
 each-are d l i zero e = drop-of-length-le l {i = i} (omega arith)
 each-are d l i (suc n) e = drop-cons l i d (omega arith) ∙ ap (λ x. getD l i d ∷ x) (each-are d l (suc i) n (omega arith))
 
--- the numbers and the options that have bytes, and no others
-numbers-are : (l : List ℕ) → Numbers-fit l → l ≡ getD l 0 0 ∷ getD l 1 0 ∷ getD l 2 0 ∷ getD l 3 0 ∷ 0 ∷ 0 ∷ 0 ∷ 0 ∷ 0 ∷ 0 ∷ 0 ∷ 0 ∷ []
+-- the last three numbers have no bytes
+numbers-are : (l : List ℕ) → Numbers-fit l
+    → l ≡ getD l 0 0 ∷ getD l 1 0 ∷ getD l 2 0 ∷ getD l 3 0 ∷ getD l 4 0 ∷ getD l 5 0 ∷ getD l 6 0 ∷ getD l 7 0 ∷ getD l 8 0 ∷ 0 ∷ 0 ∷ 0 ∷ []
 unfolding sizeOf sizes
-numbers-are l n =
-    each-are 0 l 0 12 (sym (n .long)) ∙ rw (none 4 refl, none 5 refl, none 6 refl, none 7 refl, none 8 refl, none 9 refl, none 10 refl, none 11 refl)
+numbers-are l n = each-are 0 l 0 12 (sym (n .long)) ∙ rw (none 9 refl, none 10 refl, none 11 refl)
   where
     none : (k : ℕ) → sizeOf k ≡ 0 → getD l k 0 ≡ 0
     none k e = let h = n .each k in let z : 2 ^ (8 * sizeOf k) ≡ 1 = rw e in omega (arith, h, z)
 
-given-are : (l : List Bool) → Given-fits l → l ≡ getD l 0 false ∷ false ∷ false ∷ false ∷ false ∷ false ∷ false ∷ []
-given-are l g =
-    each-are false l 0 7 (sym (g .long))
-    ∙ rw (g .rest 1 (omega arith), g .rest 2 (omega arith), g .rest 3 (omega arith), g .rest 4 (omega arith), g .rest 5 (omega arith), g .rest 6 (omega arith))
-
 value-of : (v : Value) (ns : List ℕ) (gs : List Bool) → v .numbers ≡ ns → v .given ≡ gs → withNumbers ns (withGivens gs v) ≡ v
 value-of v ns gs e f = ap (λ (x : List ℕ). withNumbers x (withGivens gs v)) (sym e) ∙ ap (λ (x : List Bool). withGivens x v) (sym f)
 
-fits-back : (v : Value) → Value-fits v → valueFrom (valueBytes v) ≡ v
-unfolding valueFrom sizeOf sizes
-fits-back v p =
-    let u = groupBytes (v .users) in
-    let y = afterUsers v in
-    let m = numberBytes 8 (v .mask) in
-    let z = afterMask v in
-    let i = numberBytes 2 (numberAt place.identifier v) in
-    let d = groupBytes (v .dispatchers) in
-    let w = one (givenAt 0 v) ∷ d in
-    let nu = length-group (v .users) (p .users .places) in
-    let nm = length-number 8 (v .mask) in
-    let ni = length-number 2 (numberAt place.identifier v) in
-    let small = p .numbers .each in
-    let eu : groupFrom (u ++ y) ≡ v .users = group-back (v .users) y (p .users) in
-    let em : getD (u ++ y) 106 0 ≡ one (v .masked) = past-byte 106 u y nu 0 in
-    let ek : numberFrom 8 (drop 107 (u ++ y)) ≡ v .mask = ap (λ (x : List ℕ). numberFrom 8 x) (past-run 106 u y nu 1) ∙ number-back 8 (v .mask) z (p .mask) in
-    let er : getD (u ++ y) 115 0 ≡ numberAt place.result v = past-byte 106 u y nu 9 ∙ past-byte 8 m z nm 0 ∙ low-small (small place.result) in
-    let es : getD (u ++ y) 116 0 ≡ numberAt place.reason v = past-byte 106 u y nu 10 ∙ past-byte 8 m z nm 1 ∙ low-small (small place.reason) in
-    let ec : getD (u ++ y) 117 0 ≡ numberAt place.cause v = past-byte 106 u y nu 11 ∙ past-byte 8 m z nm 2 ∙ low-small (small place.cause) in
-    let ei : numberFrom 2 (drop 118 (u ++ y)) ≡ numberAt place.identifier v =
-    ap (λ (x : List ℕ). numberFrom 2 x) (past-run 106 u y nu 12 ∙ past-run 8 m z nm 3) ∙ number-back 2 (numberAt place.identifier v) w (small place.identifier) in
-    let eo : eqb (getD (u ++ y) 120 0) 1 ≡ givenAt 0 v =
-    ap (λ (k : ℕ). eqb k 1) (past-byte 106 u y nu 14 ∙ past-byte 8 m z nm 5 ∙ past-byte 2 i w ni 0) ∙ flag-back (givenAt 0 v) in
-    let ed : groupFrom (drop 121 (u ++ y)) ≡ v .dispatchers =
-    ap (λ (x : List ℕ). groupFrom x) (past-run 106 u y nu 15 ∙ past-run 8 m z nm 6 ∙ past-run 2 i w ni 1 ∙ sym (append-nil d))
-    ∙ group-back (v .dispatchers) [] (p .dispatchers) in
-    ap (λ (x : List ℕ). valueFrom x) (value-is v)
-    ∙ rw (eu, em, ek, er, es, ec, ei, eo, ed, flag-back (v .masked))
-    (value-of v _ _ (numbers-are (v .numbers) (p .numbers)) (given-are (v .given) (p .given)))
+module _ (v : Value) (p : Value-fits v) where
+  abbrev bytes : List ℕ
+  bytes = groupBytes (v .users) ++ afterUsers v
+
+  abbrev more : List ℕ
+  more = moreBytes (v .numbers) (v .given)
+
+  nu : length (groupBytes (v .users)) ≡ 106
+  nu = length-group (v .users) (p .users .places)
+
+  nd : length (groupBytes (v .dispatchers)) ≡ 106
+  nd = length-group (v .dispatchers) (p .dispatchers .places)
+
+  -- where the mask's bytes end, and the identifier's
+  past-mask : drop 115 bytes ≡ afterMask v
+  past-mask = past-run 106 (groupBytes (v .users)) (afterUsers v) nu 9 ∙ past-run 8 (numberBytes 8 (v .mask)) (afterMask v) (length-number 8 (v .mask)) 0
+
+  past-identifier : drop 120 bytes ≡ afterIdentifier v
+  past-identifier =
+      sym (drop-drop 5 115 bytes)
+      ∙ ap (λ (x : List ℕ). drop 5 x) past-mask
+      ∙ past-run 2 (numberBytes 2 (numberAt place.identifier v)) (afterIdentifier v) (length-number 2 (numberAt place.identifier v)) 0
+
+  past-dispatchers : drop 227 bytes ≡ more
+  past-dispatchers = sym (drop-drop 107 120 bytes) ∙ ap (λ (x : List ℕ). drop 107 x) past-identifier ∙ past-run 106 (groupBytes (v .dispatchers)) more nd 0
+
+  -- so the k-th byte after each
+  masked-at : getD bytes 106 0 ≡ one (v .masked)
+  masked-at = past-byte 106 (groupBytes (v .users)) (afterUsers v) nu 0
+
+  mask-at : (k : ℕ) → getD bytes (115 + k) 0 ≡ getD (afterMask v) k 0
+  mask-at k = sym (getD-drop 115 bytes k 0) ∙ ap (λ (x : List ℕ). getD x k 0) past-mask
+
+  option-at : getD bytes 120 0 ≡ one (givenAt 0 v)
+  option-at = sym (getD-drop 120 bytes 0 0) ∙ ap (λ (x : List ℕ). getD x 0 0) past-identifier
+
+  more-at : (k : ℕ) → getD bytes (227 + k) 0 ≡ getD more k 0
+  more-at k = sym (getD-drop 227 bytes k 0) ∙ ap (λ (x : List ℕ). getD x k 0) past-dispatchers
+
+  fits-back : valueFrom (valueBytes v) ≡ v
+  unfolding valueFrom moreBytes sizeOf sizes
+  fits-back =
+      let small = p .numbers .each in
+      let last = numberBytes 3 (numberAt place.mni v) in
+      let areas = numberAt place.callingArea v % 256 ∷ numberAt place.calledArea v % 256 ∷ numberAt place.callingService v % 256 ∷ numberAt place.calledService v % 256 ∷ [] in
+      let nl = length-number 3 (numberAt place.mni v) in
+      let eu : groupFrom bytes ≡ v .users = group-back (v .users) (afterUsers v) (p .users) in
+      let ek : numberFrom 8 (drop 107 bytes) ≡ v .mask =
+      ap (λ (x : List ℕ). numberFrom 8 x) (past-run 106 (groupBytes (v .users)) (afterUsers v) nu 1) ∙ number-back 8 (v .mask) (afterMask v) (p .mask) in
+      let er : getD bytes 115 0 ≡ numberAt place.result v = mask-at 0 ∙ low-small (small place.result) in
+      let es : getD bytes 116 0 ≡ numberAt place.reason v = mask-at 1 ∙ low-small (small place.reason) in
+      let ec : getD bytes 117 0 ≡ numberAt place.cause v = mask-at 2 ∙ low-small (small place.cause) in
+      let ei : numberFrom 2 (drop 118 bytes) ≡ numberAt place.identifier v =
+      ap (λ (x : List ℕ). numberFrom 2 x) (sym (drop-drop 3 115 bytes) ∙ ap (λ (x : List ℕ). drop 3 x) past-mask)
+      ∙ number-back 2 (numberAt place.identifier v) (afterIdentifier v) (small place.identifier) in
+      let ed : groupFrom (drop 121 bytes) ≡ v .dispatchers =
+      ap (λ (x : List ℕ). groupFrom x) (sym (drop-drop 1 120 bytes) ∙ ap (λ (x : List ℕ). drop 1 x) past-identifier) ∙ group-back (v .dispatchers) more (p .dispatchers) in
+      let en : numberFrom 3 (drop 233 bytes) ≡ numberAt place.mni v =
+      ap (λ (x : List ℕ). numberFrom 3 x) (sym (drop-drop 6 227 bytes) ∙ ap (λ (x : List ℕ). drop 6 x) past-dispatchers) ∙ number-back 3 (numberAt place.mni v) areas (small place.mni) in
+      let ea : getD bytes 236 0 ≡ numberAt place.callingArea v = more-at 9 ∙ past-byte 3 last areas nl 0 ∙ low-small (small place.callingArea) in
+      let eb : getD bytes 237 0 ≡ numberAt place.calledArea v = more-at 10 ∙ past-byte 3 last areas nl 1 ∙ low-small (small place.calledArea) in
+      let ey : getD bytes 238 0 ≡ numberAt place.callingService v = more-at 11 ∙ past-byte 3 last areas nl 2 ∙ low-small (small place.callingService) in
+      let ez : getD bytes 239 0 ≡ numberAt place.calledService v = more-at 12 ∙ past-byte 3 last areas nl 3 ∙ low-small (small place.calledService) in
+      ap (λ (x : List ℕ). valueFrom x) (value-is v)
+      ∙ rw (
+        eu,
+        ek,
+        er,
+        es,
+        ec,
+        ei,
+        ed,
+        en,
+        ea,
+        eb,
+        ey,
+        ez,
+        masked-at,
+        option-at,
+        more-at 0,
+        more-at 1,
+        more-at 2,
+        more-at 3,
+        more-at 4,
+        more-at 5,
+        flag-back (v .masked),
+        flag-back (givenAt 0 v),
+        flag-back (givenAt 1 v),
+        flag-back (givenAt 2 v),
+        flag-back (givenAt 3 v),
+        flag-back (givenAt 4 v),
+        flag-back (givenAt 5 v),
+        flag-back (givenAt 6 v),
+      )
+      (value-of v _ _ (numbers-are (v .numbers) (p .numbers)) (each-are false (v .given) 0 7 (sym (p .given))))
 
 -- a valid value is taken from its bytes as it was
 pub value-back : (air : Air) (v : Value) → validOf air v ≡ true → valueFrom (valueBytes v) ≡ v
 value-back air v e = fits-back v (valid-fits air v e)
 
-value-length : (v : Value) → Value-fits v → length (valueBytes v) ≡ 228
+value-length : (v : Value) → Value-fits v → length (valueBytes v) ≡ valueSize
 value-length v p =
     let u = groupBytes (v .users) in
     let m = numberBytes 8 (v .mask) in
     let i = numberBytes 2 (numberAt place.identifier v) in
     let d = groupBytes (v .dispatchers) in
+    let w = moreBytes (v .numbers) (v .given) in
     ap (λ (x : List ℕ). length x) (value-is v)
     ∙ omega (
       arith,
       length-append u (afterUsers v),
       length-append m (afterMask v),
-      length-append i (one (givenAt 0 v) ∷ d),
+      length-append i (afterIdentifier v),
+      length-append d w,
       length-number 8 (v .mask),
       length-number 2 (numberAt place.identifier v),
-      length-group (v .users) (p .users .places),
-      length-group (v .dispatchers) (p .dispatchers .places),
+      nu v p,
+      nd v p,
+      length-more (v .numbers) (v .given),
     )
 
 flag-small : (b : Bool) → leb (one b) 1 ≡ true
 flag-small true = refl
 flag-small false = refl
 
+more-small : (n : List ℕ) (g : List Bool) (r : ℕ) → r < 6 → leb (getD (moreBytes n g) r 0) 1 ≡ true
+unfolding moreBytes
+more-small n g zero h = flag-small (getD g 1 false)
+more-small n g (suc zero) h = flag-small (getD g 2 false)
+more-small n g (suc (suc zero)) h = flag-small (getD g 3 false)
+more-small n g (suc (suc (suc zero))) h = flag-small (getD g 4 false)
+more-small n g (suc (suc (suc (suc zero)))) h = flag-small (getD g 5 false)
+more-small n g (suc (suc (suc (suc (suc zero))))) h = flag-small (getD g 6 false)
+more-small n g (suc (suc (suc (suc (suc (suc r)))))) h = absurd (omega arith)
+
+every-of : (n : ℕ) (test : ℕ → Bool) → ((i : ℕ) → i < n → test i ≡ true) → every n test ≡ true
+unfolding every
+every-of zero test h = refl
+every-of (suc n) test h = both-true _ _ (every-of n test (λ i k. h i (omega arith))) (h n (omega arith))
+
 fits-taken : (v : Value) → Value-fits v → isValue (valueBytes v) ≡ true
 unfolding isValue
 fits-taken v p =
-    let u = groupBytes (v .users) in
-    let y = afterUsers v in
-    let nu = length-group (v .users) (p .users .places) in
-    let masked : getD (valueBytes v) 107 0 ≡ one (v .masked) = ap (λ (x : List ℕ). getD x 107 0) (value-is v) ∙ past-byte 106 u y nu 0 in
-    let option : getD (valueBytes v) 121 0 ≡ one (givenAt 0 v) =
-    ap (λ (x : List ℕ). getD x 121 0) (value-is v)
-    ∙ past-byte 106 u y nu 14
-    ∙ past-byte 8 (numberBytes 8 (v .mask)) (afterMask v) (length-number 8 (v .mask)) 5
-    ∙ past-byte 2 (numberBytes 2 (numberAt place.identifier v)) (one (givenAt 0 v) ∷ groupBytes (v .dispatchers)) (length-number 2 (numberAt place.identifier v)) 0 in
-    both-true _ _ (eq-eqb _ _ (value-length v p)) (both-true _ _ (ap (λ (b : ℕ). leb b 1) masked ∙ flag-small (v .masked)) (ap (λ (b : ℕ). leb b 1) option ∙ flag-small (givenAt 0 v)))
+    let here : (k : ℕ) → getD (valueBytes v) (suc k) 0 ≡ getD (bytes v p) k 0 = λ k. ap (λ (x : List ℕ). getD x (suc k) 0) (value-is v) in
+    let further : (r : ℕ) → r < 6 → leb (getD (valueBytes v) (228 + r) 0) 1 ≡ true =
+    λ r h. let z : 228 + r ≡ suc (227 + r) = omega arith in
+    ap (λ (k : ℕ). leb (getD (valueBytes v) k 0) 1) z ∙ ap (λ (b : ℕ). leb b 1) (here (227 + r) ∙ more-at v p r) ∙ more-small (v .numbers) (v .given) r h in
+    both-true _ _ (eq-eqb _ _ (value-length v p))
+    (both-true _ _ (ap (λ (b : ℕ). leb b 1) (here 106 ∙ masked-at v p) ∙ flag-small (v .masked))
+    (both-true _ _ (ap (λ (b : ℕ). leb b 1) (here 120 ∙ option-at v p) ∙ flag-small (givenAt 0 v)) (every-of 6 _ further)))
 
 -- the bytes of a valid value are taken
 pub value-taken : (air : Air) (v : Value) → validOf air v ≡ true → isValue (valueBytes v) ≡ true
 value-taken air v e = fits-taken v (valid-fits air v e)
 
--- they fill 228 bytes of an area, and what it has beyond them stays
-pub value-area : (air : Air) (v : Value) (l : List ℕ) → validOf air v ≡ true → 228 ≤ length l → sets l 0 (valueBytes v) ≡ valueBytes v ++ drop 228 l
+-- they fill the first bytes of an area, and what it has beyond them stays
+pub value-area : (air : Air) (v : Value) (l : List ℕ) → validOf air v ≡ true → valueSize ≤ length l → sets l 0 (valueBytes v) ≡ valueBytes v ++ drop valueSize l
 value-area air v l e h =
     let n = value-length v (valid-fits air v e) in
-    sets-eq (valueBytes v) l 0 (omega (arith, n)) ∙ ap (λ (k : ℕ). valueBytes v ++ drop k l) (let z : 0 + length (valueBytes v) ≡ 228 = omega (arith, n) in z)
+    sets-eq (valueBytes v) l 0 (omega (arith, n)) ∙ ap (λ (k : ℕ). valueBytes v ++ drop k l) (let z : 0 + length (valueBytes v) ≡ valueSize = omega (arith, n) in z)
 
 -- so they are found there again
-pub area-value : (air : Air) (v : Value) (l : List ℕ) → validOf air v ≡ true → 228 ≤ length l → take 228 (sets l 0 (valueBytes v)) ≡ valueBytes v
+pub area-value : (air : Air) (v : Value) (l : List ℕ) → validOf air v ≡ true → valueSize ≤ length l → take valueSize (sets l 0 (valueBytes v)) ≡ valueBytes v
 area-value air v l e h =
-    ap (λ (x : List ℕ). take 228 x) (value-area air v l e h) ∙ take-at (valueBytes v) (drop 228 l) 228 (value-length v (valid-fits air v e))
+    ap (λ (x : List ℕ). take valueSize x) (value-area air v l e h) ∙ take-at (valueBytes v) (drop valueSize l) valueSize (value-length v (valid-fits air v e))
 
 -- ---- meanings and shares
 
@@ -374,11 +471,6 @@ unfolding rowsBytes shareBytes
 rows-drop zero l = refl
 rows-drop (suc k) [] = drop-nil (2 * suc k)
 rows-drop (suc k) (s ∷ l) = let z : 2 * suc k ≡ suc (suc (2 * k)) = omega arith in rw z (rows-drop k l)
-
-every-of : (n : ℕ) (test : ℕ → Bool) → ((i : ℕ) → i < n → test i ≡ true) → every n test ≡ true
-unfolding every
-every-of zero test h = refl
-every-of (suc n) test h = both-true _ _ (every-of n test (λ i k. h i (omega arith))) (h n (omega arith))
 
 -- the rows past the posts are zero
 pub isSpare : Profile → Bool

@@ -1,19 +1,18 @@
 -- What the writers of addresses, groups and values leave. Assumes nothing.
 use Prim.Native.Nat.{ℕ, _+_, _*_, _%_}
 use mathlib.Core.Path.{_≡_, refl, sym, ap, _∙_}
-use mathlib.Core.Bool.{Bool}
+use mathlib.Core.Bool.{Bool, false}
 use mathlib.Core.List.{List, [], _∷_, _++_, append-assoc}
 use native.Mathlib.Omega.{arith}
-use lib.ListN.{length, set, length-append}
+use lib.ListN.{length, getD, set, length-append}
 use lib.Seq.{sets, length-sets}
 use Rattle.profile.specs.Counting.{one}
 use Rattle.message.specs.Numbers as place
-use Rattle.message.specs.Values.{numberAt, givenAt}
 use Rattle.message.specs.declared.Address.{Address}
 use Rattle.message.specs.declared.Group.{Group}
 use Rattle.message.specs.declared.Value.{Value}
 use Rattle.console.specs.Bytes.{numberBytes, rowsBytes}
-use Rattle.console.specs.Values.{addressBytes, groupBytes, valueBytes}
+use Rattle.console.specs.Values.{addressBytes, groupBytes, firstBytes, moreBytes, valueBytes}
 use Rattle.console.proofs.ByteLaws.{sets-append, length-number}
 
 -- ---- a run of stores after a run
@@ -67,27 +66,69 @@ pub group-put : (l m₁ m₂ : List ℕ) (at : ℕ) (g : Group) → m₁ ≡ set
 unfolding groupBytes
 group-put l m₁ m₂ at g e₁ e₂ = then-put (first-put l m₁ at (g .range) e₁) (rowsBytes addressBytes (g .addresses)) e₂ refl .area
 
-module _ (v : Value) (users : length (v .users .addresses) ≡ 15) (l m₁ m₂ m₃ m₄ m₅ m₆ m₇ m₈ m₉ m : List ℕ) (r w c n : ℕ) (o : Bool) where
+-- ---- the numbers and the options of a value
+
+module _ (n : List ℕ) (g : List Bool) where
+  pub length-first : length (firstBytes n g) ≡ 6
+  unfolding firstBytes
+  length-first = omega (arith, length-append (numberBytes 2 (getD n place.identifier 0)) (one (getD g 0 false) ∷ []), length-number 2 (getD n place.identifier 0))
+
+  pub length-more : length (moreBytes n g) ≡ 13
+  unfolding moreBytes
+  length-more =
+      let m = getD n place.mni 0 in
+      omega (
+        arith,
+        length-append (numberBytes 3 m) (getD n place.callingArea 0 % 256 ∷ getD n place.calledArea 0 % 256 ∷ getD n place.callingService 0 % 256 ∷ getD n place.calledService 0 % 256 ∷ []),
+        length-number 3 m,
+      )
+
+  module _ (l : List ℕ) where
+    pub numbers-put : (m₁ m₂ m₃ m₄ m : List ℕ) → m₁ ≡ set l 116 (getD n place.result 0 % 256) → m₂ ≡ set m₁ 117 (getD n place.reason 0 % 256)
+        → m₃ ≡ set m₂ 118 (getD n place.cause 0 % 256) → m₄ ≡ sets m₃ 119 (numberBytes 2 (getD n place.identifier 0)) → m ≡ set m₄ 121 (one (getD g 0 false))
+        → m ≡ sets l 116 (firstBytes n g)
+    unfolding firstBytes
+    numbers-put m₁ m₂ m₃ m₄ m e₁ e₂ e₃ e₄ e =
+        let i = numberBytes 2 (getD n place.identifier 0) in
+        let w₁ : Put l m₁ 116 117 _ = first-put l m₁ 116 _ e₁ in
+        let w₂ : Put l m₂ 116 118 _ = then-put w₁ (getD n place.reason 0 % 256 ∷ []) e₂ refl in
+        let w₃ : Put l m₃ 116 119 _ = then-put w₂ (getD n place.cause 0 % 256 ∷ []) e₃ refl in
+        let w₄ : Put l m₄ 116 121 _ = then-put w₃ i e₄ (omega (arith, length-number 2 (getD n place.identifier 0))) in
+        then-put {q = 122} w₄ (one (getD g 0 false) ∷ []) e refl .area ∙ simp append-assoc
+
+    pub more-put : (m₁ m₂ m₃ m₄ m₅ m₆ m₇ m₈ m₉ m₁₀ m : List ℕ) → m₁ ≡ set l 228 (one (getD g 1 false)) → m₂ ≡ set m₁ 229 (one (getD g 2 false))
+        → m₃ ≡ set m₂ 230 (one (getD g 3 false)) → m₄ ≡ set m₃ 231 (one (getD g 4 false)) → m₅ ≡ set m₄ 232 (one (getD g 5 false))
+        → m₆ ≡ set m₅ 233 (one (getD g 6 false)) → m₇ ≡ sets m₆ 234 (numberBytes 3 (getD n place.mni 0)) → m₈ ≡ set m₇ 237 (getD n place.callingArea 0 % 256)
+        → m₉ ≡ set m₈ 238 (getD n place.calledArea 0 % 256) → m₁₀ ≡ set m₉ 239 (getD n place.callingService 0 % 256) → m ≡ set m₁₀ 240 (getD n place.calledService 0 % 256)
+        → m ≡ sets l 228 (moreBytes n g)
+    unfolding moreBytes
+    more-put m₁ m₂ m₃ m₄ m₅ m₆ m₇ m₈ m₉ m₁₀ m e₁ e₂ e₃ e₄ e₅ e₆ e₇ e₈ e₉ e₁₀ e =
+        let w₁ : Put l m₁ 228 229 _ = first-put l m₁ 228 _ e₁ in
+        let w₂ : Put l m₂ 228 230 _ = then-put w₁ (one (getD g 2 false) ∷ []) e₂ refl in
+        let w₃ : Put l m₃ 228 231 _ = then-put w₂ (one (getD g 3 false) ∷ []) e₃ refl in
+        let w₄ : Put l m₄ 228 232 _ = then-put w₃ (one (getD g 4 false) ∷ []) e₄ refl in
+        let w₅ : Put l m₅ 228 233 _ = then-put w₄ (one (getD g 5 false) ∷ []) e₅ refl in
+        let w₆ : Put l m₆ 228 234 _ = then-put w₅ (one (getD g 6 false) ∷ []) e₆ refl in
+        let w₇ : Put l m₇ 228 237 _ = then-put w₆ (numberBytes 3 (getD n place.mni 0)) e₇ (omega (arith, length-number 3 (getD n place.mni 0))) in
+        let w₈ : Put l m₈ 228 238 _ = then-put w₇ (getD n place.callingArea 0 % 256 ∷ []) e₈ refl in
+        let w₉ : Put l m₉ 228 239 _ = then-put w₈ (getD n place.calledArea 0 % 256 ∷ []) e₉ refl in
+        let w₁₀ : Put l m₁₀ 228 240 _ = then-put w₉ (getD n place.callingService 0 % 256 ∷ []) e₁₀ refl in
+        then-put {q = 241} w₁₀ (getD n place.calledService 0 % 256 ∷ []) e refl .area ∙ simp append-assoc
+
+-- ---- a value
+
+module _ (v : Value) (users : length (v .users .addresses) ≡ 15) (dispatchers : length (v .dispatchers .addresses) ≡ 15) (l m₁ m₂ m₃ m₄ m₅ m₆ m : List ℕ) where
   pub value-put : m₁ ≡ set l 0 (v .pdu) → m₂ ≡ sets m₁ 1 (groupBytes (v .users)) → m₃ ≡ set m₂ 107 (one (v .masked))
-      → m₄ ≡ sets m₃ 108 (numberBytes 8 (v .mask)) → m₅ ≡ set m₄ 116 (r % 256) → m₆ ≡ set m₅ 117 (w % 256) → m₇ ≡ set m₆ 118 (c % 256)
-      → m₈ ≡ sets m₇ 119 (numberBytes 2 n) → m₉ ≡ set m₈ 121 (one o) → m ≡ sets m₉ 122 (groupBytes (v .dispatchers))
-      → r ≡ numberAt place.result v → w ≡ numberAt place.reason v → c ≡ numberAt place.cause v → n ≡ numberAt place.identifier v → o ≡ givenAt 0 v → m ≡ sets l 0 (valueBytes v)
+      → m₄ ≡ sets m₃ 108 (numberBytes 8 (v .mask)) → m₅ ≡ sets m₄ 116 (firstBytes (v .numbers) (v .given)) → m₆ ≡ sets m₅ 122 (groupBytes (v .dispatchers))
+      → m ≡ sets m₆ 228 (moreBytes (v .numbers) (v .given)) → m ≡ sets l 0 (valueBytes v)
   unfolding valueBytes
-  value-put e₁ e₂ e₃ e₄ e₅ e₆ e₇ e₈ e₉ e er ew ec en eo =
-      let u = groupBytes (v .users) in
-      let k = numberBytes 8 (v .mask) in
-      let r₀ = numberAt place.result v % 256 in
-      let w₀ = numberAt place.reason v % 256 in
-      let c₀ = numberAt place.cause v % 256 in
-      let n₀ = numberAt place.identifier v in
-      let o₀ = one (givenAt 0 v) in
-      let w₂ : Put l m₂ 0 107 (v .pdu ∷ u) = then-put (first-put l m₁ 0 (v .pdu) e₁) u e₂ (omega (arith, length-group (v .users) users)) in
-      let w₄ : Put l m₄ 0 116 (((v .pdu ∷ u) ++ (one (v .masked) ∷ [])) ++ k) = then-put {p = 108} (then-put w₂ (one (v .masked) ∷ []) e₃ refl) k e₄ (omega (arith, length-number 8 (v .mask))) in
-      let w₇ : Put l m₇ 0 119 ((((((v .pdu ∷ u) ++ (one (v .masked) ∷ [])) ++ k) ++ (r₀ ∷ [])) ++ (w₀ ∷ [])) ++ (c₀ ∷ [])) =
-      then-put {p = 118}
-      (then-put {p = 117} (then-put w₄ (r₀ ∷ []) (e₅ ∙ ap (λ (x : ℕ). set m₄ 116 (x % 256)) er) refl) (w₀ ∷ []) (e₆ ∙ ap (λ (x : ℕ). set m₅ 117 (x % 256)) ew) refl)
-      (c₀ ∷ []) (e₇ ∙ ap (λ (x : ℕ). set m₆ 118 (x % 256)) ec) refl in
-      let w₉ =
-      then-put {p = 121} {q = 122} (then-put {q = 121} w₇ (numberBytes 2 n₀) (e₈ ∙ ap (λ (x : ℕ). sets m₇ 119 (numberBytes 2 x)) en) (omega (arith, length-number 2 n₀)))
-      (o₀ ∷ []) (e₉ ∙ ap (λ (x : Bool). set m₈ 121 (one x)) eo) refl in
-      then-put {q = 122 + length (groupBytes (v .dispatchers))} w₉ (groupBytes (v .dispatchers)) e refl .area ∙ simp append-assoc
+  value-put e₁ e₂ e₃ e₄ e₅ e₆ e =
+      let n = v .numbers in
+      let g = v .given in
+      let w₁ : Put l m₁ 0 1 _ = first-put l m₁ 0 (v .pdu) e₁ in
+      let w₂ : Put l m₂ 0 107 _ = then-put w₁ (groupBytes (v .users)) e₂ (omega (arith, length-group (v .users) users)) in
+      let w₃ : Put l m₃ 0 108 _ = then-put w₂ (one (v .masked) ∷ []) e₃ refl in
+      let w₄ : Put l m₄ 0 116 _ = then-put w₃ (numberBytes 8 (v .mask)) e₄ (omega (arith, length-number 8 (v .mask))) in
+      let w₅ : Put l m₅ 0 122 _ = then-put w₄ (firstBytes n g) e₅ (omega (arith, length-first n g)) in
+      let w₆ : Put l m₆ 0 228 _ = then-put w₅ (groupBytes (v .dispatchers)) e₆ (omega (arith, length-group (v .dispatchers) dispatchers)) in
+      then-put {q = 241} w₆ (moreBytes n g) e (omega (arith, length-more n g)) .area ∙ simp append-assoc

@@ -26,7 +26,7 @@ use Rattle.validity.specs.Validity.{validOf}
 use Rattle.writing.specs.Writing.{bitsOf, bytesFor, layOf, layIn, Write, laid, refused, writeValid, writeOf, writtenOf, areaOf}
 use Rattle.writing.proofs.RoundTrips.{read-write, write-read, read-valid}
 use Rattle.console.specs.Profiles.{passes, profileFrom}
-use Rattle.console.specs.Values.{valueBytes, valueFrom, isValue}
+use Rattle.console.specs.Values.{valueSize, valueBytes, valueFrom, isValue}
 use Rattle.console.specs.Console.{roomFor, cadRead, readNumber, readArea, cadReadOf, cadReadArea, cadWrite, writeNumber, writeBits, cadWriteOf, cadWriteArea, cadWriteBits}
 use Rattle.console.proofs.CallLaws.{read-0, done-leaves}
 use Rattle.console.proofs.RowLaws.{AreBytes}
@@ -61,7 +61,7 @@ module _ (profile : List ℕ) where
   record Was (message : List ℕ) (n k : ℕ) (v : Value) (q : ℕ) : Type 0 where
     ok : passes profile ≡ true
     read : readOf p message n ≡ got v q
-    room : 228 ≤ k
+    room : valueSize ≤ k
 
   data Came (message : List ℕ) (n k : ℕ) : Read Value → Type 0 where
     came-got : {v : Value} {q : ℕ} → Was message n k v q → Came message n k (got v q)
@@ -71,13 +71,13 @@ module _ (profile : List ℕ) where
   unfolding cadRead roomFor refusal
   came message n k = go (passes profile) refl
     where
-      room : passes profile ≡ true → (v : Value) (q : ℕ) → readOf p message n ≡ got v q → (b : Bool) → leb 228 k ≡ b
+      room : passes profile ≡ true → (v : Value) (q : ℕ) → readOf p message n ≡ got v q → (b : Bool) → leb valueSize k ≡ b
           → Came message n k (cond b (got v q) (no (refusal 14)))
-      room ok v q e true h = came-got (record { ok = ok; read = e; room = leb-true 228 k h })
+      room ok v q e true h = came-got (record { ok = ok; read = e; room = leb-true valueSize k h })
       room ok v q e false h = came-no known-14
 
       found : passes profile ≡ true → (x : Read Value) → readOf p message n ≡ x → Came message n k (roomFor k x)
-      found ok (got v q) e = room ok v q e (leb 228 k) refl
+      found ok (got v q) e = room ok v q e (leb valueSize k) refl
       found ok (no s) e = came-no (read-published p message n s e)
 
       go : (b : Bool) → passes profile ≡ b → Came message n k (cond b (roomFor k (readOf p message n)) (no (refusal 1)))
@@ -151,7 +151,7 @@ module _ (profile : List ℕ) where
     Writes-back value =
         (cadWriteOf profile value l ≡ 0) × ((cadWriteBits profile value l b ≡ n) × Agree (bitAt (cadWriteArea profile value l)) (bitAt message) n)
 
-    was-back : (v : Value) (q : ℕ) → Was message n (length area) v q → Writes-back (take 228 (sets area 0 (valueBytes v)))
+    was-back : (v : Value) (q : ℕ) → Was message n (length area) v q → Writes-back (take valueSize (sets area 0 (valueBytes v)))
     unfolding cadWriteOf cadWriteArea cadWriteBits cadWrite readingOf
     was-back v q w =
         let reads = ap (λ (y : Read Value). readingOf y) (sym (w .read)) in
@@ -162,17 +162,17 @@ module _ (profile : List ℕ) where
         rw (area-value (p .air) v area valid (w .room), w .ok, value-taken (p .air) v valid, value-back (p .air) v valid)
         (sym (done .0), (sym (done .1 .1) ∙ trip .1 .0, trip .1 .1))
 
-    pub c-read-write : cadReadOf profile message n area ≡ 0 → Writes-back (take 228 (cadReadArea profile message n area))
+    pub c-read-write : cadReadOf profile message n area ≡ 0 → Writes-back (take valueSize (cadReadArea profile message n area))
     unfolding cadReadOf cadReadArea readNumber readArea
     c-read-write = go (cadRead profile message n (length area)) (came message n (length area))
       where
-        go : (x : Read Value) → Came message n (length area) x → readNumber x ≡ 0 → Writes-back (take 228 (readArea area x))
+        go : (x : Read Value) → Came message n (length area) x → readNumber x ≡ 0 → Writes-back (take valueSize (readArea area x))
         go (got v q) (came-got w) z = was-back v q w
         go (no s) (came-no k) z = not-zero (s .number) k z
 
   -- ---- writing, then reading
 
-  module _ (value l area : List ℕ) (b : ℕ) (are : AreBytes value) (room : 228 ≤ length area) where
+  module _ (value l area : List ℕ) (b : ℕ) (are : AreBytes value) (room : valueSize ≤ length area) where
     -- the n bits of the message are read as the bytes of the value
     abbrev Reads-back : List ℕ → ℕ → Type 0
     Reads-back message n = (cadReadOf profile message n area ≡ 0) × (cadReadArea profile message n area ≡ sets area 0 value)

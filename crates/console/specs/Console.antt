@@ -11,13 +11,13 @@ use Rattle.message.specs.Reading.{readOf}
 use Rattle.message.specs.declared.Value.{Value}
 use Rattle.writing.specs.Writing.{Write, laid, refused, writeOf, areaOf}
 use Rattle.console.specs.Profiles.{passes, profileFrom}
-use Rattle.console.specs.Values.{valueBytes, valueFrom, isValue}
+use Rattle.console.specs.Values.{valueSize, valueBytes, valueFrom, isValue}
 
 -- ---- reading: 1, then reading's own refusals, and 14 last
 
--- 14: the value area has fewer than 228 bytes
+-- 14: the value area has fewer bytes than a value
 unfoldable pub roomFor : ℕ → Read Value → Read Value
-roomFor k (got v p) = cond (leb 228 k) (got v p) (no (refusal 14))
+roomFor k (got v p) = cond (leb valueSize k) (got v p) (no (refusal 14))
 roomFor k (no s) = no s
 
 -- from the profile's bytes, a message of n bits, and a value area of k bytes

@@ -24,7 +24,7 @@ pub extern "C" fn cad_read(profile: &[u8], message: &[u8], bits: usize, value: &
     if !found {
         return number;
     }
-    if value.len() < 228 {
+    if value.len() < values::BYTES {
         return 14;
     }
     let v = r.value;

@@ -1,9 +1,10 @@
 // Bytes at an index, and numbers in several of them, most significant first.
 ghost use mathlib.Core.Path.{_≡_};
-ghost use Prim.Native.Nat.{_*_, _%_, _≤_, _<_, _^_};
+ghost use Prim.Native.Nat.{_+_, _*_, _%_, _≤_, _<_, _^_};
+ghost use lib.Dec.{leb};
 ghost use lib.ListN.{getD, drop, set};
 ghost use lib.Seq.{sets};
-ghost use Rattle.profile.specs.Counting.{one};
+ghost use Rattle.profile.specs.Counting.{one, every};
 ghost use Rattle.console.specs.Bytes.{numberFrom, numberBytes};
 
 // 0 past the end.
@@ -47,6 +48,22 @@ fn wide(x: u8) -> u64
     ensures { λ r. ⌜ (r ≡ x) × (r < 256) ⌝ }
 {
     x as u64
+}
+
+// None of so many bytes is over the most.
+pub(crate) fn are_up_to(l: &[u8], at: usize, count: usize, most: u8) -> bool
+    requires { ⌜ (at ≤ 4096) × (count ≤ 64) ⌝ }
+    ensures { λ r. ⌜ r ≡ every count (λ r. leb (getD (now (l .entry)) (at + r) 0) most) ⌝ }
+{
+    let mut r: usize = 0;
+    while r < count {
+        let b = byte_at(l, at + r);
+        r += 1;
+        if b > most {
+            return false;
+        }
+    }
+    true
 }
 
 // Nothing past the end.

@@ -1,9 +1,7 @@
 // A profile from its 39 bytes.
 ghost use mathlib.Core.Path.{_≡_};
 ghost use Prim.Native.Nat.{_+_, _*_, _≤_};
-ghost use lib.Dec.{leb};
 ghost use lib.ListN.{getD, drop};
-ghost use Rattle.profile.specs.Counting.{every};
 ghost use Rattle.console.specs.Bytes.{areZero};
 ghost use Rattle.console.specs.Profiles.{shareFrom, airFrom, sharesFrom, profileFrom, isProfile, passes};
 use crate::number;
@@ -40,24 +38,10 @@ fn is_profile(l: &[u8]) -> bool
     if l.len() != 39 {
         return false;
     }
-    if meanings_known(l) {
+    if number::are_up_to(l, 6, Air::RANGES, 17) {
         return spare_zero(l);
     }
     false
-}
-
-fn meanings_known(l: &[u8]) -> bool
-    ensures { λ r. ⌜ r ≡ every 16 (λ r. leb (getD (now (l .entry)) (6 + r) 0) 17) ⌝ }
-{
-    let mut r: usize = 0;
-    while r < Air::RANGES {
-        let b = number::byte_at(l, 6 + r);
-        r += 1;
-        if b > 17 {
-            return false;
-        }
-    }
-    true
 }
 
 // The rows past the posts are zero.

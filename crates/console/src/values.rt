@@ -1,27 +1,33 @@
-// A value from its 228 bytes, and into them.
+// A value from its bytes, and into them.
 ghost use mathlib.Core.Path.{_≡_};
 ghost use Prim.Native.Nat.{_≤_};
 ghost use lib.ListN.{length, drop};
 ghost use lib.Seq.{sets};
 ghost use Rattle.console.specs.Bytes.{rowsBytes};
-ghost use Rattle.console.specs.Values.{addressBytes, addressFrom, groupBytes, groupFrom, valueBytes, valueFrom, isValue};
+ghost use Rattle.console.specs.Values.{addressBytes, addressFrom, groupBytes, groupFrom, firstBytes, moreBytes, valueBytes, valueFrom, isValue};
 use crate::number;
 use message::Address;
 use message::Group;
 use message::Value;
+
+// So many bytes has a value.
+pub(crate) const BYTES: usize = 241;
 
 // ---- from bytes
 
 pub(crate) fn is_value(l: &[u8]) -> bool
     ensures { λ r. ⌜ r ≡ isValue (now (l .entry)) ⌝ }
 {
-    if l.len() != 228 {
+    if l.len() != BYTES {
         return false;
     }
     if number::byte_at(l, 107) > 1 {
         return false;
     }
-    number::byte_at(l, 121) <= 1
+    if number::byte_at(l, 121) > 1 {
+        return false;
+    }
+    number::are_up_to(l, 228, 6, 1)
 }
 
 pub(crate) fn value_from(l: &[u8]) -> Value
@@ -33,14 +39,38 @@ pub(crate) fn value_from(l: &[u8]) -> Value
     let cause = number::byte_at(l, 118) as u32;
     let result = number::byte_at(l, 116) as u32;
     let reason = number::byte_at(l, 117) as u32;
-    let option = number::byte_at(l, 121) == 1;
+    let mni = number::three_at(l, 234);
+    let calling_area = number::byte_at(l, 237) as u32;
+    let called_area = number::byte_at(l, 238) as u32;
+    let calling_service = number::byte_at(l, 239) as u32;
+    let called_service = number::byte_at(l, 240) as u32;
+    let first = number::byte_at(l, 121) == 1;
+    let second = number::byte_at(l, 228) == 1;
+    let third = number::byte_at(l, 229) == 1;
+    let fourth = number::byte_at(l, 230) == 1;
+    let fifth = number::byte_at(l, 231) == 1;
+    let sixth = number::byte_at(l, 232) == 1;
+    let seventh = number::byte_at(l, 233) == 1;
     Value {
         pdu: number::byte_at(l, 0),
-        numbers: [identifier, cause, result, reason, 0, 0, 0, 0, 0, 0, 0, 0],
+        numbers: [
+            identifier,
+            cause,
+            result,
+            reason,
+            mni,
+            calling_area,
+            called_area,
+            calling_service,
+            called_service,
+            0,
+            0,
+            0,
+        ],
         users: users,
         masked: number::byte_at(l, 107) == 1,
         mask: number::number_at(l, 108, 8),
-        given: [option, false, false, false, false, false, false],
+        given: [first, second, third, fourth, fifth, sixth, seventh],
         dispatchers: dispatchers,
     }
 }
@@ -80,21 +110,44 @@ pub(crate) fn put_value(out: &mut [u8], v: Value)
 {
     let users = v.users;
     let dispatchers = v.dispatchers;
+    let numbers = v.numbers;
+    let given = v.given;
     number::put_byte(out, 0, v.pdu);
     put_group(out, 1, users);
     number::put_flag(out, 107, v.masked);
     number::put_number(out, 108, 8, v.mask);
-    number::put_low(out, 116, message::number_at(v, message::RESULT_AT));
-    number::put_low(out, 117, message::number_at(v, message::REASON_AT));
-    number::put_low(out, 118, message::number_at(v, message::CAUSE_AT));
-    number::put_number(
-        out,
-        119,
-        2,
-        message::number_at(v, message::IDENTIFIER_AT) as u64,
-    );
-    number::put_flag(out, 121, message::given_at(v, 0));
+    put_first(out, numbers, given);
     put_group(out, 122, dispatchers);
+    put_more(out, numbers, given);
+}
+
+// Result, reason, cause, identifier, and the first option of the row.
+fn put_first(out: &mut [u8], numbers: [u32; 12], given: [bool; 7])
+    ensures { λ _. ⌜ now (out .exit) ≡ sets (now (out .entry)) 116 (firstBytes numbers given) ⌝ }
+{
+    number::put_low(out, 116, numbers[message::RESULT_AT as usize]);
+    number::put_low(out, 117, numbers[message::REASON_AT as usize]);
+    number::put_low(out, 118, numbers[message::CAUSE_AT as usize]);
+    number::put_number(out, 119, 2, numbers[message::IDENTIFIER_AT as usize] as u64);
+    number::put_flag(out, 121, given[0]);
+}
+
+// The row's further options, and REQUEST's network, areas and basic services.
+fn put_more(out: &mut [u8], numbers: [u32; 12], given: [bool; 7])
+    ensures { λ _. ⌜ now (out .exit) ≡ sets (now (out .entry)) 228 (moreBytes numbers given) ⌝ }
+{
+    let mni = numbers[message::MNI_AT as usize] as u64;
+    number::put_flag(out, 228, given[1]);
+    number::put_flag(out, 229, given[2]);
+    number::put_flag(out, 230, given[3]);
+    number::put_flag(out, 231, given[4]);
+    number::put_flag(out, 232, given[5]);
+    number::put_flag(out, 233, given[6]);
+    number::put_number(out, 234, 3, mni);
+    number::put_low(out, 237, numbers[message::CALLING_AREA_AT as usize]);
+    number::put_low(out, 238, numbers[message::CALLED_AREA_AT as usize]);
+    number::put_low(out, 239, numbers[message::CALLING_SERVICE_AT as usize]);
+    number::put_low(out, 240, numbers[message::CALLED_SERVICE_AT as usize]);
 }
 
 // A group always has fifteen places: the caller knows by it where the next element goes.

@@ -1,9 +1,15 @@
 -- Written by tools/proofs from tools/console.conf. `console::profiles::is_profile` meets its contract. Assumes nothing.
-use mathlib.Core.Path.{sym, _∙_}
+use Prim.Native.Nat.{_+_}
+use mathlib.Core.Bool.{true, false}
+use mathlib.Core.Path.{_≡_, sym, _∙_}
+use denote.Ref.{now}
+use lib.Dec.{leb}
+use lib.ListN.{getD}
 use borrow.Author.Needs.{needs}
 use borrow.Author.Tests.{eq-eqb, ne-eqb}
 use Rattle.codec.specs.Codec.{both}
 use Rattle.console.specs.Profiles.{isProfile}
+use Rattle.profile.specs.Counting.{every}
 use Rattle.console.proofs.profiles.is_profile.Statement.{statement}
 use Rattle.console.proofs.profiles.is_profile.Tie as tie
 
@@ -11,8 +17,8 @@ returns : tie.Need-returns
 unfolding isProfile both
 returns c = rw (ne-eqb _ _ (c .if1 .taken))
 
-meanings-known-requires : tie.Need-meanings-known-requires
-meanings-known-requires c κs = search needs
+are-up-to-requires : tie.Need-are-up-to-requires
+are-up-to-requires c κs = search needs
 
 spare-zero-requires : tie.Need-spare-zero-requires
 spare-zero-requires c κs = search needs
@@ -20,18 +26,15 @@ spare-zero-requires c κs = search needs
 returns-2 : tie.Need-returns-2
 unfolding isProfile both
 returns-2 c =
-    let p1 = c .before .before .before in
-    let p2 = c .before .before in
-    let p3 = c .before in
-    rw (c .spare-zero .ensures, eq-eqb _ _ (p1 .if1 .left), sym (p2 .meanings-known .ensures) ∙ p3 .if2 .taken)
+    let known : every 16 (λ r. leb (getD (now (c .before .before .before .before .before .args .l)) (6 + r) 0) 17) ≡ true = sym (c .before .before .are-up-to .ensures) ∙ c .before .if2 .taken in
+    rw (c .spare-zero .ensures, eq-eqb _ 39 (c .before .before .before .if1 .left), known)
 
 returns-3 : tie.Need-returns-3
 unfolding isProfile both
 returns-3 c =
-    let p1 = c .before .before in
-    let p2 = c .before in
-    rw (eq-eqb _ _ (p1 .if1 .left), sym (p2 .meanings-known .ensures) ∙ c .if2 .left)
+    let known : every 16 (λ r. leb (getD (now (c .before .before .before .before .args .l)) (6 + r) 0) 17) ≡ false = sym (c .before .are-up-to .ensures) ∙ c .if2 .left in
+    rw (eq-eqb _ 39 (c .before .before .if1 .left), known)
 
 pub is-profile-spec : {M : Type 1} → statement M
 is-profile-spec =
-    tie.close (tie.spec returns meanings-known-requires spare-zero-requires returns-2 returns-3)
+    tie.close (tie.spec returns are-up-to-requires spare-zero-requires returns-2 returns-3)

@@ -1,4 +1,4 @@
--- Written by tools/proofs from tools/console.conf. `console::profiles::meanings_known` meets its contract. Assumes nothing.
+-- Written by tools/proofs from tools/console.conf. `console::number::are_up_to` meets its contract. Assumes nothing.
 use Prim.Native.Nat.{_+_, _-_, _≤_}
 use mathlib.Core.Bool.{true}
 use mathlib.Core.Path.{_≡_, sym}
@@ -9,14 +9,14 @@ use borrow.Author.Needs.{needs}
 use borrow.Author.Tests.{le-leb, lt-leb}
 use Rattle.profile.proofs.CountLaws.{every-none, every-more, every-not, every-end}
 use Rattle.profile.specs.Counting.{every}
-use Rattle.console.proofs.profiles.meanings_known.Statement.{statement}
-use Rattle.console.proofs.profiles.meanings_known.Tie as tie
+use Rattle.console.proofs.number.are_up_to.Statement.{statement}
+use Rattle.console.proofs.number.are_up_to.Tie as tie
 
 abbrev Inv-loop : tie.InvT-loop
-Inv-loop l r₀ r = (r ≤ 16) × (every r (λ r. leb (getD l (6 + r) 0) 17) ≡ true)
+Inv-loop l at count most r₀ r = (r ≤ count) × (every r (λ r. leb (getD l (at + r) 0) most) ≡ true)
 
 abbrev μ-loop : tie.MeasureT-loop
-μ-loop l r₀ r = 16 - r
+μ-loop l at count most r₀ r = count - r
 
 loop-holds : tie.Need-loop-holds Inv-loop μ-loop
 loop-holds c = (search needs, every-none _)
@@ -48,8 +48,8 @@ loop-again c =
 returns-2 : tie.Need-returns-2 Inv-loop μ-loop
 returns-2 c = every-end _ (c .before .loop .r) _ (c .before .loop .inv .1) (omega arith)
 
-pub meanings-known-spec : {M : Type 1} → statement M
-meanings-known-spec =
+pub are-up-to-spec : {M : Type 1} → statement M
+are-up-to-spec =
     tie.close
     (tie.spec
     Inv-loop
