@@ -3,6 +3,7 @@
  *
  *   console < FILE                reads lines `BITS HEX`, as the listing does, and says each field of each message in words
  *   console accept ID             writes an ACCEPT of call ID and prints its bit length and its bytes
+ *   console reject ID CAUSE       writes a REJECT of call ID, with its cause
  *   console activate FIRST LAST   writes an ACTIVATE of the users FIRST to LAST of the home network
  *
  * What `activate` prints can be read again: console activate 1001 1004 | console
@@ -24,9 +25,9 @@ static const char *identities_word(unsigned count)
     return count == 1 ? "identity" : "identities";
 }
 
-static void say_address(const char *word, unsigned k, struct cad_address address)
+static void say_address(struct cad_address address)
 {
-    printf("    %s %u: kind %u, SSI %lu", word, k, address.kind, (unsigned long)address.ssi);
+    printf("kind %u, SSI %lu", address.kind, (unsigned long)address.ssi);
     if (address.kind == CAD_KIND_OTHER)
         printf(", extension %lu", (unsigned long)address.extension);
     printf("\n");
@@ -51,8 +52,10 @@ static void say_users(const uint8_t *profile, const uint8_t *value)
         printf("  user:\n");
     else
         say_range(profile, "users", cad_value_user_range(value));
-    for (k = 0; k < cad_value_users(profile, value); k++)
-        say_address("address", k, cad_value_user(value, k));
+    for (k = 0; k < cad_value_users(profile, value); k++) {
+        printf("    address %u: ", k);
+        say_address(cad_value_user(value, k));
+    }
 }
 
 /* Each identity that the users are; of an ACTIVATE ACK with its mask bit, so that nobody has to count bits. */
@@ -92,8 +95,33 @@ static void say_option(const uint8_t *profile, const uint8_t *value)
         say_range(profile, "option, dispatchers", cad_value_dispatcher_range(value));
     else
         printf("  option, dispatcher:\n");
-    for (k = 0; k < cad_value_dispatchers(profile, value); k++)
-        say_address("address", k, cad_value_dispatcher(value, k));
+    for (k = 0; k < cad_value_dispatchers(profile, value); k++) {
+        printf("    address %u: ", k);
+        say_address(cad_value_dispatcher(value, k));
+    }
+}
+
+/* Who calls whom, and what else a REQUEST may say of the call. */
+static void say_parties(const uint8_t *value)
+{
+    if (cad_value_has_calling(value)) {
+        printf("  calling: ");
+        say_address(cad_value_calling(value));
+    }
+    if (cad_value_has_called(value)) {
+        printf("  called: ");
+        say_address(cad_value_called(value));
+    }
+    if (cad_value_has_mni(value))
+        printf("  network: %lu\n", (unsigned long)cad_value_mni(value));
+    if (cad_value_has_calling_area(value))
+        printf("  area of the calling: %u\n", cad_value_calling_area(value));
+    if (cad_value_has_called_area(value))
+        printf("  area of the called: %u\n", cad_value_called_area(value));
+    if (cad_value_has_calling_service(value))
+        printf("  basic service of the calling: %u\n", cad_value_calling_service(value));
+    if (cad_value_has_called_service(value))
+        printf("  basic service of the called: %u\n", cad_value_called_service(value));
 }
 
 static void say_value(const uint8_t *profile, const uint8_t *value)
@@ -115,10 +143,18 @@ static void say_value(const uint8_t *profile, const uint8_t *value)
         break;
     case CAD_INTERCEPTED:
     case CAD_DIVERTED:
+    case CAD_REJECTED:
         printf("  cause: %u\n", cad_value_cause(value));
         say_option(profile, value);
         break;
+    case CAD_REQUEST:
+    case CAD_REJECT:
+        printf("  call identifier: %u\n", cad_value_identifier(value));
+        printf("  cause: %u\n", cad_value_cause(value));
+        say_parties(value);
+        break;
     case CAD_ACCEPT:
+    case CAD_CANCEL:
     case CAD_DIVERT:
         printf("  call identifier: %u\n", cad_value_identifier(value));
         break;
@@ -218,6 +254,15 @@ static int write_accept(const uint8_t *profile, uint32_t identifier)
     return write_value(profile, value);
 }
 
+static int write_reject(const uint8_t *profile, uint32_t identifier, uint32_t cause)
+{
+    uint8_t value[CAD_VALUE_BYTES];
+    cad_value_start(value, CAD_REJECT);
+    cad_value_set_identifier(value, identifier);
+    cad_value_set_cause(value, cause);
+    return write_value(profile, value);
+}
+
 static int write_activate(const uint8_t *profile, uint32_t first, uint32_t last)
 {
     uint8_t value[CAD_VALUE_BYTES];
@@ -252,8 +297,10 @@ int main(int argc, char **argv)
         return say_lines(profile);
     if (argc == 3 && strcmp(argv[1], "accept") == 0 && take_number(argv[2], &one))
         return write_accept(profile, one);
+    if (argc == 4 && strcmp(argv[1], "reject") == 0 && take_number(argv[2], &one) && take_number(argv[3], &two))
+        return write_reject(profile, one, two);
     if (argc == 4 && strcmp(argv[1], "activate") == 0 && take_number(argv[2], &one) && take_number(argv[3], &two))
         return write_activate(profile, one, two);
-    fprintf(stderr, "usage: console < FILE | console accept ID | console activate FIRST LAST\n");
+    fprintf(stderr, "usage: console < FILE | console accept ID | console reject ID CAUSE | console activate FIRST LAST\n");
     return 2;
 }

@@ -31,7 +31,7 @@ extern "C" {
 #endif
 
 /** The version of this interface; later ones append to both layouts and move nothing. */
-#define CAD_VERSION "1.0.0"
+#define CAD_VERSION "1.1.0"
 
 /** @name Limits
  * @{ */
@@ -61,7 +61,7 @@ extern "C" {
 /** @name The value's bytes
  * One layout for all messages; what a message doesn't carry is zero. Numbers of several bytes are big-endian.
  * @{ */
-#define CAD_VALUE_BYTES 228           /**< a value has so many bytes */
+#define CAD_VALUE_BYTES 241           /**< a value has so many bytes */
 #define CAD_VALUE_PDU 0               /**< PDU type, see cad_pdu */
 #define CAD_VALUE_USER_RANGE 1        /**< range value of the users, 0 to 15 */
 #define CAD_VALUE_USERS 2             /**< fifteen user addresses of #CAD_ADDRESS_BYTES */
@@ -71,9 +71,20 @@ extern "C" {
 #define CAD_VALUE_REASON 117          /**< reason, 0 to 127, where the result is 0 */
 #define CAD_VALUE_CAUSE 118           /**< cause, 0 to 31 */
 #define CAD_VALUE_IDENTIFIER 119      /**< call identifier, 2 bytes, 0 to 16,383 */
-#define CAD_VALUE_OPTION 121          /**< whether the option is there, 0 or 1 */
+#define CAD_VALUE_OPTION 121          /**< whether the option is there, 0 or 1; of a REQUEST the calling address */
 #define CAD_VALUE_DISPATCHER_RANGE 122 /**< range value of the dispatchers, 0 to 15 */
 #define CAD_VALUE_DISPATCHERS 123     /**< fifteen dispatcher addresses of #CAD_ADDRESS_BYTES */
+#define CAD_VALUE_HAS_CALLED 228      /**< whether the called address is there, 0 or 1; so with the next five */
+#define CAD_VALUE_HAS_MNI 229         /**< the network */
+#define CAD_VALUE_HAS_CALLING_AREA 230 /**< the area of the calling */
+#define CAD_VALUE_HAS_CALLED_AREA 231 /**< the area of the called */
+#define CAD_VALUE_HAS_CALLING_SERVICE 232 /**< the basic service of the calling */
+#define CAD_VALUE_HAS_CALLED_SERVICE 233 /**< the basic service of the called */
+#define CAD_VALUE_MNI 234             /**< the network (MNI), 3 bytes */
+#define CAD_VALUE_CALLING_AREA 237    /**< area of the calling, 0 to 15 */
+#define CAD_VALUE_CALLED_AREA 238     /**< area of the called, 0 to 15 */
+#define CAD_VALUE_CALLING_SERVICE 239 /**< basic service of the calling, 0 to 3 */
+#define CAD_VALUE_CALLED_SERVICE 240  /**< basic service of the called, 0 to 3 */
 #define CAD_ADDRESS_BYTES 7           /**< an address: kind, SSI in 3 bytes, extension in 3 bytes */
 #define CAD_ADDRESS_SSI 1             /**< the SSI within an address */
 #define CAD_ADDRESS_EXTENSION 4       /**< the extension within an address */
@@ -85,10 +96,14 @@ enum cad_pdu {
     CAD_ACTIVATE_ACK = 3, /**< users, mask, result, reason */
     CAD_INTERROGATE = 8,  /**< user address 0 */
     CAD_INTERCEPTED = 10, /**< cause, option: dispatcher address 0 */
+    CAD_REQUEST = 11,     /**< call identifier, cause, options: calling (user address 0), called (1), MNI, areas, basic services */
     CAD_ACCEPT = 12,      /**< call identifier */
     CAD_ACCEPTED = 13,    /**< nothing more */
+    CAD_CANCEL = 14,      /**< call identifier */
     CAD_DIVERT = 15,      /**< call identifier */
-    CAD_DIVERTED = 16     /**< cause, option: dispatcher address 0 */
+    CAD_DIVERTED = 16,    /**< cause, option: dispatcher address 0 */
+    CAD_REJECT = 17,      /**< call identifier, cause */
+    CAD_REJECTED = 18     /**< cause, option: dispatcher address 0 */
 };
 
 /** What cad_read() and cad_write() answer. Where several grounds hold, docs/REFUSALS.md says which number comes. */
@@ -172,10 +187,14 @@ static inline const char *cad_pdu_name(unsigned pdu)
     case CAD_ACTIVATE_ACK: return "ACTIVATE ACK";
     case CAD_INTERROGATE: return "INTERROGATE";
     case CAD_INTERCEPTED: return "INTERCEPTED";
+    case CAD_REQUEST: return "REQUEST";
     case CAD_ACCEPT: return "ACCEPT";
     case CAD_ACCEPTED: return "ACCEPTED";
+    case CAD_CANCEL: return "CANCEL";
     case CAD_DIVERT: return "DIVERT";
     case CAD_DIVERTED: return "DIVERTED";
+    case CAD_REJECT: return "REJECT";
+    case CAD_REJECTED: return "REJECTED";
     default: return "?";
     }
 }
@@ -450,19 +469,19 @@ static inline unsigned cad_value_reason(const uint8_t *value)
     return value[CAD_VALUE_REASON];
 }
 
-/** The cause of INTERCEPTED and DIVERTED. */
+/** The cause of INTERCEPTED, REQUEST, DIVERTED, REJECT and REJECTED. */
 static inline unsigned cad_value_cause(const uint8_t *value)
 {
     return value[CAD_VALUE_CAUSE];
 }
 
-/** The call identifier of ACCEPT and DIVERT. */
+/** The call identifier of REQUEST, ACCEPT, CANCEL, DIVERT and REJECT. */
 static inline unsigned cad_value_identifier(const uint8_t *value)
 {
     return (unsigned)cad_get_number(value + CAD_VALUE_IDENTIFIER, 2);
 }
 
-/** Whether the option is there: dispatchers. */
+/** Whether the option is there: dispatchers; of a REQUEST the calling address. */
 static inline int cad_value_option(const uint8_t *value)
 {
     return value[CAD_VALUE_OPTION] != 0;
@@ -481,6 +500,90 @@ static inline struct cad_address cad_value_dispatcher(const uint8_t *value, unsi
     return cad_get_address(k < CAD_ADDRESSES ? value + CAD_VALUE_DISPATCHERS + CAD_ADDRESS_BYTES * k : none);
 }
 
+/** Whether a REQUEST has the calling address. */
+static inline int cad_value_has_calling(const uint8_t *value)
+{
+    return cad_value_option(value);
+}
+
+/** The calling address of a REQUEST; all zero where it is not there. */
+static inline struct cad_address cad_value_calling(const uint8_t *value)
+{
+    return cad_value_user(value, 0);
+}
+
+/** Whether a REQUEST has the called address. */
+static inline int cad_value_has_called(const uint8_t *value)
+{
+    return value[CAD_VALUE_HAS_CALLED] != 0;
+}
+
+/** The called address of a REQUEST; all zero where it is not there. */
+static inline struct cad_address cad_value_called(const uint8_t *value)
+{
+    return cad_value_user(value, 1);
+}
+
+/** Whether a REQUEST has the network. */
+static inline int cad_value_has_mni(const uint8_t *value)
+{
+    return value[CAD_VALUE_HAS_MNI] != 0;
+}
+
+/** The network (MNI) of a REQUEST. */
+static inline uint32_t cad_value_mni(const uint8_t *value)
+{
+    return cad_get_number(value + CAD_VALUE_MNI, 3);
+}
+
+/** Whether a REQUEST has the area of the calling. */
+static inline int cad_value_has_calling_area(const uint8_t *value)
+{
+    return value[CAD_VALUE_HAS_CALLING_AREA] != 0;
+}
+
+/** The area of the calling of a REQUEST. */
+static inline unsigned cad_value_calling_area(const uint8_t *value)
+{
+    return value[CAD_VALUE_CALLING_AREA];
+}
+
+/** Whether a REQUEST has the area of the called. */
+static inline int cad_value_has_called_area(const uint8_t *value)
+{
+    return value[CAD_VALUE_HAS_CALLED_AREA] != 0;
+}
+
+/** The area of the called of a REQUEST. */
+static inline unsigned cad_value_called_area(const uint8_t *value)
+{
+    return value[CAD_VALUE_CALLED_AREA];
+}
+
+/** Whether a REQUEST has the basic service of the calling. */
+static inline int cad_value_has_calling_service(const uint8_t *value)
+{
+    return value[CAD_VALUE_HAS_CALLING_SERVICE] != 0;
+}
+
+/** The basic service of the calling of a REQUEST. */
+static inline unsigned cad_value_calling_service(const uint8_t *value)
+{
+    return value[CAD_VALUE_CALLING_SERVICE];
+}
+
+/** Whether a REQUEST has the basic service of the called. */
+static inline int cad_value_has_called_service(const uint8_t *value)
+{
+    return value[CAD_VALUE_HAS_CALLED_SERVICE] != 0;
+}
+
+/** The basic service of the called of a REQUEST. */
+static inline unsigned cad_value_called_service(const uint8_t *value)
+{
+    return value[CAD_VALUE_CALLED_SERVICE];
+}
+
 /** How many addresses a meaning asks for: 1 to 15 for a list, 2 for first and last, else 0. */
 static inline unsigned cad_meaning_addresses(unsigned meaning)
 {
@@ -489,7 +592,7 @@ static inline unsigned cad_meaning_addresses(unsigned meaning)
     return meaning <= CAD_ADDRESSES ? meaning : 0u;
 }
 
-/** How many user addresses a value has under a profile. INTERROGATE has one. */
+/** How many user addresses a value has under a profile. INTERROGATE has one; REQUEST's are cad_value_calling() and cad_value_called(). */
 static inline unsigned cad_value_users(const uint8_t *profile, const uint8_t *value)
 {
     switch (cad_value_pdu(value)) {
@@ -500,14 +603,15 @@ static inline unsigned cad_value_users(const uint8_t *profile, const uint8_t *va
     }
 }
 
-/** How many dispatcher addresses a value has under a profile. INTERCEPTED and DIVERTED have one, with the option. */
+/** How many dispatcher addresses a value has under a profile. INTERCEPTED, DIVERTED and REJECTED have one, with the option. */
 static inline unsigned cad_value_dispatchers(const uint8_t *profile, const uint8_t *value)
 {
     if (!cad_value_option(value))
         return 0;
     switch (cad_value_pdu(value)) {
     case CAD_INTERCEPTED:
-    case CAD_DIVERTED: return 1;
+    case CAD_DIVERTED:
+    case CAD_REJECTED: return 1;
     case CAD_ACTIVATE: return cad_meaning_addresses(cad_profile_meaning(profile, cad_value_dispatcher_range(value)));
     default: return 0;
     }
@@ -637,6 +741,56 @@ static inline void cad_value_set_dispatcher(uint8_t *value, unsigned k, struct c
     cad_value_set_option(value);
     if (k >= CAD_ADDRESSES || !cad_put_address(value + CAD_VALUE_DISPATCHERS + CAD_ADDRESS_BYTES * k, address))
         value[CAD_VALUE_PDU] = 0xFF;
+}
+
+/** Sets the calling address of a REQUEST, and says that it is there. */
+static inline void cad_value_set_calling(uint8_t *value, struct cad_address address)
+{
+    cad_value_set_option(value);
+    cad_value_set_user(value, 0, address);
+}
+
+/** Sets the called address of a REQUEST, and says that it is there. */
+static inline void cad_value_set_called(uint8_t *value, struct cad_address address)
+{
+    value[CAD_VALUE_HAS_CALLED] = 1;
+    cad_value_set_user(value, 1, address);
+}
+
+/** Sets the network (MNI) of a REQUEST, and says that it is there. */
+static inline void cad_value_set_mni(uint8_t *value, uint32_t mni)
+{
+    value[CAD_VALUE_HAS_MNI] = 1;
+    if (!cad_put_number(value + CAD_VALUE_MNI, 3, mni))
+        value[CAD_VALUE_PDU] = 0xFF;
+}
+
+/** Sets the area of the calling of a REQUEST, 0 to 15, and says that it is there. */
+static inline void cad_value_set_calling_area(uint8_t *value, unsigned area)
+{
+    value[CAD_VALUE_HAS_CALLING_AREA] = 1;
+    cad_put_byte(value + CAD_VALUE_CALLING_AREA, area);
+}
+
+/** Sets the area of the called of a REQUEST, 0 to 15, and says that it is there. */
+static inline void cad_value_set_called_area(uint8_t *value, unsigned area)
+{
+    value[CAD_VALUE_HAS_CALLED_AREA] = 1;
+    cad_put_byte(value + CAD_VALUE_CALLED_AREA, area);
+}
+
+/** Sets the basic service of the calling of a REQUEST, 0 to 3, and says that it is there. */
+static inline void cad_value_set_calling_service(uint8_t *value, unsigned service)
+{
+    value[CAD_VALUE_HAS_CALLING_SERVICE] = 1;
+    cad_put_byte(value + CAD_VALUE_CALLING_SERVICE, service);
+}
+
+/** Sets the basic service of the called of a REQUEST, 0 to 3, and says that it is there. */
+static inline void cad_value_set_called_service(uint8_t *value, unsigned service)
+{
+    value[CAD_VALUE_HAS_CALLED_SERVICE] = 1;
+    cad_put_byte(value + CAD_VALUE_CALLED_SERVICE, service);
 }
 
 /** @} */

@@ -97,7 +97,7 @@ static void writes(struct block profile, struct block value, size_t size, struct
 
 static void try_message(struct block profile, size_t bits, struct block message, struct block value)
 {
-    static const size_t value_sizes[] = {0, 1, 107, 121, 226, 227, 228, 229, 235, 300};
+    static const size_t value_sizes[] = {0, 1, 107, 121, 227, 228, 239, 240, 241, 242, 250, 300};
     struct block part;
     size_t n, i;
     for (i = 0; i < sizeof value_sizes / sizeof value_sizes[0]; i++)

@@ -32,13 +32,18 @@ static void home_profile(uint8_t *profile)
 
 static void constants(void)
 {
-    CHECK(CAD_PROFILE_BYTES == 39 && CAD_VALUE_BYTES == 228 && CAD_ADDRESS_BYTES == 7 && CAD_SHARE_BYTES == 2);
+    CHECK(CAD_PROFILE_BYTES == 39 && CAD_VALUE_BYTES == 241 && CAD_ADDRESS_BYTES == 7 && CAD_SHARE_BYTES == 2);
     CHECK(CAD_PROFILE_SS_TYPE == 0 && CAD_PROFILE_HOME == 1 && CAD_PROFILE_U == 4 && CAD_PROFILE_N == 5);
     CHECK(CAD_PROFILE_MEANINGS == 6 && CAD_PROFILE_COUNT == 22 && CAD_PROFILE_SHARES == 23);
     CHECK(CAD_VALUE_PDU == 0 && CAD_VALUE_USER_RANGE == 1 && CAD_VALUE_USERS == 2 && CAD_VALUE_MASKED == 107);
     CHECK(CAD_VALUE_MASK == 108 && CAD_VALUE_RESULT == 116 && CAD_VALUE_REASON == 117 && CAD_VALUE_CAUSE == 118);
     CHECK(CAD_VALUE_IDENTIFIER == 119 && CAD_VALUE_OPTION == 121 && CAD_VALUE_DISPATCHER_RANGE == 122);
     CHECK(CAD_VALUE_DISPATCHERS == 123 && CAD_ADDRESS_SSI == 1 && CAD_ADDRESS_EXTENSION == 4);
+    CHECK(CAD_VALUE_HAS_CALLED == 228 && CAD_VALUE_HAS_MNI == 229);
+    CHECK(CAD_VALUE_HAS_CALLING_AREA == 230 && CAD_VALUE_HAS_CALLED_AREA == 231);
+    CHECK(CAD_VALUE_HAS_CALLING_SERVICE == 232 && CAD_VALUE_HAS_CALLED_SERVICE == 233 && CAD_VALUE_MNI == 234);
+    CHECK(CAD_VALUE_CALLING_AREA == 237 && CAD_VALUE_CALLED_AREA == 238);
+    CHECK(CAD_VALUE_CALLING_SERVICE == 239 && CAD_VALUE_CALLED_SERVICE == 240);
     CHECK(CAD_RANGES == 16 && CAD_POSTS == 8 && CAD_ADDRESSES == 15 && CAD_IDENTITIES == 64);
     CHECK(CAD_READ_BITS == 2048 && CAD_MESSAGE_BITS == 1521 && CAD_MESSAGE_BYTES == (1521 + 7) / 8);
     /* the areas end where the layouts end */
@@ -46,10 +51,12 @@ static void constants(void)
     CHECK(CAD_PROFILE_SHARES + CAD_POSTS * CAD_SHARE_BYTES == CAD_PROFILE_BYTES);
     CHECK(CAD_VALUE_USERS + CAD_ADDRESSES * CAD_ADDRESS_BYTES == CAD_VALUE_MASKED);
     CHECK(CAD_VALUE_MASK + CAD_IDENTITIES / 8 == CAD_VALUE_RESULT);
-    CHECK(CAD_VALUE_DISPATCHERS + CAD_ADDRESSES * CAD_ADDRESS_BYTES == CAD_VALUE_BYTES);
+    CHECK(CAD_VALUE_DISPATCHERS + CAD_ADDRESSES * CAD_ADDRESS_BYTES == CAD_VALUE_HAS_CALLED);
+    CHECK(CAD_VALUE_MNI + 3 == CAD_VALUE_CALLING_AREA && CAD_VALUE_CALLED_SERVICE + 1 == CAD_VALUE_BYTES);
 
     CHECK(CAD_ACTIVATE == 2 && CAD_ACTIVATE_ACK == 3 && CAD_INTERROGATE == 8 && CAD_INTERCEPTED == 10);
     CHECK(CAD_ACCEPT == 12 && CAD_ACCEPTED == 13 && CAD_DIVERT == 15 && CAD_DIVERTED == 16);
+    CHECK(CAD_REQUEST == 11 && CAD_CANCEL == 14 && CAD_REJECT == 17 && CAD_REJECTED == 18);
     CHECK(CAD_MEANS_RESERVED == 0 && CAD_MEANS_NOBODY == 16 && CAD_MEANS_FIRST_LAST == 17);
     CHECK(CAD_KIND_HOME == 1 && CAD_KIND_OTHER == 2);
     CHECK(CAD_DONE == 0 && CAD_REFUSED_PROFILE == 1 && CAD_REFUSED_LENGTH == 3 && CAD_REFUSED_SHORT == 4);
@@ -64,7 +71,8 @@ static void words(void)
         unsigned pdu;
         const char *name;
     } names[] = {{2, "ACTIVATE"}, {3, "ACTIVATE ACK"}, {8, "INTERROGATE"}, {10, "INTERCEPTED"},
-                 {12, "ACCEPT"},  {13, "ACCEPTED"},    {15, "DIVERT"},     {16, "DIVERTED"}};
+                 {11, "REQUEST"}, {12, "ACCEPT"},      {13, "ACCEPTED"},   {14, "CANCEL"},
+                 {15, "DIVERT"},  {16, "DIVERTED"},    {17, "REJECT"},     {18, "REJECTED"}};
     static const unsigned given[] = {0, 1, 3, 4, 5, 6, 7, 9, 10, 11, 12, 13, 14, 22};
     unsigned number, named = 0, said = 0;
     size_t i;
@@ -160,9 +168,9 @@ static uint32_t three(const uint8_t *bytes)
 
 static void accessors(void)
 {
-    uint8_t value[228];
+    uint8_t value[241];
     unsigned i, k;
-    for (i = 0; i < 228; i++)
+    for (i = 0; i < 241; i++)
         value[i] = (uint8_t)(37 * i + 11);
     CHECK(cad_value_pdu(value) == value[0]);
     CHECK(cad_value_user_range(value) == value[1]);
@@ -178,6 +186,21 @@ static void accessors(void)
     CHECK(cad_value_cause(value) == value[118]);
     CHECK(cad_value_identifier(value) == 256u * value[119] + value[120]);
     CHECK(cad_value_dispatcher_range(value) == value[122]);
+    CHECK(is_address(cad_value_calling(value), value[2], three(value + 3), three(value + 6)));
+    CHECK(is_address(cad_value_called(value), value[9], three(value + 10), three(value + 13)));
+    CHECK(cad_value_mni(value) == three(value + 234));
+    CHECK(cad_value_calling_area(value) == value[237] && cad_value_called_area(value) == value[238]);
+    CHECK(cad_value_calling_service(value) == value[239] && cad_value_called_service(value) == value[240]);
+    /* one option at a time */
+    for (i = 0; i < 7; i++) {
+        value[121] = i == 0;
+        for (k = 1; k < 7; k++)
+            value[227 + k] = k == i;
+        CHECK(cad_value_has_calling(value) == (i == 0) && cad_value_has_called(value) == (i == 1));
+        CHECK(cad_value_has_mni(value) == (i == 2));
+        CHECK(cad_value_has_calling_area(value) == (i == 3) && cad_value_has_called_area(value) == (i == 4));
+        CHECK(cad_value_has_calling_service(value) == (i == 5) && cad_value_has_called_service(value) == (i == 6));
+    }
     value[107] = 0;
     value[121] = 1;
     CHECK(!cad_value_masked(value) && cad_value_option(value));
@@ -197,7 +220,7 @@ static void accessors(void)
 
 static void setters(void)
 {
-    uint8_t value[228], other[228];
+    uint8_t value[241], other[241];
     unsigned i, k;
     memset(value, 0xAA, sizeof value);
     memset(other, 0, sizeof other);
@@ -222,6 +245,13 @@ static void setters(void)
     SETS(cad_value_set_identifier(value, 0x3FFE), (other[119] = 0x3F, other[120] = 0xFE));
     SETS(cad_value_set_option(value), other[121] = 1);
     SETS(cad_value_set_dispatcher_range(value, 3), (other[121] = 1, other[122] = 3));
+    SETS(cad_value_set_calling(value, cad_address_home(0x000102)), (other[121] = 1, other[2] = 1, other[4] = 1, other[5] = 2));
+    SETS(cad_value_set_called(value, cad_address_home(0x000304)), (other[228] = 1, other[9] = 1, other[11] = 3, other[12] = 4));
+    SETS(cad_value_set_mni(value, 0xABCDEF), (other[229] = 1, other[234] = 0xAB, other[235] = 0xCD, other[236] = 0xEF));
+    SETS(cad_value_set_calling_area(value, 15), (other[230] = 1, other[237] = 15));
+    SETS(cad_value_set_called_area(value, 14), (other[231] = 1, other[238] = 14));
+    SETS(cad_value_set_calling_service(value, 3), (other[232] = 1, other[239] = 3));
+    SETS(cad_value_set_called_service(value, 2), (other[233] = 1, other[240] = 2));
     for (k = 0; k < 15; k++) {
         static const uint8_t home[7] = {1, 0xAB, 0xCD, 0xEF, 0, 0, 0}, far[7] = {2, 0x12, 0x34, 0x56, 0xFE, 0xDC, 0xBA};
         SETS(cad_value_set_user(value, k, cad_address_home(0xABCDEF)), memcpy(other + 2 + 7 * k, home, 7));
@@ -257,12 +287,19 @@ static void setters(void)
     SPOILS(cad_value_set_dispatcher(value, 0, cad_address_home(0x1000001)), 0);
     SPOILS(cad_value_set_dispatcher(value, 15, cad_address_home(1)), 0);
     SPOILS(cad_value_set_mask_bit(value, 64, 1), 0);
+    SPOILS(cad_value_set_calling(value, cad_address_home(0x1000001)), 0);
+    SPOILS(cad_value_set_called(value, cad_address_other(1, 0x1000001)), 0);
+    SPOILS(cad_value_set_mni(value, 0x1000005), 0);
+    SPOILS(cad_value_set_calling_area(value, 256 + 1), 237);
+    SPOILS(cad_value_set_called_area(value, 256 + 1), 238);
+    SPOILS(cad_value_set_calling_service(value, 256 + 1), 239);
+    SPOILS(cad_value_set_called_service(value, 256 + 1), 240);
 #undef SPOILS
 }
 
 static void identities(void)
 {
-    uint8_t profile[39], value[228];
+    uint8_t profile[39], value[241];
     unsigned i;
     home_profile(profile);
 
@@ -329,15 +366,25 @@ static void identities(void)
     cad_value_start(value, CAD_INTERCEPTED);
     cad_value_set_dispatcher(value, 0, cad_address_home(9));
     CHECK(cad_value_dispatchers(profile, value) == 1);
+    cad_value_start(value, CAD_REJECTED);
+    CHECK(cad_value_dispatchers(profile, value) == 0);
+    cad_value_set_dispatcher(value, 0, cad_address_home(9));
+    CHECK(cad_value_dispatchers(profile, value) == 1);
     cad_value_start(value, CAD_ACCEPT);
     CHECK(cad_value_users(profile, value) == 0 && cad_value_identities(profile, value) == 0);
+    /* REQUEST's addresses are two parties, not a group */
+    cad_value_start(value, CAD_REQUEST);
+    cad_value_set_calling(value, cad_address_home(1001));
+    CHECK(cad_value_users(profile, value) == 0 && cad_value_identities(profile, value) == 0 && cad_value_dispatchers(profile, value) == 0);
 }
 
 /* The two functions themselves, where the header's words meet them; the differential test is elsewhere. */
 static void functions(void)
 {
     static const uint8_t case_8[9] = {0x24, 0x5E, 0x80, 0x01, 0xF4, 0xA0, 0x00, 0x7D, 0x80};
-    uint8_t profile[39], value[228], read[228], message[CAD_MESSAGE_BYTES];
+    static const uint8_t request[19] = {0x25, 0x60, 0x02, 0x8B, 0x40, 0x00, 0xFA, 0x70, 0x00, 0x1F,
+                                        0x60, 0x00, 0x00, 0x2C, 0x00, 0x00, 0x16, 0x32, 0xB8};
+    uint8_t profile[39], value[241], read[241], message[CAD_MESSAGE_BYTES];
     size_t bits = 77;
     unsigned k;
     cad_profile_sample(profile);
@@ -349,6 +396,43 @@ static void functions(void)
     CHECK(bits == 68 && memcmp(message, case_8, sizeof case_8) == 0);
     CHECK(cad_read(profile, sizeof profile, case_8, sizeof case_8, 68, read, sizeof read) == CAD_DONE);
     CHECK(memcmp(read, value, sizeof value) == 0);
+
+    /* a REQUEST with all its options, and what each of them may not be: over 1, over its width, given and absent */
+    cad_value_start(value, CAD_REQUEST);
+    cad_value_set_identifier(value, 5);
+    cad_value_set_cause(value, 2);
+    cad_value_set_calling(value, cad_address_home(1001));
+    cad_value_set_called(value, cad_address_other(1004, 5));
+    cad_value_set_mni(value, 5);
+    cad_value_set_calling_area(value, 1);
+    cad_value_set_called_area(value, 2);
+    cad_value_set_calling_service(value, 1);
+    cad_value_set_called_service(value, 2);
+    CHECK(cad_write(profile, sizeof profile, value, sizeof value, message, sizeof message, &bits) == CAD_DONE);
+    CHECK(bits == 150 && memcmp(message, request, sizeof request) == 0);
+    CHECK(cad_read(profile, sizeof profile, request, sizeof request, 150, read, sizeof read) == CAD_DONE);
+    CHECK(memcmp(read, value, sizeof value) == 0);
+    CHECK(cad_write(profile, sizeof profile, value, sizeof value - 1, message, sizeof message, &bits) == CAD_REFUSED_VALUE);
+    CHECK(cad_read(profile, sizeof profile, request, sizeof request, 150, read, sizeof read - 1) == CAD_REFUSED_ROOM);
+    for (k = 0; k < 7; k++) {
+        static const unsigned flags[7] = {121, 228, 229, 230, 231, 232, 233};
+        read[flags[k]] = 2;
+        CHECK(cad_write(profile, sizeof profile, read, sizeof read, message, sizeof message, &bits) == CAD_REFUSED_VALUE);
+        read[flags[k]] = 0;
+        CHECK(cad_write(profile, sizeof profile, read, sizeof read, message, sizeof message, &bits) == CAD_REFUSED_VALUE);
+        read[flags[k]] = 1;
+    }
+    for (k = 237; k < 241; k++) {
+        uint8_t was = read[k];
+        read[k] = k < 239 ? 16 : 4;
+        CHECK(cad_write(profile, sizeof profile, read, sizeof read, message, sizeof message, &bits) == CAD_REFUSED_VALUE);
+        read[k] = was;
+    }
+    CHECK(cad_write(profile, sizeof profile, read, sizeof read, message, sizeof message, &bits) == CAD_DONE);
+    cad_value_start(value, CAD_ACTIVATE);
+    cad_value_set_user_range(value, 15);
+    cad_value_set_user(value, 0, cad_address_home(1001));
+    cad_value_set_user(value, 1, cad_address_home(1004));
 
     /* no bytes at all: NULL with the length 0 */
     bits = 77;
