@@ -25,7 +25,7 @@ use Rattle.records.specs.declared.Party.{Party}
 use Rattle.records.specs.declared.Record.{Record}
 use Rattle.desk.specs.Desks.{deskOk}
 use Rattle.desk.specs.Grounds.{waits, waitsHere}
-use Rattle.desk.specs.Orders.{unless, postsOf, placesOf, namesDispatchers, activateAnswer, interrogateAnswer, endAnswer, moveAnswer, acceptAnswer, decideAnswer, sentAnswer, readAnswer, messageAnswer, identifierOk, setUpOk, admitAnswer, partyAnswer, setUpAnswer, rejectAnswer, cancelAnswer, eventAnswer, answerOf}
+use Rattle.desk.specs.Orders.{unless, postsOf, placesOf, namesDispatchers, activateAnswer, interrogateAnswer, endAnswer, moveAnswer, acceptAnswer, decideAnswer, sentAnswer, readAnswer, messageAnswer, identifierOk, setUpOk, admitAnswer, partyAnswer, setUpAnswer, rejectAnswer, postAt, cancelAnswer, eventAnswer, answerOf}
 use Rattle.desk.specs.Steps.{Spoken, plainStep, acksStep, stepBy, stepOf}
 use Rattle.desk.specs.declared.Answer.{Answer}
 use Rattle.desk.specs.declared.Answer.the-variants as answer
@@ -43,7 +43,7 @@ by-answer d rows post users spoken (answer.Admitted p i) = refl
 by-answer d rows post users spoken answer.Proceed = refl
 by-answer d rows post users spoken answer.Diverted = refl
 by-answer d rows post users spoken answer.Rejected = refl
-by-answer d rows post users spoken answer.Cancelled = refl
+by-answer d rows post users spoken (answer.Cancelled p) = refl
 by-answer d rows post users spoken (answer.Moved p) = refl
 
 -- the answer of the step is the one that the order gives
@@ -59,18 +59,19 @@ module _ (d : Desk) (rows : List Record) (n room post : ℕ) (v : Value) (P : An
       → P (interrogateAnswer d rows n post v)
       → P (decideAnswer d room post (identifierIn v) (acceptAnswer d (placeOf (placesOf d) (identifierIn v) .place)))
       → P (decideAnswer d room post (identifierIn v) answer.Diverted)
+      → (v .pdu ≡ 17 → P (decideAnswer d room post (identifierIn v) answer.Rejected))
       → P (answer.Refused (refusal 8))
       → P (sentAnswer d rows n room post v)
   unfolding sentAnswer
-  by-type activate interrogate accept divert other = first (eqb (v .pdu) 2) refl (next (eqb (v .pdu) 8) interrogate (next (eqb (v .pdu) 12) accept (next (eqb (v .pdu) 15) divert other)))
+  by-type activate interrogate accept divert reject other =
+      arm 2 activate (arm 8 (λ _. interrogate) (arm 12 (λ _. accept) (arm 15 (λ _. divert) (arm 17 reject other))))
     where
-      next : (b : Bool) {x y : Answer} → P x → P y → P (cond b x y)
-      next true p q = p
-      next false p q = q
-
-      first : (b : Bool) {y : Answer} → eqb (v .pdu) 2 ≡ b → P y → P (cond b (activateAnswer d rows n room v) y)
-      first true e q = activate (eqb-true _ _ e)
-      first false e q = q
+      arm : (t : ℕ) {x y : Answer} → (v .pdu ≡ t → P x) → P y → P (cond (eqb (v .pdu) t) x y)
+      arm t {x} {y} p q = go (eqb (v .pdu) t) refl
+        where
+          go : (b : Bool) → eqb (v .pdu) t ≡ b → P (cond b x y)
+          go true e = p (eqb-true _ _ e)
+          go false e = q
 
 -- ---- a test that passes every refusal in the table passes a call's answer if it passes what the call can be answered otherwise
 
@@ -104,14 +105,19 @@ module _ (ok : Answer → Bool) (refused : (s : Stop) → pastOne (s .number) �
     unfolding endAnswer pastOne both
     end-ok post identifier a e = unless-ok (not (waits d identifier)) 19 _ refl (unless-ok (not (waitsHere d post identifier)) 20 a refl e)
 
-    reject-ok : (post identifier : ℕ) → ok answer.Rejected ≡ true → ok (rejectAnswer d post identifier) ≡ true
-    unfolding rejectAnswer pastOne both
-    reject-ok post identifier e =
-        unless-ok (not (ltb post (postsOf d))) 2 _ refl (unless-ok (not (identifierOk identifier)) 16 _ refl (end-ok post identifier answer.Rejected e))
+    decide-ok : (room post identifier : ℕ) (a : Answer) → ok a ≡ true → ok (decideAnswer d room post identifier a) ≡ true
+    unfolding decideAnswer pastOne both
+    decide-ok room post identifier a e = unless-ok (ltb room 300) 14 _ refl (end-ok post identifier a e)
 
-    cancel-ok : (identifier : ℕ) → ok answer.Cancelled ≡ true → ok (cancelAnswer d identifier) ≡ true
+    reject-ok : (room post identifier : ℕ) → ok answer.Rejected ≡ true → ok (rejectAnswer d room post identifier) ≡ true
+    unfolding rejectAnswer pastOne both
+    reject-ok room post identifier e =
+        unless-ok (not (ltb post (postsOf d))) 2 _ refl (unless-ok (not (identifierOk identifier)) 16 _ refl (decide-ok room post identifier answer.Rejected e))
+
+    cancel-ok : (room identifier : ℕ) → ((post : ℕ) → ok (answer.Cancelled post) ≡ true) → ok (cancelAnswer d room identifier) ≡ true
     unfolding cancelAnswer pastOne both
-    cancel-ok identifier e = unless-ok (not (identifierOk identifier)) 16 _ refl (unless-ok (not (waits d identifier)) 19 answer.Cancelled refl e)
+    cancel-ok room identifier e =
+        unless-ok (not (identifierOk identifier)) 16 _ refl (unless-ok (ltb room 300) 14 _ refl (unless-ok (not (waits d identifier)) 19 _ refl (e (postAt d identifier))))
 
     party-ok : (p : Party) → ok answer.Free ≡ true → ((post place : ℕ) → ok (answer.Admitted post place) ≡ true) → ok (partyAnswer d p) ≡ true
     unfolding admitAnswer pastOne both
@@ -121,11 +127,11 @@ module _ (ok : Answer → Bool) (refused : (s : Stop) → pastOne (s .number) �
         go true = unless-ok (not (admitsOf (d .profile .shares) (placesOf d) (p .post))) 18 _ refl (admitted _ _)
         go false = free
 
-    pub setup-ok : (rows : List Record) (n room : ℕ) (caller called : Identity) (identifier : ℕ) → ok answer.Free ≡ true
-        → ((post place : ℕ) → ok (answer.Admitted post place) ≡ true) → ok (setUpAnswer d rows n room caller called identifier) ≡ true
+    pub setup-ok : (rows : List Record) (n room : ℕ) (caller called : Identity) (identifier cause : ℕ) → ok answer.Free ≡ true
+        → ((post place : ℕ) → ok (answer.Admitted post place) ≡ true) → ok (setUpAnswer d rows n room caller called identifier cause) ≡ true
     unfolding setUpAnswer pastOne both
-    setup-ok rows n room caller called identifier free admitted =
-        unless-ok (not (setUpOk caller called identifier)) 16 _ refl
+    setup-ok rows n room caller called identifier cause free admitted =
+        unless-ok (not (setUpOk caller called identifier cause)) 16 _ refl
         (unless-ok (ltb room 300) 14 _ refl
         (unless-ok (not (recordsOk rows n (postsOf d))) 15 _ refl
         (unless-ok (waits d identifier) 17 _ refl (party-ok (restrictedOf (take n rows) (caller ∷ called ∷ [])) free admitted))))
@@ -139,17 +145,18 @@ module _ (ok : Answer → Bool) (refused : (s : Stop) → pastOne (s .number) �
         go false = proceed
 
     module _ (rows : List Record) (n : ℕ) (acks : ok answer.Acks ≡ true) (state : (k : ℕ) → ok (answer.State k) ≡ true) (proceed : ok answer.Proceed ≡ true)
-        (diverted : ok answer.Diverted ≡ true) (moved : (post : ℕ) → ok (answer.Moved post) ≡ true) (passes : profileOk (d .profile) ≡ true) where
+        (diverted : ok answer.Diverted ≡ true) (rejected : ok answer.Rejected ≡ true) (moved : (post : ℕ) → ok (answer.Moved post) ≡ true) (passes : profileOk (d .profile) ≡ true) where
       sent-ok : (room post : ℕ) (v : Value) → ok (sentAnswer d rows n room post v) ≡ true
-      unfolding activateAnswer interrogateAnswer decideAnswer pastOne both refusal
+      unfolding activateAnswer interrogateAnswer pastOne both refusal
       sent-ok room post v =
           by-type d rows n room post v (λ a. ok a ≡ true)
           (λ _.
           unless-ok (ltb room 300) 14 _ refl
           (unless-ok (not (recordsOk rows n (postsOf d))) 15 _ refl (unless-ok (namesDispatchers (d .profile .air) v) 21 answer.Acks refl acks)))
           (unless-ok (not (recordsOk rows n (postsOf d))) 15 _ refl (state _))
-          (unless-ok (ltb room 300) 14 _ refl (end-ok post (identifierIn v) _ (accept-ok _ proceed moved)))
-          (unless-ok (ltb room 300) 14 _ refl (end-ok post (identifierIn v) answer.Diverted diverted))
+          (decide-ok room post (identifierIn v) _ (accept-ok _ proceed moved))
+          (decide-ok room post (identifierIn v) answer.Diverted diverted)
+          (λ _. decide-ok room post (identifierIn v) answer.Rejected rejected)
           (refused (refusal 8) refl)
 
       message-ok : (l : List ℕ) (room post bits : ℕ) → ok (messageAnswer d rows n l room post bits) ≡ true
@@ -162,18 +169,18 @@ module _ (ok : Answer → Bool) (refused : (s : Stop) → pastOne (s .number) �
 
 -- what an event can be answered but a refusal passes the test
 abbrev pub Can : (Answer → Bool) → Event → Type 0
-Can ok (event.Message post bits) = (ok answer.Acks ≡ true) × (((k : ℕ) → ok (answer.State k) ≡ true) × ((ok answer.Proceed ≡ true) × ((ok answer.Diverted ≡ true) × ((post : ℕ) → ok (answer.Moved post) ≡ true))))
-Can ok (event.SetUp caller called identifier) = (ok answer.Free ≡ true) × ((post place : ℕ) → ok (answer.Admitted post place) ≡ true)
+Can ok (event.Message post bits) = (ok answer.Acks ≡ true) × (((k : ℕ) → ok (answer.State k) ≡ true) × ((ok answer.Proceed ≡ true) × ((ok answer.Diverted ≡ true) × ((ok answer.Rejected ≡ true) × ((post : ℕ) → ok (answer.Moved post) ≡ true)))))
+Can ok (event.SetUp caller called identifier cause) = (ok answer.Free ≡ true) × ((post place : ℕ) → ok (answer.Admitted post place) ≡ true)
 Can ok (event.Reject post identifier) = ok answer.Rejected ≡ true
-Can ok (event.Cancel identifier) = ok answer.Cancelled ≡ true
+Can ok (event.Cancel identifier) = (post : ℕ) → ok (answer.Cancelled post) ≡ true
 
 -- every call, once 1 does not come, and every call
 module _ (ok : Answer → Bool) (refused : (s : Stop) → pastOne (s .number) ≡ true → ok (answer.Refused s) ≡ true) (d : Desk) (rows : List Record) (n : ℕ) (l : List ℕ) (room : ℕ) where
   pub event-ok : (e : Event) → profileOk (d .profile) ≡ true → Can ok e → ok (eventAnswer d rows n l room e) ≡ true
-  event-ok (event.Message post bits) p h = message-ok ok refused d rows n (h .0) (h .1 .0) (h .1 .1 .0) (h .1 .1 .1 .0) (h .1 .1 .1 .1) p l room post bits
-  event-ok (event.SetUp caller called identifier) p h = setup-ok ok refused d rows n room caller called identifier (h .0) (h .1)
-  event-ok (event.Reject post identifier) p h = reject-ok ok refused d post identifier h
-  event-ok (event.Cancel identifier) p h = cancel-ok ok refused d identifier h
+  event-ok (event.Message post bits) p h = message-ok ok refused d rows n (h .0) (h .1 .0) (h .1 .1 .0) (h .1 .1 .1 .0) (h .1 .1 .1 .1 .0) (h .1 .1 .1 .1 .1) p l room post bits
+  event-ok (event.SetUp caller called identifier cause) p h = setup-ok ok refused d rows n room caller called identifier cause (h .0) (h .1)
+  event-ok (event.Reject post identifier) p h = reject-ok ok refused d room post identifier h
+  event-ok (event.Cancel identifier) p h = cancel-ok ok refused d room identifier h
 
   pub answer-ok : ok (answer.Refused (refusal 1)) ≡ true → (e : Event) → Can ok e → ok (answerOf d rows n l room e) ≡ true
   unfolding answerOf deskOk

@@ -1,4 +1,5 @@
--- Worked cases 9, 11 and 12 of document 01 through the definition of a step, as one checked list. Assumes nothing.
+-- Worked cases 9, 11 and 12 of document 01, and those of document 02's (iii) and (iv), through the definition of a step, as one checked list.
+-- Assumes nothing.
 use Prim.Native.Nat.{ℕ, zero, suc, _-_}
 use mathlib.Core.Path.{_≡_, refl}
 use mathlib.Core.Bool.{Bool, true, false}
@@ -35,7 +36,7 @@ use Rattle.records.specs.declared.Record.{Record}
 use Rattle.sending.specs.Sending.{layFrom, layAll, noLaid, laidFrom, laidOf}
 use Rattle.sending.specs.Acks.{resultOf, reasonOf, severalIn, ackV, ackOf, acksOf}
 use Rattle.desk.specs.Desks.{deskOk}
-use Rattle.desk.specs.Orders.{namesDispatchers, activateAnswer, endAnswer, moveAnswer, acceptAnswer, decideAnswer, sentAnswer, messageAnswer, partyOk, setUpOk, admitAnswer, setUpAnswer, answerOf}
+use Rattle.desk.specs.Orders.{namesDispatchers, activateAnswer, endAnswer, moveAnswer, acceptAnswer, decideAnswer, sentAnswer, messageAnswer, partyOk, setUpOk, admitAnswer, setUpAnswer, rejectAnswer, cancelAnswer, answerOf}
 use Rattle.desk.specs.Steps.{deskAfter, plainStep, plainArea, acksFor, acksStep, acksArea, stepBy, areaBy, stepOf, areaAfter}
 use Rattle.desk.specs.declared.Answer.{Answer}
 use Rattle.desk.specs.declared.Answer.the-variants as answer
@@ -56,7 +57,7 @@ rows l = l ++ replicate (128 - length l) noRecord
 -- as many calls, waiting at a post, with identifiers from k on
 abbrev pub calls : ℕ → ℕ → ℕ → List Place
 calls zero post k = []
-calls (suc n) post k = record { used = true; identifier = k; post = post; more = false; second = 0 } ∷ calls n post (suc k)
+calls (suc n) post k = record { used = true; identifier = k; post = post; more = false; second = 0; cause = 0 } ∷ calls n post (suc k)
 
 abbrev pub desk : List Place → Desk
 desk l = record { profile = sample; places = record { place = l ++ replicate (32 - length l) noPlace } }
@@ -70,15 +71,38 @@ abbrev pub restricted : List Record
 restricted = user 1001 0 true ∷ user 1004 1 true ∷ []
 
 abbrev pub setUp : ℕ → ℕ → Event
-setUp caller called = event.SetUp (record { ssi = caller; extension = 0 }) (record { ssi = called; extension = 0 }) 100
+setUp caller called = event.SetUp (record { ssi = caller; extension = 0 }) (record { ssi = called; extension = 0 }) 100 0
 
--- a call that waits at a post and has a second
-abbrev pub call-then : ℕ → ℕ → ℕ → Place
-call-then identifier post second = record { used = true; identifier = identifier; post = post; more = true; second = second }
+-- 1,001 calls 1,004, identifier 5, with a cause
+abbrev pub setUp-5 : ℕ → Event
+setUp-5 cause = event.SetUp (record { ssi = 1001; extension = 0 }) (record { ssi = 1004; extension = 0 }) 5 cause
 
--- ACCEPT, identifier 5
+-- call 5, which waits at a post and has a second, with a cause; the same without a second
+abbrev pub then-5 : ℕ → ℕ → ℕ → Place
+then-5 post second cause = record { used = true; identifier = 5; post = post; more = true; second = second; cause = cause }
+
+abbrev pub at-5 : ℕ → ℕ → Place
+at-5 post cause = record { used = true; identifier = 5; post = post; more = false; second = 0; cause = cause }
+
+-- ACCEPT of call 5; REJECT of it, cause 2
 abbrev pub accept-5 : List ℕ
 accept-5 = 0x25 ∷ 0x80 ∷ 0x02 ∷ 0x80 ∷ []
+
+abbrev pub reject-5 : List ℕ
+reject-5 = 0x26 ∷ 0x20 ∷ 0x02 ∷ 0x88 ∷ []
+
+-- INTERCEPTED, cause 0; REQUEST of call 100, cause 0, of call 5, causes 0 and 2
+abbrev pub intercepted : List ℕ
+intercepted = 0x25 ∷ 0x40 ∷ 0x00 ∷ []
+
+abbrev pub request-100 : List ℕ
+request-100 = 0x25 ∷ 0x60 ∷ 0x32 ∷ 0x00 ∷ []
+
+abbrev pub request-5 : List ℕ
+request-5 = 0x25 ∷ 0x60 ∷ 0x02 ∷ 0x80 ∷ []
+
+abbrev pub request-5-2 : List ℕ
+request-5-2 = 0x25 ∷ 0x60 ∷ 0x02 ∷ 0x88 ∷ []
 
 -- the marks of the first records, and none beyond
 abbrev pub marked : List Bool → List Bool
@@ -118,20 +142,31 @@ cases =
     ++ (0x24 ∷ 0x7E ∷ 0x80 ∷ 0x01 ∷ 0xF4 ∷ 0xA0 ∷ 0x00 ∷ 0x7D ∷ 0x91 ∷ 0x02 ∷ []) ++ untouched 90)
     -- 11: post 0 holds 28, post 1 none: a call for post 0 gets 18, one for post 1 is admitted
     ∷ on (desk (calls 28 0 0)) restricted [] (setUp 1001 2000) (answer.Refused (refusal 18)) [] (desk (calls 28 0 0)) (marked []) (untouched 300)
-    ∷ on (desk (calls 28 0 0)) restricted [] (setUp 1004 2000) (answer.Admitted 1 28) (17 ∷ []) (desk (calls 28 0 0 ++ calls 1 1 100)) (marked []) ((0x25 ∷ 0x40 ∷ 0x00 ∷ []) ++ untouched 297)
+    ∷ on (desk (calls 28 0 0)) restricted [] (setUp 1004 2000) (answer.Admitted 1 28) (17 ∷ 31 ∷ []) (desk (calls 28 0 0 ++ calls 1 1 100)) (marked []) (intercepted ++ untouched 97 ++ request-100 ++ untouched 196)
     -- 12: post 1 holds 8, post 0 none: 18 for post 1, by its ceiling
     ∷ on (desk (calls 8 1 0)) restricted [] (setUp 1004 2000) (answer.Refused (refusal 18)) [] (desk (calls 8 1 0)) (marked []) (untouched 300)
-    -- document 02, (iii): both are restricted, at different posts; post 0's ACCEPT moves the call, its second gets 20, post 1's lets it proceed
-    ∷ on (desk []) restricted [] (setUp 1001 1004) (answer.Admitted 0 0) (17 ∷ []) (desk (call-then 100 0 1 ∷ [])) (marked []) ((0x25 ∷ 0x40 ∷ 0x00 ∷ []) ++ untouched 297)
-    ∷ on (desk (call-then 5 0 1 ∷ [])) [] accept-5 (event.Message 0 25) (answer.Moved 1) [] (desk (calls 1 1 5)) (marked []) (untouched 300)
-    ∷ on (desk (calls 1 1 5)) [] accept-5 (event.Message 0 25) (answer.Refused (refusal 20)) [] (desk (calls 1 1 5)) (marked []) (untouched 300)
-    ∷ on (desk (calls 1 1 5)) [] accept-5 (event.Message 1 25) answer.Proceed (11 ∷ []) (desk []) (marked []) ((0x25 ∷ 0xA0 ∷ []) ++ untouched 298)
+    -- document 02, (iii) and (iv): both are restricted, at different posts; post 0's ACCEPT moves the call, with REQUEST, its second gets 20,
+    -- post 1's lets it proceed
+    ∷ on (desk []) restricted [] (setUp-5 2) (answer.Admitted 0 0) (17 ∷ 31 ∷ []) (desk (then-5 0 1 2 ∷ [])) (marked []) (intercepted ++ untouched 97 ++ request-5-2 ++ untouched 196)
+    ∷ on (desk (then-5 0 1 2 ∷ [])) [] accept-5 (event.Message 0 25) (answer.Moved 1) (31 ∷ []) (desk (at-5 1 2 ∷ [])) (marked []) (request-5-2 ++ untouched 296)
+    ∷ on (desk (at-5 1 2 ∷ [])) [] accept-5 (event.Message 0 25) (answer.Refused (refusal 20)) [] (desk (at-5 1 2 ∷ [])) (marked []) (untouched 300)
+    ∷ on (desk (at-5 1 2 ∷ [])) [] accept-5 (event.Message 1 25) answer.Proceed (11 ∷ []) (desk []) (marked []) ((0x25 ∷ 0xA0 ∷ []) ++ untouched 298)
     -- a second post that is the call's own, as only a lent desk has it: its ACCEPT moves
-    ∷ on (desk (call-then 5 1 1 ∷ [])) [] accept-5 (event.Message 1 25) (answer.Moved 1) [] (desk (calls 1 1 5)) (marked []) (untouched 300)
-    -- 18 at a move, by the second post's ceiling: the call stays
-    ∷ on (desk (call-then 5 0 1 ∷ calls 8 1 100)) [] accept-5 (event.Message 0 25) (answer.Refused (refusal 18)) [] (desk (call-then 5 0 1 ∷ calls 8 1 100)) (marked []) (untouched 300)
+    ∷ on (desk (then-5 1 1 0 ∷ [])) [] accept-5 (event.Message 1 25) (answer.Moved 1) (31 ∷ []) (desk (at-5 1 0 ∷ [])) (marked []) (request-5 ++ untouched 296)
+    -- 18 at a move, by the second post's ceiling: the call stays, and nothing is written
+    ∷ on (desk (then-5 0 1 2 ∷ calls 8 1 100)) [] accept-5 (event.Message 0 25) (answer.Refused (refusal 18)) [] (desk (then-5 0 1 2 ∷ calls 8 1 100)) (marked []) (untouched 300)
+    -- REJECT with cause 2, and a reject, of a call whose own cause is 7; a cancel names the post
+    ∷ on (desk (at-5 1 7 ∷ [])) [] reject-5 (event.Message 1 30) answer.Rejected (17 ∷ []) (desk []) (marked []) ((0x26 ∷ 0x42 ∷ 0x00 ∷ []) ++ untouched 297)
+    ∷ on (desk (at-5 1 7 ∷ [])) [] [] (event.Reject 1 5) answer.Rejected (17 ∷ []) (desk []) (marked []) ((0x26 ∷ 0x40 ∷ 0x00 ∷ []) ++ untouched 297)
+    ∷ on (desk (at-5 1 7 ∷ [])) [] [] (event.Cancel 5) (answer.Cancelled 1) (25 ∷ []) (desk []) (marked []) ((0x25 ∷ 0xC0 ∷ 0x02 ∷ 0x80 ∷ []) ++ untouched 296)
+    -- 8: REQUEST, CANCEL and REJECTED from a post; 16: a cause of 6 bits; 1: a waiting call that has one
+    ∷ on (desk []) [] request-5 (event.Message 0 31) (answer.Refused (refusal 8)) [] (desk []) (marked []) (untouched 300)
+    ∷ on (desk []) [] (0x25 ∷ 0xC0 ∷ 0x02 ∷ 0x80 ∷ []) (event.Message 0 25) (answer.Refused (refusal 8)) [] (desk []) (marked []) (untouched 300)
+    ∷ on (desk []) [] (0x26 ∷ 0x40 ∷ 0x00 ∷ []) (event.Message 0 17) (answer.Refused (refusal 8)) [] (desk []) (marked []) (untouched 300)
+    ∷ on (desk []) restricted [] (setUp-5 32) (answer.Refused (refusal 16)) [] (desk []) (marked []) (untouched 300)
+    ∷ on (desk (at-5 1 32 ∷ [])) [] [] (event.Cancel 5) (answer.Refused (refusal 1)) [] (desk (at-5 1 32 ∷ [])) (marked []) (untouched 300)
     ∷ []
 
 pub cases-right : list.map gives cases ≡ list.map wants cases
-unfolding bitAt fieldAt withDigit binary setBit putBits spare both number vecRead flag every sum meaningOk meaningIn airOk shareOk shareIn sharesOk profileOk sample sampleMeanings sampleShare kindC extensionC addressC addressesIn allowedIn nobodies placesC rangeOk endsOk addressesC rangeC groupC noGroup oneGroup spanIn spanOf maskC maskedC resultC elements elementOf widths widthOf blank ackV table rowIn row.rowOf partsC puts gets eachC optionsC putOptions getOptions firstParts bodyC isKnown isCarried headerC messageC wholeOf lengthOk readBits readOf bitsOf padded layOf placeIn noPlaces waitsAt heldOf usedOf freeOf owedOf owedAll owedOthers loadOf admitsOf secondOk callOk apart aloneAt underCeiling placesOk lowestFrom hasCall placeOf lowestFree takeOf clearOf moveOf identityOf later identityIn identityAt countOf each identitiesOf rowOf is recordFrom recordOf recordOk allOk recordsOk stateOf restricts partyOf restrictedOf isRestricted postFor secondOf outcomeOf outcomesOf has maskOf someOf sortedOf acceptedOf unmarked noMarks withMark markAll marksOf layFrom layAll noLaid laidFrom laidOf resultOf reasonOf severalIn ackOf acksOf deskOk namesDispatchers activateAnswer endAnswer moveAnswer acceptAnswer decideAnswer sentAnswer messageAnswer partyOk setUpOk admitAnswer setUpAnswer answerOf deskAfter plainStep plainArea acksFor acksStep acksArea stepBy areaBy stepOf areaAfter
+unfolding bitAt fieldAt withDigit binary setBit putBits spare both number vecRead flag every sum meaningOk meaningIn airOk shareOk shareIn sharesOk profileOk sample sampleMeanings sampleShare kindC extensionC addressC addressesIn allowedIn nobodies placesC rangeOk endsOk addressesC rangeC groupC noGroup oneGroup spanIn spanOf maskC maskedC resultC elements elementOf widths widthOf blank ackV table rowIn row.rowOf partsC puts gets eachC optionsC putOptions getOptions firstParts bodyC isKnown isCarried headerC messageC wholeOf lengthOk readBits readOf bitsOf padded layOf placeIn noPlaces waitsAt heldOf usedOf freeOf owedOf owedAll owedOthers loadOf admitsOf secondOk callOk apart aloneAt underCeiling placesOk lowestFrom hasCall placeOf lowestFree takeOf clearOf moveOf identityOf later identityIn identityAt countOf each identitiesOf rowOf is recordFrom recordOf recordOk allOk recordsOk stateOf restricts partyOf restrictedOf isRestricted postFor secondOf outcomeOf outcomesOf has maskOf someOf sortedOf acceptedOf unmarked noMarks withMark markAll marksOf layFrom layAll noLaid laidFrom laidOf resultOf reasonOf severalIn ackOf acksOf deskOk namesDispatchers activateAnswer endAnswer moveAnswer acceptAnswer decideAnswer sentAnswer messageAnswer partyOk setUpOk admitAnswer setUpAnswer rejectAnswer cancelAnswer answerOf deskAfter plainStep plainArea acksFor acksStep acksArea stepBy areaBy stepOf areaAfter
 cases-right = refl

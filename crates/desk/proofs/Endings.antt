@@ -34,7 +34,7 @@ isEnding (answer.Admitted post place) = false
 isEnding answer.Proceed = true
 isEnding answer.Diverted = true
 isEnding answer.Rejected = true
-isEnding answer.Cancelled = true
+isEnding (answer.Cancelled post) = true
 isEnding (answer.Moved post) = false
 
 unless-not : (b : Bool) (c : ℕ) (a : Answer) → isEnding a ≡ false → isEnding (unless b c a) ≡ false
@@ -47,25 +47,30 @@ module _ (d : Desk) where
   unfolding endAnswer
   end-not post identifier a e = rw e refl
 
-  reject-not : (post identifier : ℕ) → waits d identifier ≡ false → isEnding (rejectAnswer d post identifier) ≡ false
-  unfolding rejectAnswer
-  reject-not post identifier e =
-      unless-not (not (ltb post (postsOf d))) 2 _ (unless-not (not (identifierOk identifier)) 16 _ (end-not post identifier answer.Rejected e))
+  decide-not : (room post identifier : ℕ) (a : Answer) → waits d identifier ≡ false → isEnding (decideAnswer d room post identifier a) ≡ false
+  unfolding decideAnswer
+  decide-not room post identifier a e = unless-not (ltb room 300) 14 _ (end-not post identifier a e)
 
-  cancel-not : (identifier : ℕ) → waits d identifier ≡ false → isEnding (cancelAnswer d identifier) ≡ false
+  reject-not : (room post identifier : ℕ) → waits d identifier ≡ false → isEnding (rejectAnswer d room post identifier) ≡ false
+  unfolding rejectAnswer
+  reject-not room post identifier e =
+      unless-not (not (ltb post (postsOf d))) 2 _ (unless-not (not (identifierOk identifier)) 16 _ (decide-not room post identifier answer.Rejected e))
+
+  cancel-not : (room identifier : ℕ) → waits d identifier ≡ false → isEnding (cancelAnswer d room identifier) ≡ false
   unfolding cancelAnswer
-  cancel-not identifier e = rw e (unless-not (not (identifierOk identifier)) 16 _ refl)
+  cancel-not room identifier e = rw e (unless-not (not (identifierOk identifier)) 16 _ (unless-not (ltb room 300) 14 _ refl))
 
   module _ (rows : List Record) (n room post : ℕ) where
     sent-not : (v : Value) → waits d (identifierIn v) ≡ false → isEnding (sentAnswer d rows n room post v) ≡ false
-    unfolding activateAnswer interrogateAnswer decideAnswer
+    unfolding activateAnswer interrogateAnswer
     sent-not v w =
         by-type d rows n room post v (λ a. isEnding a ≡ false)
         (λ _.
         unless-not (ltb room 300) 14 _ (unless-not (not (recordsOk rows n (postsOf d))) 15 _ (unless-not (namesDispatchers (d .profile .air) v) 21 answer.Acks refl)))
         (unless-not (not (recordsOk rows n (postsOf d))) 15 _ refl)
-        (unless-not (ltb room 300) 14 _ (end-not post (identifierIn v) _ w))
-        (unless-not (ltb room 300) 14 _ (end-not post (identifierIn v) answer.Diverted w))
+        (decide-not room post (identifierIn v) _ w)
+        (decide-not room post (identifierIn v) answer.Diverted w)
+        (λ _. decide-not room post (identifierIn v) answer.Rejected w)
         refl
 
     message-not : (r : Read Value) → waits d (identifierIn (valueBy r)) ≡ false → isEnding (readAnswer r (λ v. sentAnswer d rows n room post v)) ≡ false
@@ -76,10 +81,10 @@ module _ (d : Desk) (rows : List Record) (n : ℕ) (l : List ℕ) (room : ℕ) w
   event-not : (e : Event) → waits d (identifierOf (d .profile) l e) ≡ false → isEnding (eventAnswer d rows n l room e) ≡ false
   unfolding messageAnswer
   event-not (event.Message post bits) w = unless-not (not (ltb post (postsOf d))) 2 _ (message-not d rows n room post (readOf (d .profile) l bits) w)
-  event-not (event.SetUp caller called identifier) w =
-      not-true _ (setup-ok (λ a. not (isEnding a)) (λ s p. refl) d rows n room caller called identifier refl (λ post place. refl))
-  event-not (event.Reject post identifier) w = reject-not d post identifier w
-  event-not (event.Cancel identifier) w = cancel-not d identifier w
+  event-not (event.SetUp caller called identifier cause) w =
+      not-true _ (setup-ok (λ a. not (isEnding a)) (λ s p. refl) d rows n room caller called identifier cause refl (λ post place. refl))
+  event-not (event.Reject post identifier) w = reject-not d room post identifier w
+  event-not (event.Cancel identifier) w = cancel-not d room identifier w
 
   answer-not : (e : Event) → waits d (identifierOf (d .profile) l e) ≡ false → isEnding (answerOf d rows n l room e) ≡ false
   unfolding answerOf

@@ -32,7 +32,7 @@ use Rattle.validity.specs.Validity.{validOf}
 use Rattle.desk.specs.Desks.{deskOk}
 use Rattle.desk.specs.Grounds.{notSent, waits, waitsHere, noPlaceFor, noPlaceThere, typeOrder, messageOrder, setUpOrder, rejectOrder, cancelOrder, orderOf}
 use Rattle.desk.specs.Numbers.{numberOf}
-use Rattle.desk.specs.Orders.{unless, postsOf, placesOf, namesDispatchers, activateAnswer, interrogateAnswer, endAnswer, moveAnswer, acceptAnswer, decideAnswer, sentAnswer, readAnswer, messageAnswer, identifierOk, setUpOk, admitAnswer, partyAnswer, setUpAnswer, rejectAnswer, cancelAnswer, answerOf}
+use Rattle.desk.specs.Orders.{unless, postsOf, placesOf, namesDispatchers, activateAnswer, interrogateAnswer, endAnswer, moveAnswer, acceptAnswer, decideAnswer, sentAnswer, readAnswer, messageAnswer, identifierOk, setUpOk, admitAnswer, partyAnswer, setUpAnswer, rejectAnswer, postAt, cancelAnswer, answerOf}
 use Rattle.desk.specs.declared.Answer.{Answer}
 use Rattle.desk.specs.declared.Answer.the-variants as answer
 use Rattle.desk.specs.declared.Desk.{Desk}
@@ -52,7 +52,7 @@ last : (b : Bool) (c : ℕ) (a : Answer) → numberOf a ≡ 0 → numberOf (unle
 unfolding firstOf
 last b c a e = before b c a [] e
 
--- a value that was read has one of the eight types
+-- a value that was read has one of the table's types
 arm : (P : ℕ → Type 0) (t k : ℕ) (r s : Row) → P k → (s .carried ≡ true → P t) → cond (eqb t k) r s .carried ≡ true → P t
 arm P t k r s here after = go (eqb t k) refl
   where
@@ -60,11 +60,19 @@ arm P t k r s here after = go (eqb t k) refl
     go true e h = subst P (sym (eqb-true t k e)) here
     go false e h = after h
 
-carried-cases : (P : ℕ → Type 0) (t : ℕ) → P 2 → P 3 → P 8 → P 10 → P 12 → P 13 → P 15 → P 16 → isCarried t ≡ true → P t
-unfolding isCarried rowOf rowIn table
-carried-cases P t a b c d e f g h =
-    arm P t 2 _ _ a
-    (arm P t 3 _ _ b (arm P t 8 _ _ c (arm P t 10 _ _ d (arm P t 12 _ _ e (arm P t 13 _ _ f (arm P t 15 _ _ g (arm P t 16 _ _ h (λ z. not-both z))))))))
+-- what holds of each carried type holds of the type of a value that was read
+abbrev EachOf : (ℕ → Type 0) → List (ℕ × Row) → Type 0
+EachOf P [] = Unit
+EachOf P (x ∷ rest) = P (x .0) × EachOf P rest
+
+each-of : (P : ℕ → Type 0) (rows : List (ℕ × Row)) (t : ℕ) → EachOf P rows → rowIn rows t .carried ≡ true → P t
+unfolding rowIn
+each-of P [] t all h = not-both h
+each-of P (x ∷ rest) t all h = arm P t (x .0) (x .1) (rowIn rest t) (all .0) (each-of P rest t (all .1)) h
+
+carried-cases : (P : ℕ → Type 0) (t : ℕ) → EachOf P table → isCarried t ≡ true → P t
+unfolding isCarried rowOf
+carried-cases P t all h = each-of P table t all h
 
 valid-carried : (air : Air) (v : Value) → validOf air v ≡ true → isCarried (v .pdu) ≡ true
 unfolding validOf messageC headerC
@@ -107,23 +115,25 @@ module _ (d : Desk) (rows : List Record) (n : ℕ) where
       go true = last (not rule) 18 _ refl
       go false = refl
 
-  setup-first : (room : ℕ) (caller called : Identity) (identifier : ℕ)
-      → numberOf (setUpAnswer d rows n room caller called identifier) ≡ firstOf (setUpOrder d rows n room caller called identifier)
+  setup-first : (room : ℕ) (caller called : Identity) (identifier cause : ℕ)
+      → numberOf (setUpAnswer d rows n room caller called identifier cause) ≡ firstOf (setUpOrder d rows n room caller called identifier cause)
   unfolding setUpAnswer setUpOrder
-  setup-first room caller called identifier =
-      before (not (setUpOk caller called identifier)) 16 _ _
+  setup-first room caller called identifier cause =
+      before (not (setUpOk caller called identifier cause)) 16 _ _
       (before (ltb room 300) 14 _ _
       (before (not (recordsOk rows n (postsOf d))) 15 _ _
       (before (waits d identifier) 17 _ _ (admit-first (restrictedOf (take n rows) (caller ∷ called ∷ []))))))
 
-  reject-first : (post identifier : ℕ) → numberOf (rejectAnswer d post identifier) ≡ firstOf (rejectOrder d post identifier)
-  unfolding rejectAnswer rejectOrder
-  reject-first post identifier =
-      before (not (ltb post (postsOf d))) 2 _ _ (before (not (identifierOk identifier)) 16 _ _ (end-last post identifier answer.Rejected refl))
+  reject-first : (room post identifier : ℕ) → numberOf (rejectAnswer d room post identifier) ≡ firstOf (rejectOrder d room post identifier)
+  unfolding rejectAnswer decideAnswer rejectOrder
+  reject-first room post identifier =
+      before (not (ltb post (postsOf d))) 2 _ _
+      (before (not (identifierOk identifier)) 16 _ _ (before (ltb room 300) 14 _ _ (end-last post identifier answer.Rejected refl)))
 
-  cancel-first : (identifier : ℕ) → numberOf (cancelAnswer d identifier) ≡ firstOf (cancelOrder d identifier)
+  cancel-first : (room identifier : ℕ) → numberOf (cancelAnswer d room identifier) ≡ firstOf (cancelOrder d room identifier)
   unfolding cancelAnswer cancelOrder
-  cancel-first identifier = before (not (identifierOk identifier)) 16 _ _ (last (not (waits d identifier)) 19 answer.Cancelled refl)
+  cancel-first room identifier =
+      before (not (identifierOk identifier)) 16 _ _ (before (ltb room 300) 14 _ _ (last (not (waits d identifier)) 19 (answer.Cancelled (postAt d identifier)) refl))
 
   -- ---- a post's message
 
@@ -148,21 +158,48 @@ module _ (d : Desk) (rows : List Record) (n : ℕ) where
     abbrev place : ℕ
     place = placeOf (placesOf d) (identifierIn v) .place
 
-    -- the types that are carried are the four that posts send and the four that they don't
+    -- the types that are carried are the five that posts send and the seven that they don't
     sent-first : isCarried (v .pdu) ≡ true → numberOf (sentAnswer d rows n room post v) ≡ firstOf (notSent v ∷ typeOrder d rows n room post v)
-    unfolding sentAnswer refusal firstOf
+    unfolding sentAnswer refusal firstOf table
     sent-first h =
-        carried-cases By (v .pdu) activate-first refl interrogate-first refl (decide-first (acceptAnswer d place) (noPlaceThere d place) (accept-first place)) refl (decide-first answer.Diverted [] refl) refl h
+        carried-cases By (v .pdu) (
+          activate-first,
+          (
+            refl,
+            (
+              interrogate-first,
+              (
+                refl,
+                (
+                  refl,
+                  (
+                    decide-first (acceptAnswer d place) (noPlaceThere d place) (accept-first place),
+                    (
+                      refl,
+                      (
+                        refl,
+                        (decide-first answer.Diverted [] refl, (refl, (decide-first answer.Rejected [] refl, (refl, tt)))),
+                      ),
+                    ),
+                  ),
+                ),
+              ),
+            ),
+          ),
+        )
+        h
       where
         By : ℕ → Type 0
         By t =
             numberOf (cond (eqb t 2) (activateAnswer d rows n room v) (cond (eqb t 8) (interrogateAnswer d rows n post v)
-            (cond (eqb t 12) (decideAnswer d room post (identifierIn v) (acceptAnswer d place)) (cond (eqb t 15) (decideAnswer d room post (identifierIn v) answer.Diverted) (answer.Refused (refusal 8))))))
-            ≡ firstOf ((8, eqb t 3 || (eqb t 10 || (eqb t 13 || eqb t 16)))
+            (cond (eqb t 12) (decideAnswer d room post (identifierIn v) (acceptAnswer d place)) (cond (eqb t 15) (decideAnswer d room post (identifierIn v) answer.Diverted)
+            (cond (eqb t 17) (decideAnswer d room post (identifierIn v) answer.Rejected) (answer.Refused (refusal 8)))))))
+            ≡ firstOf ((8, eqb t 3 || (eqb t 10 || (eqb t 11 || (eqb t 13 || (eqb t 14 || (eqb t 16 || eqb t 18))))))
             ∷ cond (eqb t 2) ((14, ltb room 300) ∷ (15, not (recordsOk rows n (postsOf d))) ∷ (21, namesDispatchers (d .profile .air) v) ∷ [])
             (cond (eqb t 8) ((15, not (recordsOk rows n (postsOf d))) ∷ [])
             (cond (eqb t 12) ((14, ltb room 300) ∷ (19, not (waits d (identifierIn v))) ∷ (20, not (waitsHere d post (identifierIn v))) ∷ noPlaceThere d place)
-            (cond (eqb t 15) ((14, ltb room 300) ∷ (19, not (waits d (identifierIn v))) ∷ (20, not (waitsHere d post (identifierIn v))) ∷ []) []))))
+            (cond (eqb t 15) ((14, ltb room 300) ∷ (19, not (waits d (identifierIn v))) ∷ (20, not (waitsHere d post (identifierIn v))) ∷ [])
+            (cond (eqb t 17) ((14, ltb room 300) ∷ (19, not (waits d (identifierIn v))) ∷ (20, not (waitsHere d post (identifierIn v))) ∷ []) [])))))
 
   after-reading : (room post : ℕ) (g : List Ground) (r : Read Value) → Told g r → ((v : Value) (p : ℕ) → r ≡ got v p → isCarried (v .pdu) ≡ true)
       → numberOf (readAnswer r (λ v. sentAnswer d rows n room post v)) ≡ firstOf (g ++ afterwards r (λ v p. notSent v ∷ typeOrder d rows n room post v))
@@ -178,9 +215,9 @@ module _ (d : Desk) (rows : List Record) (n : ℕ) where
   number-first : (l : List ℕ) (room : ℕ) (e : Event) → numberOf (answerOf d rows n l room e) ≡ firstOf (orderOf d rows n l room e)
   unfolding answerOf orderOf
   number-first l room (event.Message post bits) = before (not (deskOk d)) 1 _ _ (message-first l room post bits)
-  number-first l room (event.SetUp caller called identifier) = before (not (deskOk d)) 1 _ _ (setup-first room caller called identifier)
-  number-first l room (event.Reject post identifier) = before (not (deskOk d)) 1 _ _ (reject-first post identifier)
-  number-first l room (event.Cancel identifier) = before (not (deskOk d)) 1 _ _ (cancel-first identifier)
+  number-first l room (event.SetUp caller called identifier cause) = before (not (deskOk d)) 1 _ _ (setup-first room caller called identifier cause)
+  number-first l room (event.Reject post identifier) = before (not (deskOk d)) 1 _ _ (reject-first room post identifier)
+  number-first l room (event.Cancel identifier) = before (not (deskOk d)) 1 _ _ (cancel-first room identifier)
 
 -- ---- so it comes exactly then
 

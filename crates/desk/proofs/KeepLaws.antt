@@ -25,22 +25,22 @@ module _ (d : Desk) (spoken : Spoken) where
 
   -- a refusal, of whatever call
   pub refused-plain : (area : List ℕ) (a : Answer) (s t : Stop) (r : Stepped) → r ≡ keeps d (answer.Refused s) → s ≡ t → a ≡ answer.Refused t
-      → (r ≡ plainStep d spoken a) × (area ≡ plainArea d area a)
+      → (r ≡ plainStep d spoken a) × (area ≡ plainArea d spoken area a)
   unfolding plainArea layAll layFrom
   refused-plain area a s t r e z q = (
     e ∙ ap (λ (x : Stop). keeps d (answer.Refused x)) z ∙ sym (refused-step t) ∙ ap (λ (x : Answer). plainStep d spoken x) (sym q),
-    ap (λ (x : Answer). plainArea d area x) (sym q),
+    ap (λ (x : Answer). plainArea d spoken area x) (sym q),
   )
 
-  pub free-plain : (area : List ℕ) (a : Answer) (r : Stepped) → r ≡ keeps d answer.Free → a ≡ answer.Free → (r ≡ plainStep d spoken a) × (area ≡ plainArea d area a)
+  pub free-plain : (area : List ℕ) (a : Answer) (r : Stepped) → r ≡ keeps d answer.Free → a ≡ answer.Free → (r ≡ plainStep d spoken a) × (area ≡ plainArea d spoken area a)
   unfolding plainArea layAll layFrom
-  free-plain area a r e q = (e ∙ sym free-step ∙ ap (λ (x : Answer). plainStep d spoken x) (sym q), ap (λ (x : Answer). plainArea d area x) (sym q))
+  free-plain area a r e q = (e ∙ sym free-step ∙ ap (λ (x : Answer). plainStep d spoken x) (sym q), ap (λ (x : Answer). plainArea d spoken area x) (sym q))
 
-  pub state-plain : (area : List ℕ) (a : Answer) (k : ℕ) → a ≡ answer.State k → (keeps d (answer.State k) ≡ plainStep d spoken a) × (area ≡ plainArea d area a)
+  pub state-plain : (area : List ℕ) (a : Answer) (k : ℕ) → a ≡ answer.State k → (keeps d (answer.State k) ≡ plainStep d spoken a) × (area ≡ plainArea d spoken area a)
   unfolding plainArea layAll layFrom
-  state-plain area a k q = (sym (state-step k) ∙ ap (λ (x : Answer). plainStep d spoken x) (sym q), ap (λ (x : Answer). plainArea d area x) (sym q))
+  state-plain area a k q = (sym (state-step k) ∙ ap (λ (x : Answer). plainStep d spoken x) (sym q), ap (λ (x : Answer). plainArea d spoken area x) (sym q))
 
   -- the same answer under another name
-  pub same-plain : (area m : List ℕ) (a b : Answer) (r : Stepped) → b ≡ a → (r ≡ plainStep d spoken a) × (m ≡ plainArea d area a)
-      → (r ≡ plainStep d spoken b) × (m ≡ plainArea d area b)
+  pub same-plain : (area m : List ℕ) (a b : Answer) (r : Stepped) → b ≡ a → (r ≡ plainStep d spoken a) × (m ≡ plainArea d spoken area a)
+      → (r ≡ plainStep d spoken b) × (m ≡ plainArea d spoken area b)
   same-plain area m a b r q z = rw q z

@@ -1,11 +1,13 @@
 pub mod DeskLaws
 pub mod KeepLaws
+pub mod NoticeLaws
 pub mod EndLaws
 pub mod SetUpLaws
 pub mod ActivateLaws
 pub mod PostLaws
 pub mod AnswerLaws
 pub mod Moves
+pub mod Cancels
 pub mod Exactly
 pub mod Refusals
 pub mod SetUps

@@ -35,7 +35,7 @@ isMoved (answer.Admitted post place) = false
 isMoved answer.Proceed = false
 isMoved answer.Diverted = false
 isMoved answer.Rejected = false
-isMoved answer.Cancelled = false
+isMoved (answer.Cancelled post) = false
 isMoved (answer.Moved post) = true
 
 -- the post of a move
@@ -48,7 +48,7 @@ movedTo (answer.Admitted post place) = 0
 movedTo answer.Proceed = 0
 movedTo answer.Diverted = 0
 movedTo answer.Rejected = 0
-movedTo answer.Cancelled = 0
+movedTo (answer.Cancelled post) = 0
 movedTo (answer.Moved post) = post
 
 abbrev never : Answer → Bool
@@ -62,7 +62,7 @@ pub record MovedCall (d : Desk) (identifier from to : ℕ) : Type 0 where
   pub second : placeIn (placesOf d) (placeOf (placesOf d) identifier .place) .second ≡ to
   pub admits : admitsOf (d .profile .shares) (clearOf (placesOf d) (placeOf (placesOf d) identifier .place)) to ≡ true
 
-not-false : (b : Bool) → not b ≡ false → b ≡ true
+pub not-false : (b : Bool) → not b ≡ false → b ≡ true
 not-false true e = refl
 not-false false e = not-both (sym e)
 
@@ -124,6 +124,7 @@ module _ (to : ℕ) where
           (λ z. not-both (ap isMoved (past (not (recordsOk rows n (postsOf d))) 15 _ z .1)))
           (decide-moved room post (identifierIn v))
           (λ z. not-both (sym (decide-never room post (identifierIn v) answer.Diverted refl) ∙ ap isMoved z))
+          (λ _ z. not-both (sym (decide-never room post (identifierIn v) answer.Rejected refl) ∙ ap isMoved z))
           (λ z. not-both (ap isMoved z))
 
       message-moved : (r : Read Value) → readAnswer r (λ v. sentAnswer d rows n room post v) ≡ answer.Moved to → MovedCall d (identifierIn (valueBy r)) post to
@@ -135,10 +136,10 @@ module _ (to : ℕ) where
       unfolding answerOf messageAnswer
       event-moved (event.Message post bits) z =
           message-moved rows n room post (readOf (d .profile) l bits) (past (not (ltb post (postsOf d))) 2 _ (past (not (deskOk d)) 1 _ z .1) .1)
-      event-moved (event.SetUp caller called identifier) z =
-          not-both (ap never (sym z) ∙ answer-ok never (λ s p. refl) d rows n l room refl (event.SetUp caller called identifier) (refl, λ post place. refl))
+      event-moved (event.SetUp caller called identifier cause) z =
+          not-both (ap never (sym z) ∙ answer-ok never (λ s p. refl) d rows n l room refl (event.SetUp caller called identifier cause) (refl, λ post place. refl))
       event-moved (event.Reject post identifier) z = not-both (ap never (sym z) ∙ answer-ok never (λ s p. refl) d rows n l room refl (event.Reject post identifier) refl)
-      event-moved (event.Cancel identifier) z = not-both (ap never (sym z) ∙ answer-ok never (λ s p. refl) d rows n l room refl (event.Cancel identifier) refl)
+      event-moved (event.Cancel identifier) z = not-both (ap never (sym z) ∙ answer-ok never (λ s p. refl) d rows n l room refl (event.Cancel identifier) (λ k. refl))
 
 pub moved-so : (d : Desk) (rows : List Record) (n : ℕ) (l area : List ℕ) (to : ℕ) (e : Event) → stepOf d rows n l area e .answer ≡ answer.Moved to
     → MovedCall d (identifierOf (d .profile) l e) (postOf e) to

@@ -18,7 +18,7 @@ answerFor x =
     (cond (eqb (x .plain) 5) answer.Proceed
     (cond (eqb (x .plain) 6) answer.Diverted
     (cond (eqb (x .plain) 7) answer.Rejected
-    (cond (eqb (x .plain) 8) answer.Cancelled (answer.Moved (getD (x .values) 0 0))))))))))
+    (cond (eqb (x .plain) 8) (answer.Cancelled (getD (x .values) 0 0)) (answer.Moved (getD (x .values) 0 0))))))))))
 
 back : (a : Answer) → answerFor (paperOf a) ≡ a
 back (answer.Refused s) = refl
@@ -29,7 +29,7 @@ back (answer.Admitted post place) = refl
 back answer.Proceed = refl
 back answer.Diverted = refl
 back answer.Rejected = refl
-back answer.Cancelled = refl
+back (answer.Cancelled post) = refl
 back (answer.Moved post) = refl
 
 pub paper-one : (a b : Answer) → paperOf a ≡ paperOf b → a ≡ b

@@ -11,7 +11,6 @@ use lib.ListN.{take}
 use Rattle.codec.specs.Codec.{Read, got, no}
 use Rattle.codec.proofs.Good.{both-left, not-both}
 use Rattle.profile.specs.Rules.{profileOk}
-use Rattle.message.specs.Values.{identifierIn}
 use Rattle.message.specs.Groups.{firstOf}
 use Rattle.message.specs.Reading.{readOf}
 use Rattle.message.specs.declared.Group.{Group}
@@ -28,7 +27,7 @@ use Rattle.places.specs.Held.{placeIn, admitsOf}
 use Rattle.places.specs.Spots.{placeOf}
 use Rattle.desk.specs.Desks.{deskOk}
 use Rattle.desk.specs.Orders.{postsOf, placesOf, unless, interrogateAnswer, endAnswer, decideAnswer, sentAnswer, readAnswer, messageAnswer, identifierOk, setUpOk, admitAnswer, partyAnswer, setUpAnswer, rejectAnswer, cancelAnswer}
-use Rattle.desk.specs.Steps.{Spoken, named, valueBy, isAcks, plainStep, plainArea, acksStep, acksArea, stepBy, areaBy, keeps}
+use Rattle.desk.specs.Steps.{Spoken, saidIn, valueBy, isAcks, plainStep, plainArea, acksStep, acksArea, stepBy, areaBy, keeps}
 use Rattle.desk.specs.declared.Answer.{Answer}
 use Rattle.desk.specs.declared.Answer.the-variants as answer
 use Rattle.desk.specs.declared.Desk.{Desk}
@@ -36,19 +35,19 @@ use Rattle.desk.specs.declared.Stepped.{Stepped}
 use Rattle.desk.proofs.KeepLaws.{refused-plain, state-plain}
 
 module _ (d : Desk) (rows : List Record) (post : ℕ) (users : Group) (spoken : Spoken) (area m : List ℕ) (a : Answer) (r : Stepped) where
-  pub plain-by : isAcks a ≡ false → (r ≡ plainStep d spoken a) × (m ≡ plainArea d area a) → (r ≡ stepBy d rows post users spoken a) × (m ≡ areaBy d rows post users area a)
+  pub plain-by : isAcks a ≡ false → (r ≡ plainStep d spoken a) × (m ≡ plainArea d spoken area a) → (r ≡ stepBy d rows post users spoken a) × (m ≡ areaBy d rows post users spoken area a)
   unfolding stepBy areaBy
   plain-by e z = rw e z
 
   pub acks-by : a ≡ answer.Acks → (r ≡ acksStep d rows post users) × (m ≡ acksArea d rows post users area)
-      → (r ≡ stepBy d rows post users spoken a) × (m ≡ areaBy d rows post users area a)
+      → (r ≡ stepBy d rows post users spoken a) × (m ≡ areaBy d rows post users spoken area a)
   unfolding stepBy areaBy
   acks-by e z = rw e z
 
 -- a refusal, of whatever call
 pub refused-by : (d : Desk) (rows : List Record) (post : ℕ) (users : Group) (spoken : Spoken) (area : List ℕ) (a : Answer) (s t : Stop) (r : Stepped)
     → r ≡ keeps d (answer.Refused s) → s ≡ t → a ≡ answer.Refused t
-    → (r ≡ stepBy d rows post users spoken a) × (area ≡ areaBy d rows post users area a)
+    → (r ≡ stepBy d rows post users spoken a) × (area ≡ areaBy d rows post users spoken area a)
 refused-by d rows post users spoken area a s t r e z q =
     plain-by d rows post users spoken area area a r (ap isAcks q) (refused-plain d spoken area a s t r e z q)
 
@@ -86,11 +85,11 @@ module _ (d : Desk) (rows : List Record) (n post : ℕ) (v : Value) where
   interrogate-plain = unless-plain (not (recordsOk rows n (postsOf d))) 15 _ refl
 
   -- it uses no output area
-  pub interrogate-area : (area : List ℕ) → area ≡ plainArea d area (interrogateAnswer d rows n post v)
+  pub interrogate-area : (spoken : Spoken) (area : List ℕ) → area ≡ plainArea d spoken area (interrogateAnswer d rows n post v)
   unfolding interrogateAnswer plainArea layAll layFrom
-  interrogate-area area = go (not (recordsOk rows n (postsOf d)))
+  interrogate-area spoken area = go (not (recordsOk rows n (postsOf d)))
     where
-      go : (b : Bool) → area ≡ plainArea d area (unless b 15 (answer.State (stateOf (take n rows) post (identityOf (d .profile .air) (firstOf (v .users))))))
+      go : (b : Bool) → area ≡ plainArea d spoken area (unless b 15 (answer.State (stateOf (take n rows) post (identityOf (d .profile .air) (firstOf (v .users))))))
       go true = refl
       go false = refl
 
@@ -112,55 +111,32 @@ module _ (d : Desk) (rows : List Record) (n : ℕ) (l : List ℕ) (room post bit
 
     -- what was read is answered by its type
     pub message-sent : r .found ≡ true → (area m : List ℕ) (s : Stepped)
-        → (s ≡ stepBy d (take n rows) post (r .value .users) (named (identifierIn (r .value))) (sentAnswer d rows n room post (r .value)))
-        × (m ≡ areaBy d (take n rows) post (r .value .users) area (sentAnswer d rows n room post (r .value)))
-        → (s ≡ stepBy d (take n rows) post (valueBy (readOf (d .profile) l bits) .users) (named (identifierIn (valueBy (readOf (d .profile) l bits)))) (messageAnswer d rows n l room post bits))
-        × (m ≡ areaBy d (take n rows) post (valueBy (readOf (d .profile) l bits) .users) area (messageAnswer d rows n l room post bits))
+        → (s ≡ stepBy d (take n rows) post (r .value .users) (saidIn (r .value)) (sentAnswer d rows n room post (r .value)))
+        × (m ≡ areaBy d (take n rows) post (r .value .users) (saidIn (r .value)) area (sentAnswer d rows n room post (r .value)))
+        → (s ≡ stepBy d (take n rows) post (valueBy (readOf (d .profile) l bits) .users) (saidIn (valueBy (readOf (d .profile) l bits))) (messageAnswer d rows n l room post bits))
+        × (m ≡ areaBy d (take n rows) post (valueBy (readOf (d .profile) l bits) .users) (saidIn (valueBy (readOf (d .profile) l bits))) area (messageAnswer d rows n l room post bits))
     unfolding messageAnswer readingOf
     message-sent f area m s = rw (lt-ltb post (postsOf d) h) (go (readOf (d .profile) l bits) z)
       where
         go : (x : Read Value) → r ≡ readingOf x
-            → (s ≡ stepBy d (take n rows) post (r .value .users) (named (identifierIn (r .value))) (sentAnswer d rows n room post (r .value)))
-            × (m ≡ areaBy d (take n rows) post (r .value .users) area (sentAnswer d rows n room post (r .value)))
-            → (s ≡ stepBy d (take n rows) post (valueBy x .users) (named (identifierIn (valueBy x))) (readAnswer x (λ v. sentAnswer d rows n room post v)))
-            × (m ≡ areaBy d (take n rows) post (valueBy x .users) area (readAnswer x (λ v. sentAnswer d rows n room post v)))
+            → (s ≡ stepBy d (take n rows) post (r .value .users) (saidIn (r .value)) (sentAnswer d rows n room post (r .value)))
+            × (m ≡ areaBy d (take n rows) post (r .value .users) (saidIn (r .value)) area (sentAnswer d rows n room post (r .value)))
+            → (s ≡ stepBy d (take n rows) post (valueBy x .users) (saidIn (valueBy x)) (readAnswer x (λ v. sentAnswer d rows n room post v)))
+            × (m ≡ areaBy d (take n rows) post (valueBy x .users) (saidIn (valueBy x)) area (readAnswer x (λ v. sentAnswer d rows n room post v)))
         go (got v q) e p = rw (ap (λ (y : Reading). y .value) e) at p
         go (no t) e p = not-both (sym (ap (λ (y : Reading). y .found) e) ∙ f)
 
 -- ---- the other calls
 
--- an answer with no message leaves the area as it stood
-unless-silent : (d : Desk) (area : List ℕ) (b : Bool) (c : ℕ) (a : Answer) → area ≡ plainArea d area a → area ≡ plainArea d area (unless b c a)
-unfolding plainArea layAll layFrom
-unless-silent d area true c a e = refl
-unless-silent d area false c a e = e
+pub reject-plain : (d : Desk) (room post identifier : ℕ) → isAcks (rejectAnswer d room post identifier) ≡ false
+unfolding rejectAnswer
+reject-plain d room post identifier =
+    unless-plain (not (ltb post (postsOf d))) 2 _ (unless-plain (not (identifierOk identifier)) 16 _ (decide-plain d room post identifier answer.Rejected refl))
 
-module _ (d : Desk) (post identifier : ℕ) where
-  abbrev waits : Bool
-  waits = placeOf (placesOf d) identifier .found
-
-  abbrev here : Bool
-  here = eqb (placeIn (placesOf d) (placeOf (placesOf d) identifier .place) .post) post
-
-  pub reject-plain : isAcks (rejectAnswer d post identifier) ≡ false
-  unfolding rejectAnswer endAnswer
-  reject-plain =
-      unless-plain (not (ltb post (postsOf d))) 2 _
-      (unless-plain (not (identifierOk identifier)) 16 _ (unless-plain (not waits) 19 _ (unless-plain (not here) 20 answer.Rejected refl)))
-
-  pub reject-silent : (area : List ℕ) → area ≡ plainArea d area (rejectAnswer d post identifier)
-  unfolding rejectAnswer endAnswer plainArea layAll layFrom
-  reject-silent area =
-      unless-silent d area (not (ltb post (postsOf d))) 2 _
-      (unless-silent d area (not (identifierOk identifier)) 16 _ (unless-silent d area (not waits) 19 _ (unless-silent d area (not here) 20 answer.Rejected refl)))
-
-  pub cancel-plain : isAcks (cancelAnswer d identifier) ≡ false
-  unfolding cancelAnswer
-  cancel-plain = unless-plain (not (identifierOk identifier)) 16 _ (unless-plain (not waits) 19 answer.Cancelled refl)
-
-  pub cancel-silent : (area : List ℕ) → area ≡ plainArea d area (cancelAnswer d identifier)
-  unfolding cancelAnswer plainArea layAll layFrom
-  cancel-silent area = unless-silent d area (not (identifierOk identifier)) 16 _ (unless-silent d area (not waits) 19 answer.Cancelled refl)
+pub cancel-plain : (d : Desk) (room identifier : ℕ) → isAcks (cancelAnswer d room identifier) ≡ false
+unfolding cancelAnswer
+cancel-plain d room identifier =
+    unless-plain (not (identifierOk identifier)) 16 _ (unless-plain (ltb room 300) 14 _ (unless-plain (not (placeOf (placesOf d) identifier .found)) 19 _ refl))
 
 party-plain : (d : Desk) (p : Party) → isAcks (partyAnswer d p) ≡ false
 unfolding admitAnswer
@@ -170,15 +146,18 @@ party-plain d p = go (p .found)
     go true = unless-plain (not (admitsOf (d .profile .shares) (placesOf d) (p .post))) 18 _ refl
     go false = refl
 
-pub setup-plain : (d : Desk) (rows : List Record) (n room : ℕ) (caller called : Identity) (identifier : ℕ) → isAcks (setUpAnswer d rows n room caller called identifier) ≡ false
+pub setup-plain : (d : Desk) (rows : List Record) (n room : ℕ) (caller called : Identity) (identifier cause : ℕ) → isAcks (setUpAnswer d rows n room caller called identifier cause) ≡ false
 unfolding setUpAnswer
-setup-plain d rows n room caller called identifier =
-    unless-plain (not (setUpOk caller called identifier)) 16 _
+setup-plain d rows n room caller called identifier cause =
+    unless-plain (not (setUpOk caller called identifier cause)) 16 _
     (unless-plain (ltb room 300) 14 _
     (unless-plain (not (recordsOk rows n (postsOf d))) 15 _
     (unless-plain (placeOf (placesOf d) identifier .found) 17 _ (party-plain d (restrictedOf (take n rows) (caller ∷ called ∷ []))))))
 
--- 1 did not come, so the profile passes
-pub desk-passes : (d : Desk) (b : Bool) → b ≡ deskOk d → b ≡ true → profileOk (d .profile) ≡ true
+-- 1 does not come, so the profile passes
+pub desk-profile : (d : Desk) → deskOk d ≡ true → profileOk (d .profile) ≡ true
 unfolding deskOk
-desk-passes d b z e = both-left _ _ (sym z ∙ e)
+desk-profile d e = both-left _ _ e
+
+pub desk-passes : (d : Desk) (b : Bool) → b ≡ deskOk d → b ≡ true → profileOk (d .profile) ≡ true
+desk-passes d b z e = desk-profile d (sym z ∙ e)

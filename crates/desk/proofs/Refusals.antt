@@ -41,7 +41,7 @@ known (answer.Admitted post place) = true
 known answer.Proceed = true
 known answer.Diverted = true
 known answer.Rejected = true
-known answer.Cancelled = true
+known (answer.Cancelled post) = true
 known (answer.Moved post) = true
 
 one-known : known (answer.Refused (refusal 1)) ≡ true
@@ -66,10 +66,10 @@ module _ (d : Desk) (rows : List Record) (n : ℕ) (l area : List ℕ) (e : Even
   refused-known s h = ap known (sym (sym (step-answer d rows n l area e) ∙ h)) ∙ answer-ok known (λ t p. past-published (t .number) p) d rows n l (length area) one-known e (can e)
     where
       can : (x : Event) → Can known x
-      can (event.Message post bits) = (refl, ((λ k. refl), (refl, (refl, λ k. refl))))
-      can (event.SetUp caller called identifier) = (refl, λ post place. refl)
+      can (event.Message post bits) = (refl, ((λ k. refl), (refl, (refl, (refl, λ k. refl)))))
+      can (event.SetUp caller called identifier cause) = (refl, λ post place. refl)
       can (event.Reject post identifier) = refl
-      can (event.Cancel identifier) = refl
+      can (event.Cancel identifier) = λ k. refl
 
   -- the number c comes exactly when its ground holds and no earlier one of the call's order does
   abbrev pub Exact : ℕ → Type 0
@@ -126,7 +126,7 @@ module _ (d : Desk) (rows : List Record) (n : ℕ) (l area : List ℕ) (e : Even
   pub exact-8 : Exact 8
   exact-8 = exact 8 (omega arith)
 
-  -- ACTIVATE, ACCEPT, DIVERT, set-up
+  -- ACTIVATE, ACCEPT, DIVERT, REJECT, set-up, reject, cancel
   pub exact-14 : Exact 14
   exact-14 = exact 14 (omega arith)
 
@@ -146,11 +146,11 @@ module _ (d : Desk) (rows : List Record) (n : ℕ) (l area : List ℕ) (e : Even
   pub exact-18 : Exact 18
   exact-18 = exact 18 (omega arith)
 
-  -- ACCEPT, DIVERT, reject, cancel
+  -- ACCEPT, DIVERT, REJECT, reject, cancel
   pub exact-19 : Exact 19
   exact-19 = exact 19 (omega arith)
 
-  -- ACCEPT, DIVERT, reject
+  -- ACCEPT, DIVERT, REJECT, reject
   pub exact-20 : Exact 20
   exact-20 = exact 20 (omega arith)
 

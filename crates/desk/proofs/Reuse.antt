@@ -61,7 +61,7 @@ ending-ends spoken (answer.Admitted post place) e = not-both e
 ending-ends spoken answer.Proceed e = refl
 ending-ends spoken answer.Diverted e = refl
 ending-ends spoken answer.Rejected e = refl
-ending-ends spoken answer.Cancelled e = refl
+ending-ends spoken (answer.Cancelled post) e = refl
 ending-ends spoken (answer.Moved post) e = not-both e
 
 -- the call with the identifier is gone: its place is free, the lowest free one if every lower one is used, and the identifier is not waiting
@@ -118,13 +118,13 @@ unfolding refusal
 unless-again true c a h e = rw h refl
 unless-again false c a h e = e
 
-pub new-not-17 : (d : Desk) (rows : List Record) (n : ℕ) (l area : List ℕ) (caller called : Identity) (identifier : ℕ) → waits d identifier ≡ false
-    → numberOf (stepOf d rows n l area (event.SetUp caller called identifier) .answer) ≡ 17 → ⊥
+pub new-not-17 : (d : Desk) (rows : List Record) (n : ℕ) (l area : List ℕ) (caller called : Identity) (identifier cause : ℕ) → waits d identifier ≡ false
+    → numberOf (stepOf d rows n l area (event.SetUp caller called identifier cause) .answer) ≡ 17 → ⊥
 unfolding answerOf setUpAnswer admitAnswer
-new-not-17 d rows n l area caller called identifier w z =
-    not-both (sym (ap (λ (k : ℕ). not (eqb k 17)) z) ∙ ap notAgain (step-answer d rows n l area (event.SetUp caller called identifier))
+new-not-17 d rows n l area caller called identifier cause w z =
+    not-both (sym (ap (λ (k : ℕ). not (eqb k 17)) z) ∙ ap notAgain (step-answer d rows n l area (event.SetUp caller called identifier cause))
     ∙ unless-again (not (deskOk d)) 1 _ refl
-    (unless-again (not (setUpOk caller called identifier)) 16 _ refl
+    (unless-again (not (setUpOk caller called identifier cause)) 16 _ refl
     (unless-again (ltb (length area) 300) 14 _ refl
     (unless-again (not (recordsOk rows n (postsOf d))) 15 _ refl (rw w (party (partyFor rows n caller called .found)))))))
   where
@@ -134,7 +134,7 @@ new-not-17 d rows n l area caller called identifier w z =
 
 -- so the identifier of a call that was ended can be set up again, whatever is lent then
 pub identifier-again : (d : Desk) (rows : List Record) (n : ℕ) (l area : List ℕ) (e : Event) (ended : isEnding (stepOf d rows n l area e .answer) ≡ true)
-    → (rows₁ : List Record) (n₁ : ℕ) (l₁ area₁ : List ℕ) (caller called : Identity)
-    → numberOf (stepOf (stepOf d rows n l area e .desk) rows₁ n₁ l₁ area₁ (event.SetUp caller called (identifierOf (d .profile) l e)) .answer) ≡ 17 → ⊥
-identifier-again d rows n l area e ended rows₁ n₁ l₁ area₁ caller called =
-    new-not-17 (stepOf d rows n l area e .desk) rows₁ n₁ l₁ area₁ caller called (identifierOf (d .profile) l e) (freed d rows n l area e ended .new)
+    → (rows₁ : List Record) (n₁ : ℕ) (l₁ area₁ : List ℕ) (caller called : Identity) (cause : ℕ)
+    → numberOf (stepOf (stepOf d rows n l area e .desk) rows₁ n₁ l₁ area₁ (event.SetUp caller called (identifierOf (d .profile) l e) cause) .answer) ≡ 17 → ⊥
+identifier-again d rows n l area e ended rows₁ n₁ l₁ area₁ caller called cause =
+    new-not-17 (stepOf d rows n l area e .desk) rows₁ n₁ l₁ area₁ caller called (identifierOf (d .profile) l e) cause (freed d rows n l area e ended .new)

@@ -27,7 +27,7 @@ use Rattle.desk.specs.declared.Desk.{Desk}
 use Rattle.desk.specs.declared.Event.{Event}
 use Rattle.desk.specs.declared.Event.the-variants as event
 use Rattle.desk.proofs.AnswerLaws.{step-answer, answer-ok}
-use Rattle.desk.proofs.SetUpLaws.{setup-identifier}
+use Rattle.desk.proofs.SetUpLaws.{setup-identifier, setup-cause}
 
 -- ---- the desk after any call: what the answer says of the waiting calls, and nothing else
 
@@ -42,7 +42,7 @@ by-desk d rows post users spoken (answer.Admitted p i) = refl
 by-desk d rows post users spoken answer.Proceed = refl
 by-desk d rows post users spoken answer.Diverted = refl
 by-desk d rows post users spoken answer.Rejected = refl
-by-desk d rows post users spoken answer.Cancelled = refl
+by-desk d rows post users spoken (answer.Cancelled p) = refl
 by-desk d rows post users spoken (answer.Moved p) = refl
 
 order-desk : (d : Desk) (rows : List Record) (n : ℕ) (l area : List ℕ) (e : Event)
@@ -77,7 +77,7 @@ isRefused (answer.Admitted post place) = false
 isRefused answer.Proceed = false
 isRefused answer.Diverted = false
 isRefused answer.Rejected = false
-isRefused answer.Cancelled = false
+isRefused (answer.Cancelled post) = false
 isRefused (answer.Moved post) = false
 
 some-holds : (gs : List Ground) (a : Answer) → noneOf gs ≡ false → isRefused (unlessAny gs a) ≡ true
@@ -95,7 +95,7 @@ isFree (answer.Admitted post place) = false
 isFree answer.Proceed = false
 isFree answer.Diverted = false
 isFree answer.Rejected = false
-isFree answer.Cancelled = false
+isFree (answer.Cancelled post) = false
 isFree (answer.Moved post) = false
 
 refused-not-free : (a : Answer) → isRefused a ≡ true → isFree a ≡ false
@@ -107,7 +107,7 @@ refused-not-free (answer.Admitted post place) e = refl
 refused-not-free answer.Proceed e = refl
 refused-not-free answer.Diverted e = refl
 refused-not-free answer.Rejected e = refl
-refused-not-free answer.Cancelled e = refl
+refused-not-free (answer.Cancelled post) e = refl
 refused-not-free (answer.Moved post) e = refl
 
 pub not-true : (b : Bool) → not b ≡ true → b ≡ false
@@ -133,7 +133,7 @@ isAdmitted (answer.Admitted post place) = true
 isAdmitted answer.Proceed = false
 isAdmitted answer.Diverted = false
 isAdmitted answer.Rejected = false
-isAdmitted answer.Cancelled = false
+isAdmitted (answer.Cancelled post) = false
 isAdmitted (answer.Moved post) = false
 
 abbrev never : Answer → Bool
@@ -149,7 +149,7 @@ admission (answer.Admitted post place) = (post, place)
 admission answer.Proceed = (0, 0)
 admission answer.Diverted = (0, 0)
 admission answer.Rejected = (0, 0)
-admission answer.Cancelled = (0, 0)
+admission (answer.Cancelled post) = (0, 0)
 admission (answer.Moved post) = (0, 0)
 
 not-not : (b : Bool) → not (not b) ≡ true → b ≡ true
@@ -178,23 +178,23 @@ party-admitted d p post place = found (p .found) refl
 
 -- ---- a call being set up
 
-module _ (d : Desk) (rows : List Record) (n : ℕ) (l : List ℕ) (room : ℕ) (caller called : Identity) (identifier : ℕ) where
+module _ (d : Desk) (rows : List Record) (n : ℕ) (l : List ℕ) (room : ℕ) (caller called : Identity) (identifier cause : ℕ) where
   abbrev pub party : Party
   party = partyFor rows n caller called
 
-  setup-is : answerOf d rows n l room (event.SetUp caller called identifier) ≡ unlessAny (setUpGrounds d rows n room caller called identifier) (partyAnswer d party)
+  setup-is : answerOf d rows n l room (event.SetUp caller called identifier cause) ≡ unlessAny (setUpGrounds d rows n room caller called identifier cause) (partyAnswer d party)
   unfolding answerOf setUpAnswer unlessAny
   setup-is = refl
 
   -- a well-formed new call is free or goes by the places rule
-  pub new-call : isNew d rows n room caller called identifier ≡ true → answerOf d rows n l room (event.SetUp caller called identifier) ≡ partyAnswer d party
+  pub new-call : isNew d rows n room caller called identifier cause ≡ true → answerOf d rows n l room (event.SetUp caller called identifier cause) ≡ partyAnswer d party
   unfolding isNew
-  new-call e = setup-is ∙ none-holds (setUpGrounds d rows n room caller called identifier) (partyAnswer d party) e
+  new-call e = setup-is ∙ none-holds (setUpGrounds d rows n room caller called identifier cause) (partyAnswer d party) e
 
   -- any other is refused
-  pub not-new : isNew d rows n room caller called identifier ≡ false → isRefused (answerOf d rows n l room (event.SetUp caller called identifier)) ≡ true
+  pub not-new : isNew d rows n room caller called identifier cause ≡ false → isRefused (answerOf d rows n l room (event.SetUp caller called identifier cause)) ≡ true
   unfolding isNew
-  not-new e = ap isRefused setup-is ∙ some-holds (setUpGrounds d rows n room caller called identifier) (partyAnswer d party) e
+  not-new e = ap isRefused setup-is ∙ some-holds (setUpGrounds d rows n room caller called identifier cause) (partyAnswer d party) e
 
   -- ---- free
 
@@ -210,34 +210,34 @@ module _ (d : Desk) (rows : List Record) (n : ℕ) (l : List ℕ) (room : ℕ) (
       go false true = admit-not-free d (postFor (take n rows) called)
       go false false = refl
 
-  setup-free : isFree (answerOf d rows n l room (event.SetUp caller called identifier)) ≡ isFreeCall d rows n room (event.SetUp caller called identifier)
+  setup-free : isFree (answerOf d rows n l room (event.SetUp caller called identifier cause)) ≡ isFreeCall d rows n room (event.SetUp caller called identifier cause)
   unfolding both
-  setup-free = go (isNew d rows n room caller called identifier) refl
+  setup-free = go (isNew d rows n room caller called identifier cause) refl
     where
-      go : (b : Bool) → isNew d rows n room caller called identifier ≡ b
-          → isFree (answerOf d rows n l room (event.SetUp caller called identifier)) ≡ both b (both (not (isRestricted (take n rows) caller)) (not (isRestricted (take n rows) called)))
+      go : (b : Bool) → isNew d rows n room caller called identifier cause ≡ b
+          → isFree (answerOf d rows n l room (event.SetUp caller called identifier cause)) ≡ both b (both (not (isRestricted (take n rows) caller)) (not (isRestricted (take n rows) called)))
       go true e = ap isFree (new-call e) ∙ party-free
-      go false e = refused-not-free (answerOf d rows n l room (event.SetUp caller called identifier)) (not-new e)
+      go false e = refused-not-free (answerOf d rows n l room (event.SetUp caller called identifier cause)) (not-new e)
 
   -- ---- admitted
 
   -- what a well-formed new call passes
   pub record NewCall : Type 0 where
     pub desk : deskOk d ≡ true
-    pub call : setUpOk caller called identifier ≡ true
+    pub call : setUpOk caller called identifier cause ≡ true
     pub area : ltb room 300 ≡ false
     pub records : recordsOk rows n (postsOf d) ≡ true
     pub waiting : placeOf (placesOf d) identifier .found ≡ false
 
-  pub new-passes : isNew d rows n room caller called identifier ≡ true → NewCall
+  pub new-passes : isNew d rows n room caller called identifier cause ≡ true → NewCall
   unfolding isNew noneOf
   new-passes e =
       let a = both-right (not (not (deskOk d))) _ e in
-      let b = both-right (not (not (setUpOk caller called identifier))) _ a in
+      let b = both-right (not (not (setUpOk caller called identifier cause))) _ a in
       let c = both-right (not (ltb room 300)) _ b in
       record {
         desk = not-not (deskOk d) (both-left _ _ e);
-        call = not-not (setUpOk caller called identifier) (both-left _ _ a);
+        call = not-not (setUpOk caller called identifier cause) (both-left _ _ a);
         area = not-true (ltb room 300) (both-left _ _ b);
         records = not-not (recordsOk rows n (postsOf d)) (both-left _ _ c);
         waiting = not-true (placeOf (placesOf d) identifier .found) (both-left _ _ (both-right (not (not (recordsOk rows n (postsOf d)))) _ c));
@@ -251,11 +251,11 @@ module _ (d : Desk) (rows : List Record) (n : ℕ) (l : List ℕ) (room : ℕ) (
     pub admits : admitsOf (d .profile .shares) (placesOf d) post ≡ true
     pub spot : lowestFree (placesOf d) ≡ spotAt place
 
-  pub setup-admitted : (post place : ℕ) → answerOf d rows n l room (event.SetUp caller called identifier) ≡ answer.Admitted post place → Admission post place
+  pub setup-admitted : (post place : ℕ) → answerOf d rows n l room (event.SetUp caller called identifier cause) ≡ answer.Admitted post place → Admission post place
   unfolding deskOk
-  setup-admitted post place z = go (isNew d rows n room caller called identifier) refl
+  setup-admitted post place z = go (isNew d rows n room caller called identifier cause) refl
     where
-      go : (b : Bool) → isNew d rows n room caller called identifier ≡ b → Admission post place
+      go : (b : Bool) → isNew d rows n room caller called identifier cause ≡ b → Admission post place
       go true e =
           let w = new-passes e in
           let by = party-admitted d party post place (sym (new-call e) ∙ z) in
@@ -275,15 +275,16 @@ module _ (d : Desk) (rows : List Record) (n : ℕ) (l area : List ℕ) (e : Even
       never a = not (isFree a)
 
       go : (x : Event) → isFree (answerOf d rows n l (length area) x) ≡ isFreeCall d rows n (length area) x
-      go (event.Message post bits) = not-true _ (answer-ok never (λ s p. refl) d rows n l (length area) refl (event.Message post bits) (refl, ((λ k. refl), (refl, (refl, λ k. refl)))))
-      go (event.SetUp caller called identifier) = setup-free d rows n l (length area) caller called identifier
+      go (event.Message post bits) = not-true _ (answer-ok never (λ s p. refl) d rows n l (length area) refl (event.Message post bits) (refl, ((λ k. refl), (refl, (refl, (refl, λ k. refl))))))
+      go (event.SetUp caller called identifier cause) = setup-free d rows n l (length area) caller called identifier cause
       go (event.Reject post identifier) = not-true _ (answer-ok never (λ s p. refl) d rows n l (length area) refl (event.Reject post identifier) refl)
-      go (event.Cancel identifier) = not-true _ (answer-ok never (λ s p. refl) d rows n l (length area) refl (event.Cancel identifier) refl)
+      go (event.Cancel identifier) = not-true _ (answer-ok never (λ s p. refl) d rows n l (length area) refl (event.Cancel identifier) (λ k. refl))
 
--- an admission, of whatever call: a new identifier of 14 bits, for a post that the places rule admits, at the lowest free place; a post
+-- an admission, of whatever call: a new identifier of 14 bits and a cause of 5, for a post that the places rule admits, at the lowest free place; a post
 -- that is asked second is another one
 pub record AdmittedCall (d : Desk) (spoken : Spoken) (post place : ℕ) : Type 0 where
   pub small : spoken .identifier < 2 ^ 14
+  pub caused : spoken .cause < 2 ^ 5
   pub new : waits d (spoken .identifier) ≡ false
   pub below : post < postsOf d
   pub second : spoken .second .found ≡ true → spoken .second .post < postsOf d
@@ -291,7 +292,7 @@ pub record AdmittedCall (d : Desk) (spoken : Spoken) (post place : ℕ) : Type 0
   pub admits : admitsOf (d .profile .shares) (placesOf d) post ≡ true
   pub spot : lowestFree (placesOf d) ≡ spotAt place
 
--- what it takes: the lowest free place, with the identifier, the post and the post that is asked second
+-- what it takes: the lowest free place, with the identifier, the post, the post that is asked second and the cause
 pub record Taken (d : Desk) (spoken : Spoken) (post place : ℕ) (after : Desk) : Type 0 where
   pub first : FreeFirst (placesOf d) place
   pub desk : after ≡ record { profile = d .profile; places = record { place = takeOf (placesOf d) place (callFor spoken post) } }
@@ -301,10 +302,11 @@ module _ (d : Desk) (rows : List Record) (n : ℕ) (l area : List ℕ) (post pla
   not-admitted e h z = not-both (ap never (sym (sym (step-answer d rows n l area e) ∙ z)) ∙ h)
 
   pub admitted-so : (e : Event) → stepOf d rows n l area e .answer ≡ answer.Admitted post place → AdmittedCall d (spokenOf (d .profile) (take n rows) l e) post place
-  admitted-so (event.SetUp caller called identifier) z =
-      let a = setup-admitted d rows n l (length area) caller called identifier post place (sym (step-answer d rows n l area (event.SetUp caller called identifier)) ∙ z) in
+  admitted-so (event.SetUp caller called identifier cause) z =
+      let a = setup-admitted d rows n l (length area) caller called identifier cause post place (sym (step-answer d rows n l area (event.SetUp caller called identifier cause)) ∙ z) in
       record {
-        small = setup-identifier caller called identifier (a .new .call);
+        small = setup-identifier caller called identifier cause (a .new .call);
+        caused = setup-cause caller called identifier cause (a .new .call);
         new = a .new .waiting;
         below = a .below;
         second = λ z. second-below rows n (postsOf d) caller called (a .new .records) z;
@@ -312,9 +314,9 @@ module _ (d : Desk) (rows : List Record) (n : ℕ) (l area : List ℕ) (post pla
         admits = a .admits;
         spot = a .spot;
       }
-  admitted-so (event.Message p bits) z = not-admitted (event.Message p bits) (answer-ok never (λ s p. refl) d rows n l (length area) refl (event.Message p bits) (refl, ((λ k. refl), (refl, (refl, λ k. refl))))) z
+  admitted-so (event.Message p bits) z = not-admitted (event.Message p bits) (answer-ok never (λ s p. refl) d rows n l (length area) refl (event.Message p bits) (refl, ((λ k. refl), (refl, (refl, (refl, λ k. refl)))))) z
   admitted-so (event.Reject p identifier) z = not-admitted (event.Reject p identifier) (answer-ok never (λ s p. refl) d rows n l (length area) refl (event.Reject p identifier) refl) z
-  admitted-so (event.Cancel identifier) z = not-admitted (event.Cancel identifier) (answer-ok never (λ s p. refl) d rows n l (length area) refl (event.Cancel identifier) refl) z
+  admitted-so (event.Cancel identifier) z = not-admitted (event.Cancel identifier) (answer-ok never (λ s p. refl) d rows n l (length area) refl (event.Cancel identifier) (λ k. refl)) z
 
   pub place-lowest : (e : Event) → stepOf d rows n l area e .answer ≡ answer.Admitted post place → Taken d (spokenOf (d .profile) (take n rows) l e) post place (stepOf d rows n l area e .desk)
   unfolding effectOf deskAfter

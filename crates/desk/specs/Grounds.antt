@@ -27,9 +27,10 @@ use Rattle.desk.specs.declared.Event.the-variants as event
 abbrev pub noSuchPost : Desk → ℕ → Ground
 noSuchPost d post = (2, not (ltb post (postsOf d)))
 
--- a type that posts don't send: 3, 10, 13, 16
+-- a type that posts don't send: 3, 10, 13, 16; of document 02, (iv), 11, 14, 18
 abbrev pub notSent : Value → Ground
-notSent v = (8, eqb (v .pdu) 3 || (eqb (v .pdu) 10 || (eqb (v .pdu) 13 || eqb (v .pdu) 16)))
+notSent v =
+    (8, eqb (v .pdu) 3 || (eqb (v .pdu) 10 || (eqb (v .pdu) 11 || (eqb (v .pdu) 13 || (eqb (v .pdu) 14 || (eqb (v .pdu) 16 || eqb (v .pdu) 18))))))
 
 -- output shorter than 300 bytes
 abbrev pub shortArea : ℕ → Ground
@@ -43,9 +44,9 @@ badRecords d rows n = (15, not (recordsOk rows n (postsOf d)))
 abbrev pub wideIdentifier : ℕ → Ground
 wideIdentifier identifier = (16, not (identifierOk identifier))
 
--- the same, or a party's SSI or extension over 24
-abbrev pub wideCall : Identity → Identity → ℕ → Ground
-wideCall caller called identifier = (16, not (setUpOk caller called identifier))
+-- the same, or an interception cause over 5, or a party's SSI or extension over 24
+abbrev pub wideCall : Identity → Identity → ℕ → ℕ → Ground
+wideCall caller called identifier cause = (16, not (setUpOk caller called identifier cause))
 
 -- the call waits; a call that waits does so at this post
 abbrev pub waits : Desk → ℕ → Bool
@@ -86,14 +87,15 @@ dispatchersGiven d v = (21, namesDispatchers (d .profile .air) v)
 
 -- ---- the orders, call by call
 
--- after the type: ACTIVATE 14, 15, 21; INTERROGATE 15; ACCEPT 14, 19, 20, and 18 for a move; DIVERT 14, 19, 20
+-- after the type: ACTIVATE 14, 15, 21; INTERROGATE 15; ACCEPT 14, 19, 20, and 18 for a move; DIVERT and REJECT 14, 19, 20
 abbrev pub typeOrder : Desk → List Record → ℕ → ℕ → ℕ → Value → List Ground
 typeOrder d rows n room post v =
     cond (eqb (v .pdu) 2) (shortArea room ∷ badRecords d rows n ∷ dispatchersGiven d v ∷ [])
     (cond (eqb (v .pdu) 8) (badRecords d rows n ∷ [])
     (cond (eqb (v .pdu) 12)
     (shortArea room ∷ notWaiting d (identifierIn v) ∷ waitsElsewhere d post (identifierIn v) ∷ noPlaceThere d (placeOf (placesOf d) (identifierIn v) .place))
-    (cond (eqb (v .pdu) 15) (shortArea room ∷ notWaiting d (identifierIn v) ∷ waitsElsewhere d post (identifierIn v) ∷ []) [])))
+    (cond (eqb (v .pdu) 15) (shortArea room ∷ notWaiting d (identifierIn v) ∷ waitsElsewhere d post (identifierIn v) ∷ [])
+    (cond (eqb (v .pdu) 17) (shortArea room ∷ notWaiting d (identifierIn v) ∷ waitsElsewhere d post (identifierIn v) ∷ []) []))))
 
 -- a post's message: 2, reading, 8, then by its type
 unfoldable pub messageOrder : Desk → List Record → ℕ → List ℕ → ℕ → ℕ → ℕ → List Ground
@@ -102,24 +104,25 @@ messageOrder d rows n l room post bits =
     ∷ (readingOrder (d .profile) l bits ++ afterwards (readOf (d .profile) l bits) (λ v p. notSent v ∷ typeOrder d rows n room post v))
 
 -- set-up: 16, 14, 15, 17, "free", 18
-unfoldable pub setUpOrder : Desk → List Record → ℕ → ℕ → Identity → Identity → ℕ → List Ground
-setUpOrder d rows n room caller called identifier =
-    wideCall caller called identifier ∷ shortArea room ∷ badRecords d rows n ∷ waitsAlready d identifier
+unfoldable pub setUpOrder : Desk → List Record → ℕ → ℕ → Identity → Identity → ℕ → ℕ → List Ground
+setUpOrder d rows n room caller called identifier cause =
+    wideCall caller called identifier cause ∷ shortArea room ∷ badRecords d rows n ∷ waitsAlready d identifier
     ∷ noPlaceFor d (partyFor rows n caller called)
 
--- reject: 2, 16, 19, 20
-unfoldable pub rejectOrder : Desk → ℕ → ℕ → List Ground
-rejectOrder d post identifier = noSuchPost d post ∷ wideIdentifier identifier ∷ notWaiting d identifier ∷ waitsElsewhere d post identifier ∷ []
+-- reject: 2, 16, 14, 19, 20
+unfoldable pub rejectOrder : Desk → ℕ → ℕ → ℕ → List Ground
+rejectOrder d room post identifier =
+    noSuchPost d post ∷ wideIdentifier identifier ∷ shortArea room ∷ notWaiting d identifier ∷ waitsElsewhere d post identifier ∷ []
 
--- cancel: 16, 19
-unfoldable pub cancelOrder : Desk → ℕ → List Ground
-cancelOrder d identifier = wideIdentifier identifier ∷ notWaiting d identifier ∷ []
+-- cancel: 16, 14, 19
+unfoldable pub cancelOrder : Desk → ℕ → ℕ → List Ground
+cancelOrder d room identifier = wideIdentifier identifier ∷ shortArea room ∷ notWaiting d identifier ∷ []
 
 abbrev pub eventOrder : Desk → List Record → ℕ → List ℕ → ℕ → Event → List Ground
 eventOrder d rows n l room (event.Message post bits) = messageOrder d rows n l room post bits
-eventOrder d rows n l room (event.SetUp caller called identifier) = setUpOrder d rows n room caller called identifier
-eventOrder d rows n l room (event.Reject post identifier) = rejectOrder d post identifier
-eventOrder d rows n l room (event.Cancel identifier) = cancelOrder d identifier
+eventOrder d rows n l room (event.SetUp caller called identifier cause) = setUpOrder d rows n room caller called identifier cause
+eventOrder d rows n l room (event.Reject post identifier) = rejectOrder d room post identifier
+eventOrder d rows n l room (event.Cancel identifier) = cancelOrder d room identifier
 
 -- every call: 1 before all else
 unfoldable pub orderOf : Desk → List Record → ℕ → List ℕ → ℕ → Event → List Ground
@@ -127,18 +130,18 @@ orderOf d rows n l room e = (1, not (deskOk d)) ∷ eventOrder d rows n l room e
 
 -- ---- call set-up, before the places rule
 
-abbrev pub setUpGrounds : Desk → List Record → ℕ → ℕ → Identity → Identity → ℕ → List Ground
-setUpGrounds d rows n room caller called identifier =
-    (1, not (deskOk d)) ∷ wideCall caller called identifier ∷ shortArea room ∷ badRecords d rows n ∷ waitsAlready d identifier ∷ []
+abbrev pub setUpGrounds : Desk → List Record → ℕ → ℕ → Identity → Identity → ℕ → ℕ → List Ground
+setUpGrounds d rows n room caller called identifier cause =
+    (1, not (deskOk d)) ∷ wideCall caller called identifier cause ∷ shortArea room ∷ badRecords d rows n ∷ waitsAlready d identifier ∷ []
 
 -- a well-formed new call: 1, 16, 14, 15 and 17 do not come
-unfoldable pub isNew : Desk → List Record → ℕ → ℕ → Identity → Identity → ℕ → Bool
-isNew d rows n room caller called identifier = noneOf (setUpGrounds d rows n room caller called identifier)
+unfoldable pub isNew : Desk → List Record → ℕ → ℕ → Identity → Identity → ℕ → ℕ → Bool
+isNew d rows n room caller called identifier cause = noneOf (setUpGrounds d rows n room caller called identifier cause)
 
 -- it is free if neither party is restricted
 abbrev pub isFreeCall : Desk → List Record → ℕ → ℕ → Event → Bool
-isFreeCall d rows n room (event.SetUp caller called identifier) =
-    both (isNew d rows n room caller called identifier) (both (not (isRestricted (take n rows) caller)) (not (isRestricted (take n rows) called)))
+isFreeCall d rows n room (event.SetUp caller called identifier cause) =
+    both (isNew d rows n room caller called identifier cause) (both (not (isRestricted (take n rows) caller)) (not (isRestricted (take n rows) called)))
 isFreeCall d rows n room (event.Message post bits) = false
 isFreeCall d rows n room (event.Reject post identifier) = false
 isFreeCall d rows n room (event.Cancel identifier) = false

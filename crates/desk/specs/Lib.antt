@@ -1,6 +1,7 @@
 pub mod Desks
 pub mod Numbers
 pub mod Orders
+pub mod Notices
 pub mod Grounds
 pub mod Steps
 pub mod Outputs

@@ -17,7 +17,8 @@ refusedAs n = record { number = n; plain = 0; values = [] }
 abbrev pub plainAs : ℕ → List ℕ → Paper
 plainAs k values = record { number = 0; plain = k; values = values }
 
--- a state: 0 no record, 1 another post's, 2 active, 3 not active; an admission: the post and the place; a move: the post
+-- a state: 0 no record, 1 another post's, 2 active, 3 not active; an admission: the post and the place; a cancel: the post where the call
+-- waited; a move: the post where it waits now
 abbrev pub paperOf : Answer → Paper
 paperOf (answer.Refused s) = refusedAs (s .number)
 paperOf answer.Acks = plainAs 1 []
@@ -27,7 +28,7 @@ paperOf (answer.Admitted post place) = plainAs 4 (post ∷ place ∷ [])
 paperOf answer.Proceed = plainAs 5 []
 paperOf answer.Diverted = plainAs 6 []
 paperOf answer.Rejected = plainAs 7 []
-paperOf answer.Cancelled = plainAs 8 []
+paperOf (answer.Cancelled post) = plainAs 8 (post ∷ [])
 paperOf (answer.Moved post) = plainAs 9 (post ∷ [])
 
 abbrev pub numberOf : Answer → ℕ

@@ -78,7 +78,7 @@ unfoldable pub acceptAnswer : Desk → ℕ → Answer
 acceptAnswer d place =
     cond (placeIn (placesOf d) place .more) (moveAnswer d place (placeIn (placesOf d) place .second)) answer.Proceed
 
--- ACCEPT, DIVERT: 14, 19, 20, and then what the post decided
+-- ACCEPT, DIVERT, REJECT: 14, 19, 20, and then what the post decided
 unfoldable pub decideAnswer : Desk → ℕ → ℕ → ℕ → Answer → Answer
 decideAnswer d room post identifier ended = unless (ltb room 300) 14 (endAnswer d post identifier ended)
 
@@ -88,7 +88,8 @@ sentAnswer d rows n room post v =
     cond (eqb (v .pdu) 2) (activateAnswer d rows n room v)
     (cond (eqb (v .pdu) 8) (interrogateAnswer d rows n post v)
     (cond (eqb (v .pdu) 12) (decideAnswer d room post (identifierIn v) (acceptAnswer d (placeOf (placesOf d) (identifierIn v) .place)))
-    (cond (eqb (v .pdu) 15) (decideAnswer d room post (identifierIn v) answer.Diverted) (answer.Refused (refusal 8)))))
+    (cond (eqb (v .pdu) 15) (decideAnswer d room post (identifierIn v) answer.Diverted)
+    (cond (eqb (v .pdu) 17) (decideAnswer d room post (identifierIn v) answer.Rejected) (answer.Refused (refusal 8))))))
 
 abbrev pub readAnswer : Read Value → (Value → Answer) → Answer
 readAnswer (got v n) after = after v
@@ -109,8 +110,12 @@ identifierOk i = ltb i (2 ^ 14)
 unfoldable pub partyOk : Identity → Bool
 partyOk x = both (ltb (x .ssi) (2 ^ 24)) (ltb (x .extension) (2 ^ 24))
 
-unfoldable pub setUpOk : Identity → Identity → ℕ → Bool
-setUpOk caller called identifier = both (identifierOk identifier) (both (partyOk caller) (partyOk called))
+-- the interception cause has 5
+abbrev pub causeOk : ℕ → Bool
+causeOk c = ltb c (2 ^ 5)
+
+unfoldable pub setUpOk : Identity → Identity → ℕ → ℕ → Bool
+setUpOk caller called identifier cause = both (identifierOk identifier) (both (causeOk cause) (both (partyOk caller) (partyOk called)))
 
 -- the places rule for the post: 18, or the lowest free place
 unfoldable pub admitAnswer : Desk → ℕ → Answer
@@ -121,30 +126,35 @@ admitAnswer d post =
 abbrev pub partyAnswer : Desk → Party → Answer
 partyAnswer d party = cond (party .found) (admitAnswer d (party .post)) answer.Free
 
-unfoldable pub setUpAnswer : Desk → List Record → ℕ → ℕ → Identity → Identity → ℕ → Answer
-setUpAnswer d rows n room caller called identifier =
-    unless (not (setUpOk caller called identifier)) 16
+unfoldable pub setUpAnswer : Desk → List Record → ℕ → ℕ → Identity → Identity → ℕ → ℕ → Answer
+setUpAnswer d rows n room caller called identifier cause =
+    unless (not (setUpOk caller called identifier cause)) 16
     (unless (ltb room 300) 14
     (unless (not (recordsOk rows n (postsOf d))) 15
     (unless (placeOf (placesOf d) identifier .found) 17 (partyAnswer d (restrictedOf (take n rows) (caller ∷ called ∷ []))))))
 
--- ---- reject: 2, 16, 19, 20; cancel: 16, 19
+-- ---- reject: 2, 16, 14, 19, 20; cancel: 16, 14, 19, and it names the post where the call waited
 
-unfoldable pub rejectAnswer : Desk → ℕ → ℕ → Answer
-rejectAnswer d post identifier =
-    unless (not (ltb post (postsOf d))) 2 (unless (not (identifierOk identifier)) 16 (endAnswer d post identifier answer.Rejected))
+unfoldable pub rejectAnswer : Desk → ℕ → ℕ → ℕ → Answer
+rejectAnswer d room post identifier =
+    unless (not (ltb post (postsOf d))) 2 (unless (not (identifierOk identifier)) 16 (decideAnswer d room post identifier answer.Rejected))
 
-unfoldable pub cancelAnswer : Desk → ℕ → Answer
-cancelAnswer d identifier =
-    unless (not (identifierOk identifier)) 16 (unless (not (placeOf (placesOf d) identifier .found)) 19 answer.Cancelled)
+-- the post where a call waits
+abbrev pub postAt : Desk → ℕ → ℕ
+postAt d identifier = placeIn (placesOf d) (placeOf (placesOf d) identifier .place) .post
+
+unfoldable pub cancelAnswer : Desk → ℕ → ℕ → Answer
+cancelAnswer d room identifier =
+    unless (not (identifierOk identifier)) 16
+    (unless (ltb room 300) 14 (unless (not (placeOf (placesOf d) identifier .found)) 19 (answer.Cancelled (postAt d identifier))))
 
 -- ---- every call: 1 before all else
 
 abbrev pub eventAnswer : Desk → List Record → ℕ → List ℕ → ℕ → Event → Answer
 eventAnswer d rows n l room (event.Message post bits) = messageAnswer d rows n l room post bits
-eventAnswer d rows n l room (event.SetUp caller called identifier) = setUpAnswer d rows n room caller called identifier
-eventAnswer d rows n l room (event.Reject post identifier) = rejectAnswer d post identifier
-eventAnswer d rows n l room (event.Cancel identifier) = cancelAnswer d identifier
+eventAnswer d rows n l room (event.SetUp caller called identifier cause) = setUpAnswer d rows n room caller called identifier cause
+eventAnswer d rows n l room (event.Reject post identifier) = rejectAnswer d room post identifier
+eventAnswer d rows n l room (event.Cancel identifier) = cancelAnswer d room identifier
 
 unfoldable pub answerOf : Desk → List Record → ℕ → List ℕ → ℕ → Event → Answer
 answerOf d rows n l room e = unless (not (deskOk d)) 1 (eventAnswer d rows n l room e)

@@ -14,19 +14,20 @@ use Rattle.message.specs.declared.Value.{Value}
 use Rattle.writing.specs.Writing.{bytesFor}
 use Rattle.records.specs.declared.Record.{Record}
 use Rattle.sending.specs.declared.Laid.{Laid}
-use Rattle.desk.specs.Orders.{answerOf}
-use Rattle.desk.specs.Steps.{usersOf, messagesBy, acksFor, isAcks, postOf}
+use Rattle.desk.specs.Orders.{placesOf, answerOf}
+use Rattle.desk.specs.Steps.{Spoken, usersOf, spokenOf, messagesBy, acksFor, isAcks, postOf}
 use Rattle.desk.specs.declared.Answer.{Answer}
 use Rattle.desk.specs.declared.Desk.{Desk}
 use Rattle.desk.specs.declared.Event.{Event}
 
--- what goes with an answer: the ACKs, or the one message or none of any other answer
-abbrev pub messagesFor : Desk → List Record → ℕ → Group → Answer → List Value
-messagesFor d rows post users a = cond (isAcks a) (acksFor d rows post users) (messagesBy a)
+-- what goes with an answer: the ACKs, or what any other answer sends
+abbrev pub messagesFor : Desk → List Record → ℕ → Group → Spoken → Answer → List Value
+messagesFor d rows post users s a = cond (isAcks a) (acksFor d rows post users) (messagesBy (placesOf d) s a)
 
 -- what a call sends, where the output area has so many bytes
 unfoldable pub sentBy : Desk → List Record → ℕ → List ℕ → ℕ → Event → List Value
-sentBy d rows n l room e = messagesFor d (take n rows) (postOf e) (usersOf (d .profile) l e) (answerOf d rows n l room e)
+sentBy d rows n l room e =
+    messagesFor d (take n rows) (postOf e) (usersOf (d .profile) l e) (spokenOf (d .profile) (take n rows) l e) (answerOf d rows n l room e)
 
 -- message k has so many bits
 abbrev pub bitsIn : Laid → ℕ → ℕ

@@ -7,12 +7,13 @@ use Rattle.codec.specs.Codec.{Read, got, no}
 use Rattle.codec.specs.Stops.{refusal}
 use Rattle.profile.specs.declared.Profile.{Profile}
 use Rattle.message.specs.Groups.{noGroup}
-use Rattle.message.specs.Values.{blank, noValue, identifierIn}
+use Rattle.message.specs.Numbers as place
+use Rattle.message.specs.Values.{noValue, identifierIn, numberAt}
 use Rattle.message.specs.Reading.{readOf}
 use Rattle.message.specs.declared.Group.{Group}
 use Rattle.message.specs.declared.Value.{Value}
 use Rattle.places.specs.Held.{placeIn, admitsOf}
-use Rattle.places.specs.Spots.{placeOf, lowestFree, takeOf, clearOf, moveOf}
+use Rattle.places.specs.Spots.{placeOf, lowestFree, takeOf, clearOf, movedOn, moveOf}
 use Rattle.places.specs.declared.Call.{Call}
 use Rattle.places.specs.declared.Place.{Place}
 use Rattle.records.specs.Identities.{identitiesOf}
@@ -24,6 +25,7 @@ use Rattle.records.specs.declared.Record.{Record}
 use Rattle.sending.specs.Sending.{layAll, noLaid, laidOf}
 use Rattle.sending.specs.declared.Laid.{Laid}
 use Rattle.sending.specs.Acks.{acksOf}
+use Rattle.desk.specs.Notices.{intercepted, accepted, diverted, requestOf, rejectedWith, cancelOf}
 use Rattle.desk.specs.Orders.{placesOf, answerOf}
 use Rattle.desk.specs.declared.Answer.{Answer}
 use Rattle.desk.specs.declared.Answer.the-variants as answer
@@ -49,37 +51,52 @@ valueBy (no s) = noValue
 -- the users that it names
 abbrev pub usersOf : Profile → List ℕ → Event → Group
 usersOf p l (event.Message post bits) = valueBy (readOf p l bits) .users
-usersOf p l (event.SetUp caller called identifier) = noGroup
+usersOf p l (event.SetUp caller called identifier cause) = noGroup
 usersOf p l (event.Reject post identifier) = noGroup
 usersOf p l (event.Cancel identifier) = noGroup
 
 -- the call that an event speaks of
 abbrev pub identifierOf : Profile → List ℕ → Event → ℕ
 identifierOf p l (event.Message post bits) = identifierIn (valueBy (readOf p l bits))
-identifierOf p l (event.SetUp caller called identifier) = identifier
+identifierOf p l (event.SetUp caller called identifier cause) = identifier
 identifierOf p l (event.Reject post identifier) = identifier
 identifierOf p l (event.Cancel identifier) = identifier
 
--- what is said of the call that an event speaks of: its identifier, and, of a call being set up, the post that is asked second
+-- what is said of the call that an event speaks of: its identifier; of a call being set up the post that is asked second and the
+-- interception cause, of a REJECT the rejection cause
 pub record Spoken : Type 0 where
   pub identifier : ℕ
   pub second : Party
+  pub cause : ℕ
+
+abbrev pub spokenBy : ℕ → ℕ → Spoken
+spokenBy identifier cause = record { identifier = identifier; second = noParty; cause = cause }
 
 abbrev pub named : ℕ → Spoken
-named identifier = record { identifier = identifier; second = noParty }
+named identifier = spokenBy identifier 0
+
+-- what a message says of a call
+abbrev pub saidIn : Value → Spoken
+saidIn v = spokenBy (identifierIn v) (numberAt place.cause v)
 
 abbrev pub secondFor : List Record → Event → Party
 secondFor rows (event.Message post bits) = noParty
-secondFor rows (event.SetUp caller called identifier) = secondOf rows caller called
+secondFor rows (event.SetUp caller called identifier cause) = secondOf rows caller called
 secondFor rows (event.Reject post identifier) = noParty
 secondFor rows (event.Cancel identifier) = noParty
 
+abbrev pub causeFor : Profile → List ℕ → Event → ℕ
+causeFor p l (event.Message post bits) = numberAt place.cause (valueBy (readOf p l bits))
+causeFor p l (event.SetUp caller called identifier cause) = cause
+causeFor p l (event.Reject post identifier) = 0
+causeFor p l (event.Cancel identifier) = 0
+
 abbrev pub spokenOf : Profile → List Record → List ℕ → Event → Spoken
-spokenOf p rows l e = record { identifier = identifierOf p l e; second = secondFor rows e }
+spokenOf p rows l e = record { identifier = identifierOf p l e; second = secondFor rows e; cause = causeFor p l e }
 
 -- the call that begins to wait at a post
 abbrev pub callFor : Spoken → ℕ → Call
-callFor s post = record { identifier = s .identifier; post = post; more = s .second .found; second = s .second .post }
+callFor s post = record { identifier = s .identifier; post = post; more = s .second .found; second = s .second .post; cause = s .cause }
 
 -- an admission begins, a move moves, an accept, a divert, a reject, a cancel that was answered so ends; everything else changes nothing
 abbrev pub effectBy : Spoken → Answer → Effect
@@ -91,7 +108,7 @@ effectBy s (answer.Admitted post place) = begins (callFor s post)
 effectBy s answer.Proceed = ends (s .identifier)
 effectBy s answer.Diverted = ends (s .identifier)
 effectBy s answer.Rejected = ends (s .identifier)
-effectBy s answer.Cancelled = ends (s .identifier)
+effectBy s (answer.Cancelled post) = ends (s .identifier)
 effectBy s (answer.Moved post) = moves (s .identifier)
 
 unfoldable pub effectOf : Profile → List Record → List ℕ → Event → Answer → Effect
@@ -109,24 +126,25 @@ deskAfter d x = record { profile = d .profile; places = record { place = placesA
 
 -- ---- every answer but that of an ACTIVATE
 
--- the message that goes with it: INTERCEPTED with cause 0, ACCEPTED, DIVERTED with cause 0, none with an option
-abbrev pub messagesBy : Answer → List Value
-messagesBy (answer.Refused s) = []
-messagesBy answer.Acks = []
-messagesBy (answer.State k) = []
-messagesBy answer.Free = []
-messagesBy (answer.Admitted post place) = blank 10 ∷ []
-messagesBy answer.Proceed = blank 13 ∷ []
-messagesBy answer.Diverted = blank 16 ∷ []
-messagesBy answer.Rejected = []
-messagesBy answer.Cancelled = []
-messagesBy (answer.Moved post) = []
+-- the messages that go with it: an admitted call's INTERCEPTED and REQUEST, a moved one's REQUEST, as its place has it; REJECTED with the
+-- cause that was said; CANCEL
+abbrev pub messagesBy : List Place → Spoken → Answer → List Value
+messagesBy places s (answer.Refused t) = []
+messagesBy places s answer.Acks = []
+messagesBy places s (answer.State k) = []
+messagesBy places s answer.Free = []
+messagesBy places s (answer.Admitted post place) = intercepted ∷ requestOf (callFor s post) ∷ []
+messagesBy places s answer.Proceed = accepted ∷ []
+messagesBy places s answer.Diverted = diverted ∷ []
+messagesBy places s answer.Rejected = rejectedWith (s .cause) ∷ []
+messagesBy places s (answer.Cancelled post) = cancelOf (s .identifier) ∷ []
+messagesBy places s (answer.Moved post) = requestOf (movedOn (placeIn places (placeOf places (s .identifier) .place))) ∷ []
 
 unfoldable pub plainStep : Desk → Spoken → Answer → Stepped
-plainStep d s a = record { answer = a; laid = laidOf (d .profile .air) (messagesBy a); desk = deskAfter d (effectBy s a); marks = noMarks }
+plainStep d s a = record { answer = a; laid = laidOf (d .profile .air) (messagesBy (placesOf d) s a); desk = deskAfter d (effectBy s a); marks = noMarks }
 
-unfoldable pub plainArea : Desk → List ℕ → Answer → List ℕ
-plainArea d area a = layAll (d .profile .air) area (messagesBy a)
+unfoldable pub plainArea : Desk → Spoken → List ℕ → Answer → List ℕ
+plainArea d s area a = layAll (d .profile .air) area (messagesBy (placesOf d) s a)
 
 -- ---- an ACTIVATE that is carried out: its ACKs, and the marks of the accepted ones
 
@@ -156,21 +174,21 @@ isAcks (answer.Admitted post place) = false
 isAcks answer.Proceed = false
 isAcks answer.Diverted = false
 isAcks answer.Rejected = false
-isAcks answer.Cancelled = false
+isAcks (answer.Cancelled post) = false
 isAcks (answer.Moved post) = false
 
 -- to a call from a post, of these users, that speaks of this call
 unfoldable pub stepBy : Desk → List Record → ℕ → Group → Spoken → Answer → Stepped
 stepBy d rows post users s a = cond (isAcks a) (acksStep d rows post users) (plainStep d s a)
 
-unfoldable pub areaBy : Desk → List Record → ℕ → Group → List ℕ → Answer → List ℕ
-areaBy d rows post users area a = cond (isAcks a) (acksArea d rows post users area) (plainArea d area a)
+unfoldable pub areaBy : Desk → List Record → ℕ → Group → Spoken → List ℕ → Answer → List ℕ
+areaBy d rows post users s area a = cond (isAcks a) (acksArea d rows post users area) (plainArea d s area a)
 
 -- ---- every call
 
 abbrev pub postOf : Event → ℕ
 postOf (event.Message post bits) = post
-postOf (event.SetUp caller called identifier) = 0
+postOf (event.SetUp caller called identifier cause) = 0
 postOf (event.Reject post identifier) = post
 postOf (event.Cancel identifier) = 0
 
@@ -179,7 +197,8 @@ stepOf d rows n l area e =
     stepBy d (take n rows) (postOf e) (usersOf (d .profile) l e) (spokenOf (d .profile) (take n rows) l e) (answerOf d rows n l (length area) e)
 
 unfoldable pub areaAfter : Desk → List Record → ℕ → List ℕ → List ℕ → Event → List ℕ
-areaAfter d rows n l area e = areaBy d (take n rows) (postOf e) (usersOf (d .profile) l e) area (answerOf d rows n l (length area) e)
+areaAfter d rows n l area e =
+    areaBy d (take n rows) (postOf e) (usersOf (d .profile) l e) (spokenOf (d .profile) (take n rows) l e) area (answerOf d rows n l (length area) e)
 
 -- ---- the same, as the code has it
 
@@ -191,20 +210,28 @@ keeps d a = record { answer = a; laid = noLaid; desk = d; marks = noMarks }
 unfoldable pub endedStep : Desk → ℕ → Answer → Laid → Stepped
 endedStep d place a x = record { answer = a; laid = x; desk = record { profile = d .profile; places = record { place = clearOf (placesOf d) place } }; marks = noMarks }
 
--- the call in the place moves to its second post, or is refused with 18 and stays
-unfoldable pub movedStep : Desk → ℕ → ℕ → Stepped
-movedStep d place second =
-    cond (admitsOf (d .profile .shares) (clearOf (placesOf d) place) second)
+-- the call p in the place moves to its second post, with a REQUEST, or is refused with 18 and stays
+unfoldable pub movedStep : Desk → ℕ → Place → Stepped
+movedStep d place p =
+    cond (admitsOf (d .profile .shares) (clearOf (placesOf d) place) (p .second))
     (record {
-      answer = answer.Moved second;
-      laid = noLaid;
+      answer = answer.Moved (p .second);
+      laid = laidOf (d .profile .air) (requestOf (movedOn p) ∷ []);
       desk = record { profile = d .profile; places = record { place = moveOf (placesOf d) place } };
       marks = noMarks;
     })
     (keeps d (answer.Refused (refusal 18)))
 
+unfoldable pub movedArea : Desk → ℕ → Place → List ℕ → List ℕ
+movedArea d place p area =
+    cond (admitsOf (d .profile .shares) (clearOf (placesOf d) place) (p .second)) (layAll (d .profile .air) area (requestOf (movedOn p) ∷ [])) area
+
 -- the post where it waits accepts the call in the place
 unfoldable pub acceptedStep : Desk → ℕ → Stepped
 acceptedStep d place =
-    cond (placeIn (placesOf d) place .more) (movedStep d place (placeIn (placesOf d) place .second))
-    (endedStep d place answer.Proceed (laidOf (d .profile .air) (messagesBy answer.Proceed)))
+    cond (placeIn (placesOf d) place .more) (movedStep d place (placeIn (placesOf d) place))
+    (endedStep d place answer.Proceed (laidOf (d .profile .air) (accepted ∷ [])))
+
+unfoldable pub acceptedArea : Desk → ℕ → List ℕ → List ℕ
+acceptedArea d place area =
+    cond (placeIn (placesOf d) place .more) (movedArea d place (placeIn (placesOf d) place) area) (layAll (d .profile .air) area (accepted ∷ []))

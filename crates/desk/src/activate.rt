@@ -5,10 +5,9 @@ ghost use Prim.Native.Nat.{_≤_};
 ghost use lib.ListN.{length, take};
 ghost use Rattle.profile.specs.Rules.{profileOk};
 ghost use Rattle.message.specs.Groups.{groupC};
-ghost use Rattle.message.specs.Values.{identifierIn};
 ghost use Rattle.validity.specs.Validity.{validOf};
 ghost use Rattle.desk.specs.Orders.{someoneBy, namesDispatchers, activateAnswer};
-ghost use Rattle.desk.specs.Steps.{named, acksStep, acksArea, stepBy, areaBy};
+ghost use Rattle.desk.specs.Steps.{saidIn, acksStep, acksArea, stepBy, areaBy};
 use crate::Answer;
 use crate::Desk;
 use crate::Stepped;
@@ -29,8 +28,8 @@ pub(crate) fn activate(
     out: &mut [u8],
 ) -> Stepped
     requires { ⌜ (profileOk (desk .profile) ≡ true) × ((validOf (desk .profile .air) value ≡ true) × (value .pdu ≡ 2)) ⌝ }
-    ensures { λ r. ⌜ (r ≡ stepBy desk (take count rows) post (value .users) (named (identifierIn value)) (activateAnswer desk rows count (length (now (out .entry))) value))
-        × (now (out .exit) ≡ areaBy desk (take count rows) post (value .users) (now (out .entry)) (activateAnswer desk rows count (length (now (out .entry))) value)) ⌝ }
+    ensures { λ r. ⌜ (r ≡ stepBy desk (take count rows) post (value .users) (saidIn value) (activateAnswer desk rows count (length (now (out .entry))) value))
+        × (now (out .exit) ≡ areaBy desk (take count rows) post (value .users) (saidIn value) (now (out .entry)) (activateAnswer desk rows count (length (now (out .entry))) value)) ⌝ }
 {
     let profile = desk.profile;
     let air = profile.air;

@@ -19,6 +19,7 @@ use sending::Laid;
 mod activate;
 mod ending;
 mod kept;
+mod notice;
 mod posted;
 mod setup;
 
@@ -44,6 +45,7 @@ pub enum Event {
         caller: Identity,
         called: Identity,
         identifier: u32,
+        cause: u32,
     },
     Reject {
         post: u64,
@@ -64,7 +66,7 @@ pub enum Answer {
     Proceed,
     Diverted,
     Rejected,
-    Cancelled,
+    Cancelled { post: u8 },
     Moved { post: u8 },
 }
 
@@ -117,9 +119,10 @@ pub fn step(
                 caller,
                 called,
                 identifier,
-            } => { setup::set_up(desk, rows, count, out, caller, called, identifier) }
-            Event::Reject { post, identifier } => ending::reject(desk, post, identifier),
-            Event::Cancel { identifier } => ending::cancel(desk, identifier),
+                cause,
+            } => { setup::set_up(desk, rows, count, out, caller, called, identifier, cause) }
+            Event::Reject { post, identifier } => ending::reject(desk, post, identifier, out),
+            Event::Cancel { identifier } => ending::cancel(desk, identifier, out),
         };
     }
     kept::refused(desk, codec::refuse(1))

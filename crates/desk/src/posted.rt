@@ -2,12 +2,11 @@
 ghost use mathlib.Core.Path.{_≡_};
 ghost use mathlib.Core.Bool.{true};
 ghost use lib.ListN.{length, take};
-ghost use Rattle.profile.specs.Rules.{profileOk};
-ghost use Rattle.message.specs.Values.{identifierIn};
 ghost use Rattle.message.specs.Reading.{readOf};
 ghost use Rattle.validity.specs.Validity.{validOf};
+ghost use Rattle.desk.specs.Desks.{deskOk};
 ghost use Rattle.desk.specs.Orders.{interrogateAnswer, sentAnswer, messageAnswer};
-ghost use Rattle.desk.specs.Steps.{valueBy, named, plainStep, stepBy, areaBy};
+ghost use Rattle.desk.specs.Steps.{valueBy, saidIn, plainStep, stepBy, areaBy};
 use crate::Answer;
 use crate::Desk;
 use crate::Stepped;
@@ -26,9 +25,9 @@ pub(crate) fn post_message(
     post: u64,
     bits: u64,
 ) -> Stepped
-    requires { ⌜ profileOk (desk .profile) ≡ true ⌝ }
-    ensures { λ r. ⌜ (r ≡ stepBy desk (take count rows) post (valueBy (readOf (desk .profile) (now (message .entry)) bits) .users) (named (identifierIn (valueBy (readOf (desk .profile) (now (message .entry)) bits)))) (messageAnswer desk rows count (now (message .entry)) (length (now (out .entry))) post bits))
-        × (now (out .exit) ≡ areaBy desk (take count rows) post (valueBy (readOf (desk .profile) (now (message .entry)) bits) .users) (now (out .entry)) (messageAnswer desk rows count (now (message .entry)) (length (now (out .entry))) post bits)) ⌝ }
+    requires { ⌜ deskOk desk ≡ true ⌝ }
+    ensures { λ r. ⌜ (r ≡ stepBy desk (take count rows) post (valueBy (readOf (desk .profile) (now (message .entry)) bits) .users) (saidIn (valueBy (readOf (desk .profile) (now (message .entry)) bits))) (messageAnswer desk rows count (now (message .entry)) (length (now (out .entry))) post bits))
+        × (now (out .exit) ≡ areaBy desk (take count rows) post (valueBy (readOf (desk .profile) (now (message .entry)) bits) .users) (saidIn (valueBy (readOf (desk .profile) (now (message .entry)) bits))) (now (out .entry)) (messageAnswer desk rows count (now (message .entry)) (length (now (out .entry))) post bits)) ⌝ }
 {
     let profile = desk.profile;
     let shares = profile.shares;
@@ -53,9 +52,9 @@ fn sent(
     post: u8,
     value: Value,
 ) -> Stepped
-    requires { ⌜ (profileOk (desk .profile) ≡ true) × (validOf (desk .profile .air) value ≡ true) ⌝ }
-    ensures { λ r. ⌜ (r ≡ stepBy desk (take count rows) post (value .users) (named (identifierIn value)) (sentAnswer desk rows count (length (now (out .entry))) post value))
-        × (now (out .exit) ≡ areaBy desk (take count rows) post (value .users) (now (out .entry)) (sentAnswer desk rows count (length (now (out .entry))) post value)) ⌝ }
+    requires { ⌜ (deskOk desk ≡ true) × (validOf (desk .profile .air) value ≡ true) ⌝ }
+    ensures { λ r. ⌜ (r ≡ stepBy desk (take count rows) post (value .users) (saidIn value) (sentAnswer desk rows count (length (now (out .entry))) post value))
+        × (now (out .exit) ≡ areaBy desk (take count rows) post (value .users) (saidIn value) (now (out .entry)) (sentAnswer desk rows count (length (now (out .entry))) post value)) ⌝ }
 {
     let pdu = value.pdu;
     if pdu == 2 {
@@ -65,18 +64,17 @@ fn sent(
         return interrogate(desk, rows, count, post, value);
     }
     if pdu == 12 {
-        return ending::accept(
-            desk,
-            post,
-            message::number_at(value, message::IDENTIFIER_AT),
-            out,
-        );
+        return ending::accept(desk, post, value, out);
     }
     if pdu == 15 {
-        return ending::divert(
+        return ending::divert(desk, post, value, out);
+    }
+    if pdu == 17 {
+        return ending::rejected(
             desk,
             post,
             message::number_at(value, message::IDENTIFIER_AT),
+            message::number_at(value, message::CAUSE_AT),
             out,
         );
     }
@@ -84,7 +82,7 @@ fn sent(
 }
 
 fn interrogate(desk: Desk, rows: [Record; 128], count: usize, post: u8, value: Value) -> Stepped
-    ensures { λ r. ⌜ r ≡ plainStep desk (named (identifierIn value)) (interrogateAnswer desk rows count post value) ⌝ }
+    ensures { λ r. ⌜ r ≡ plainStep desk (saidIn value) (interrogateAnswer desk rows count post value) ⌝ }
 {
     let profile = desk.profile;
     let air = profile.air;

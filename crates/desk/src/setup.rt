@@ -11,6 +11,7 @@ use crate::Answer;
 use crate::Desk;
 use crate::Stepped;
 use crate::kept;
+use crate::notice;
 use places::Call;
 use records::Identity;
 use records::Party;
@@ -24,15 +25,16 @@ pub(crate) fn set_up(
     caller: Identity,
     called: Identity,
     identifier: u32,
+    cause: u32,
 ) -> Stepped
     requires { ⌜ profileOk (desk .profile) ≡ true ⌝ }
-    ensures { λ r. ⌜ (r ≡ plainStep desk (record { identifier = identifier; second = secondOf (take count rows) caller called }) (setUpAnswer desk rows count (length (now (out .entry))) caller called identifier))
-        × (now (out .exit) ≡ plainArea desk (now (out .entry)) (setUpAnswer desk rows count (length (now (out .entry))) caller called identifier)) ⌝ }
+    ensures { λ r. ⌜ (r ≡ plainStep desk (record { identifier = identifier; second = secondOf (take count rows) caller called; cause = cause }) (setUpAnswer desk rows count (length (now (out .entry))) caller called identifier cause))
+        × (now (out .exit) ≡ plainArea desk (record { identifier = identifier; second = secondOf (take count rows) caller called; cause = cause }) (now (out .entry)) (setUpAnswer desk rows count (length (now (out .entry))) caller called identifier cause)) ⌝ }
 {
     let profile = desk.profile;
     let shares = profile.shares;
     let places = desk.places;
-    let formed = set_up_ok(caller, called, identifier);
+    let formed = set_up_ok(caller, called, identifier, cause);
     let sound = records::records_ok(rows, count, shares.posts);
     let waiting = places::place_of(places, identifier);
     let party = records::restricted(rows, count, caller, called);
@@ -50,16 +52,24 @@ pub(crate) fn set_up(
         return kept::refused(desk, codec::refuse(17));
     }
     if party.found {
-        return admit(desk, party.post, second, identifier, out);
+        return admit(desk, party.post, second, identifier, cause, out);
     }
     kept::keeps(desk, Answer::Free)
 }
 
-// The places rule for the post, and the lowest free place; `second` is the post asked after this one.
-fn admit(desk: Desk, post: u8, second: Party, identifier: u32, out: &mut [u8]) -> Stepped
-    requires { ⌜ (profileOk (desk .profile) ≡ true) × ((identifier < 2 ^ 14) × (300 ≤ length (now out))) ⌝ }
-    ensures { λ r. ⌜ (r ≡ plainStep desk (record { identifier = identifier; second = second }) (admitAnswer desk post))
-        × (now (out .exit) ≡ plainArea desk (now (out .entry)) (admitAnswer desk post)) ⌝ }
+// The places rule for the post, and the lowest free place; `second` is the post asked after this one. INTERCEPTED goes to the caller, REQUEST
+// to the post.
+fn admit(
+    desk: Desk,
+    post: u8,
+    second: Party,
+    identifier: u32,
+    cause: u32,
+    out: &mut [u8],
+) -> Stepped
+    requires { ⌜ (profileOk (desk .profile) ≡ true) × ((identifier < 2 ^ 14) × ((cause < 2 ^ 5) × (300 ≤ length (now out)))) ⌝ }
+    ensures { λ r. ⌜ (r ≡ plainStep desk (record { identifier = identifier; second = second; cause = cause }) (admitAnswer desk post))
+        × (now (out .exit) ≡ plainArea desk (record { identifier = identifier; second = second; cause = cause }) (now (out .entry)) (admitAnswer desk post)) ⌝ }
 {
     let profile = desk.profile;
     let shares = profile.shares;
@@ -69,12 +79,14 @@ fn admit(desk: Desk, post: u8, second: Party, identifier: u32, out: &mut [u8]) -
     }
     let at = places::lowest_free(places);
     let intercepted = message::blank(10);
-    let laid = sending::send(profile, sending::no_laid(), intercepted, out);
+    let first = sending::send(profile, sending::no_laid(), intercepted, out);
+    let laid = sending::send(profile, first, notice::request(identifier, cause), out);
     let call = Call {
         identifier: identifier as u16,
         post: post,
         more: second.found,
         second: second.post,
+        cause: cause as u8,
     };
     let next = places::take(places, at.place, call);
     Stepped {
@@ -92,10 +104,13 @@ fn admit(desk: Desk, post: u8, second: Party, identifier: u32, out: &mut [u8]) -
 }
 
 // 16 does not come.
-fn set_up_ok(caller: Identity, called: Identity, identifier: u32) -> bool
-    ensures { λ r. ⌜ r ≡ setUpOk caller called identifier ⌝ }
+fn set_up_ok(caller: Identity, called: Identity, identifier: u32, cause: u32) -> bool
+    ensures { λ r. ⌜ r ≡ setUpOk caller called identifier cause ⌝ }
 {
     if identifier < 0x4000 {} else {
+        return false;
+    }
+    if cause < 0x20 {} else {
         return false;
     }
     if party_ok(caller) {

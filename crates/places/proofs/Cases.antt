@@ -22,14 +22,18 @@ use Rattle.places.specs.declared.Spot.{Spot}
 
 -- a call with this identifier, at this post, and the place where it waits
 abbrev pub at : ℕ → ℕ → places.Call
-at identifier post = record { identifier = identifier; post = post; more = false; second = 0 }
+at identifier post = record { identifier = identifier; post = post; more = false; second = 0; cause = 0 }
 
 abbrev pub call : ℕ → ℕ → Place
 call identifier post = placeFor (at identifier post)
 
 -- the same, with a post that is asked second
 abbrev pub call-then : ℕ → ℕ → ℕ → Place
-call-then identifier post second = record { used = true; identifier = identifier; post = post; more = true; second = second }
+call-then identifier post second = record { used = true; identifier = identifier; post = post; more = true; second = second; cause = 0 }
+
+-- a call with a cause, and maybe a second post
+abbrev pub call-with : ℕ → ℕ → Bool → ℕ → ℕ → Place
+call-with identifier post more second cause = record { used = true; identifier = identifier; post = post; more = more; second = second; cause = cause }
 
 -- as many calls, waiting at a post, with identifiers from k on
 abbrev pub calls : ℕ → ℕ → ℕ → List Place
@@ -129,7 +133,7 @@ meant (bad l) = false
 
 -- a free place that still holds something
 abbrev pub left : ℕ → ℕ → Place
-left identifier post = record { used = false; identifier = identifier; post = post; more = true; second = 9 }
+left identifier post = record { used = false; identifier = identifier; post = post; more = true; second = 9; cause = 32 }
 
 abbrev pub grounds : List Ground
 grounds =
@@ -148,8 +152,13 @@ grounds =
     ∷ good (desk (call-then 5 0 1 ∷ []))
     ∷ bad (desk (call-then 5 0 2 ∷ []))
     ∷ bad (set noPlaces 31 (call-then 5 0 255))
-    ∷ good (desk (record { used = true; identifier = 5; post = 0; more = false; second = 2 } ∷ []))
+    ∷ good (desk (record { used = true; identifier = 5; post = 0; more = false; second = 2; cause = 0 } ∷ []))
     ∷ good (desk (call-then 5 1 1 ∷ []))
+    -- a cause of 5 bits, and of 6, in the first place and in the last; of 8 where a second post is asked
+    ∷ good (desk (call-with 5 0 false 0 31 ∷ []))
+    ∷ bad (desk (call-with 5 0 false 0 32 ∷ []))
+    ∷ bad (set noPlaces 31 (call-with 5 0 false 0 32))
+    ∷ bad (desk (call-with 5 0 true 1 255 ∷ []))
     -- two waiting calls with one identifier, beside each other and far apart, at one post and at two; one of them in a free place
     ∷ good (desk (call 5 0 ∷ call 6 0 ∷ []))
     ∷ bad (desk (call 5 0 ∷ call 5 0 ∷ []))
@@ -220,9 +229,9 @@ pub changes-right : takeOf (takeOf noPlaces 3 (at 5 1)) 3 (at 6 0) ∷ takeOf no
 unfolding noPlaces takeOf clearOf
 changes-right = refl
 
--- a call that moves keeps its place and its identifier, waits at the second post, and has no second; number 32 is no place
-pub moves-right : moveOf (set noPlaces 3 (call-then 5 0 1)) 3 ∷ moveOf (set noPlaces 3 (call-then 5 1 1)) 3 ∷ moveOf (two 28 4) 32 ∷ []
-    ≡ set noPlaces 3 (call 5 1) ∷ set noPlaces 3 (call 5 1) ∷ two 28 4 ∷ []
+-- a call that moves keeps its place, its identifier and its cause, waits at the second post, and has no second; number 32 is no place
+pub moves-right : moveOf (set noPlaces 3 (call-with 5 0 true 1 2)) 3 ∷ moveOf (set noPlaces 3 (call-then 5 1 1)) 3 ∷ moveOf (two 28 4) 32 ∷ []
+    ≡ set noPlaces 3 (call-with 5 1 false 0 2) ∷ set noPlaces 3 (call 5 1) ∷ two 28 4 ∷ []
 unfolding noPlaces placeIn takeOf moveOf
 moves-right = refl
 

@@ -48,6 +48,6 @@ move-keeps shares l n identifier i ok at two a =
     let w = passes shares l ok .calls i (f .inside) (f .used) in
     subst (λ (m : List Place). placesOk shares m ≡ true) (sym (move-is l i))
     (take-keeps-at shares (clearOf l i) (length-clear l i ∙ n) i (movedOn (placeIn l i)) (clear-keeps shares l n i ok)
-    (record { small = w .small; below = w .second two; second = λ z. not-both z })
+    (record { small = w .small; below = w .second two; second = λ z. not-both z; cause = w .cause })
     (ap (λ (k : ℕ). placeOf (clearOf l i) k .found) (f .same) ∙ place-clear-own l i shares ok identifier at)
     a (f .inside) (ap (λ (p : Place). p .used) (clear-free l i)))

@@ -16,7 +16,7 @@ use Rattle.profile.specs.Rules.{shareOk, shareIn, sharesOk}
 use Rattle.profile.specs.declared.Shares.{Shares}
 use Rattle.profile.proofs.CountLaws.{every-at}
 use Rattle.places.specs.Held.{noPlace, placeIn, noPlaces, waitsAt, heldOf, usedOf, freeOf, owedOf, owedAll, owedOthers, loadOf, admitsOf}
-use Rattle.places.specs.Grounds.{secondOk, callOk, apart, aloneAt, underCeiling, placesOk}
+use Rattle.places.specs.Grounds.{secondOk, waitingOk, callOk, apart, aloneAt, underCeiling, placesOk}
 use Rattle.places.specs.Spots.{spotAt, placeOf, lowestFree, placeFor, takeOf, clearOf}
 use Rattle.places.specs.declared.Call.{Call}
 use Rattle.places.specs.declared.Place.{Place}
@@ -31,6 +31,7 @@ pub record Sound (posts : ℕ) (p : Place) : Type 0 where
   pub small : p .identifier < 2 ^ 14
   pub below : p .post < posts
   pub second : p .more ≡ true → p .second < posts
+  pub cause : p .cause < 2 ^ 5
 
 second-ok : (posts : ℕ) (p : Place) → (p .more ≡ true → p .second < posts) → secondOk posts p ≡ true
 unfolding secondOk
@@ -48,29 +49,30 @@ call-ok : (posts : ℕ) (p : Place) → (p .used ≡ true → Sound posts p) →
 unfolding callOk
 call-ok posts p h = go (p .used) refl
   where
-    go : (b : Bool) → p .used ≡ b → cond b (both (ltb (p .identifier) (2 ^ 14)) (both (ltb (p .post) posts) (secondOk posts p))) true ≡ true
-    go true e = let w = h e in both-true _ _ (lt-ltb _ _ (w .small)) (both-true _ _ (lt-ltb _ _ (w .below)) (second-ok posts p (w .second)))
+    go : (b : Bool) → p .used ≡ b → cond b (waitingOk posts p) true ≡ true
+    go true e = let w = h e in both-true _ _ (lt-ltb _ _ (w .small)) (both-true _ _ (lt-ltb _ _ (w .below)) (both-true _ _ (second-ok posts p (w .second)) (lt-ltb _ _ (w .cause))))
     go false e = refl
 
 call-fact : (posts : ℕ) (p : Place) → callOk posts p ≡ true → p .used ≡ true → Sound posts p
 unfolding callOk
 call-fact posts p e u =
-    let k : both (ltb (p .identifier) (2 ^ 14)) (both (ltb (p .post) posts) (secondOk posts p)) ≡ true =
-    ap (λ (b : Bool). cond b (both (ltb (p .identifier) (2 ^ 14)) (both (ltb (p .post) posts) (secondOk posts p))) true) (sym u) ∙ e in
+    let k : waitingOk posts p ≡ true =
+    ap (λ (b : Bool). cond b (waitingOk posts p) true) (sym u) ∙ e in
     let m = both-right (ltb (p .identifier) (2 ^ 14)) _ k in
-    record { small = ltb-true _ _ (both-left _ _ k); below = ltb-true _ _ (both-left _ _ m); second = second-fact posts p (both-right (ltb (p .post) posts) _ m) }
+    let o = both-right (ltb (p .post) posts) _ m in
+    record { small = ltb-true _ _ (both-left _ _ k); below = ltb-true _ _ (both-left _ _ m); second = second-fact posts p (both-left _ _ o); cause = ltb-true _ _ (both-right (secondOk posts p) _ o) }
 
 -- the same, ground by ground
 
 module _ (posts : ℕ) (p : Place) where
   pub call-free : p .used ≡ false → true ≡ callOk posts p
   unfolding callOk
-  call-free u = sym (ap (λ (b : Bool). cond b (both (ltb (p .identifier) (2 ^ 14)) (both (ltb (p .post) posts) (secondOk posts p))) true) u)
+  call-free u = sym (ap (λ (b : Bool). cond b (waitingOk posts p) true) u)
 
   module _ (u : p .used ≡ true) where
-    call-used : callOk posts p ≡ both (ltb (p .identifier) (2 ^ 14)) (both (ltb (p .post) posts) (secondOk posts p))
+    call-used : callOk posts p ≡ waitingOk posts p
     unfolding callOk
-    call-used = ap (λ (b : Bool). cond b (both (ltb (p .identifier) (2 ^ 14)) (both (ltb (p .post) posts) (secondOk posts p))) true) u
+    call-used = ap (λ (b : Bool). cond b (waitingOk posts p) true) u
 
     pub call-wide : 2 ^ 14 ≤ p .identifier → false ≡ callOk posts p
     unfolding both
@@ -80,9 +82,14 @@ module _ (posts : ℕ) (p : Place) where
     unfolding both
     call-past h k = sym (call-used ∙ rw (lt-ltb (p .identifier) (2 ^ 14) h, le-ltb (p .post) posts k) refl)
 
-    pub call-second : p .identifier < 2 ^ 14 → p .post < posts → (b : Bool) → b ≡ secondOk posts p → b ≡ callOk posts p
-    unfolding both
-    call-second h k b z = z ∙ sym (call-used ∙ rw (lt-ltb (p .identifier) (2 ^ 14) h, lt-ltb (p .post) posts k) refl)
+    module _ (h : p .identifier < 2 ^ 14) (k : p .post < posts) where
+      pub call-second : (b : Bool) → b ≡ secondOk posts p → b ≡ false → false ≡ callOk posts p
+      unfolding both
+      call-second b z e = sym (call-used ∙ rw (lt-ltb (p .identifier) (2 ^ 14) h, lt-ltb (p .post) posts k, sym z ∙ e) refl)
+
+      pub call-cause : (b : Bool) → b ≡ secondOk posts p → b ≡ true → ltb (p .cause) (2 ^ 5) ≡ callOk posts p
+      unfolding both
+      call-cause b z e = sym (call-used ∙ rw (lt-ltb (p .identifier) (2 ^ 14) h, lt-ltb (p .post) posts k, sym z ∙ e) refl)
 
 abbrev Differ : Place → Place → Type 0
 Differ p q = p .used ≡ true → q .used ≡ true → p .identifier ≡ q .identifier → ⊥

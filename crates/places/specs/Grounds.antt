@@ -15,9 +15,13 @@ use Rattle.places.specs.declared.Place.{Place}
 unfoldable pub secondOk : ℕ → Place → Bool
 secondOk posts p = cond (p .more) (ltb (p .second) posts) true
 
--- a waiting call has an identifier of 14 bits and a post below the number of posts, and so has its second post, if it has one
+-- a waiting call has an identifier of 14 bits, a post below the number of posts, and so its second post, if it has one, and an interception
+-- cause of 5 bits (document 02, iv)
+abbrev pub waitingOk : ℕ → Place → Bool
+waitingOk posts p = both (ltb (p .identifier) (2 ^ 14)) (both (ltb (p .post) posts) (both (secondOk posts p) (ltb (p .cause) (2 ^ 5))))
+
 unfoldable pub callOk : ℕ → Place → Bool
-callOk posts p = cond (p .used) (both (ltb (p .identifier) (2 ^ 14)) (both (ltb (p .post) posts) (secondOk posts p))) true
+callOk posts p = cond (p .used) (waitingOk posts p) true
 
 -- two places hold no two waiting calls with one identifier
 unfoldable pub apart : Place → Place → Bool

@@ -12,7 +12,7 @@ use Rattle.places.specs.declared.Place.{Place}
 
 -- a free place, all zero
 abbrev pub noPlace : Place
-noPlace = record { used = false; identifier = 0; post = 0; more = false; second = 0 }
+noPlace = record { used = false; identifier = 0; post = 0; more = false; second = 0; cause = 0 }
 
 -- the place numbered i
 unfoldable pub placeIn : List Place → ℕ → Place

@@ -45,7 +45,7 @@ spotOf n = cond (ltb n 32) (spotAt n) noSpot
 
 -- the place where this call waits
 abbrev pub placeFor : Call → Place
-placeFor x = record { used = true; identifier = x .identifier; post = x .post; more = x .more; second = x .second }
+placeFor x = record { used = true; identifier = x .identifier; post = x .post; more = x .more; second = x .second; cause = x .cause }
 
 -- a place taken is overwritten whole, one that is freed becomes all zero; there is no place from number 32 on
 unfoldable pub takeOf : List Place → ℕ → Call → List Place
@@ -54,9 +54,10 @@ takeOf places at x = set places at (placeFor x)
 unfoldable pub clearOf : List Place → ℕ → List Place
 clearOf places at = set places at noPlace
 
--- a call moves (document 02, iii): the place is kept, and there the call waits at its second post, and has no second any more
+-- a call moves (document 02, iii): the place is kept, and there the call waits at its second post with its cause, and has no second any
+-- more
 abbrev pub movedOn : Place → Call
-movedOn p = record { identifier = p .identifier; post = p .second; more = false; second = 0 }
+movedOn p = record { identifier = p .identifier; post = p .second; more = false; second = 0; cause = p .cause }
 
 unfoldable pub moveOf : List Place → ℕ → List Place
 moveOf places at = takeOf places at (movedOn (placeIn places at))

@@ -8,7 +8,7 @@ use crate::Place;
 use crate::count;
 use profile::Shares;
 
-// Every waiting call has an identifier of 14 bits, and its post and its second post are below the number of posts.
+// Every waiting call has an identifier of 14 bits and a cause of 5, and its post and its second post are below the number of posts.
 pub(crate) fn calls_ok(posts: u8, list: [Place; 32]) -> bool
     ensures { λ r. ⌜ r ≡ every 32 (λ i. callOk posts (placeIn list i)) ⌝ }
 {
@@ -35,7 +35,10 @@ fn call_ok(posts: u8, p: Place) -> bool
     if p.post < posts {} else {
         return false;
     }
-    second_ok(posts, p)
+    if second_ok(posts, p) {
+        return p.cause < 0x20;
+    }
+    false
 }
 
 fn second_ok(posts: u8, p: Place) -> bool

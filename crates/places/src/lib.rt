@@ -21,6 +21,7 @@ pub struct Place {
     pub post: u8,
     pub more: bool,
     pub second: u8,
+    pub cause: u8,
 }
 
 pub const FREE: Place = Place {
@@ -29,15 +30,17 @@ pub const FREE: Place = Place {
     post: 0,
     more: false,
     second: 0,
+    cause: 0,
 };
 
-// A waiting call: its identifier, the post where it waits, and, if one more is asked after that, the second post; otherwise
-// `second` is never looked at.
+// A waiting call: its identifier, the post where it waits, if one more is asked after that the second post (otherwise `second` is never
+// looked at), and its interception cause.
 pub struct Call {
     pub identifier: u16,
     pub post: u8,
     pub more: bool,
     pub second: u8,
+    pub cause: u8,
 }
 
 pub struct Places {
@@ -111,6 +114,7 @@ pub fn take(places: Places, at: u8, call: Call) -> Places
         post: call.post,
         more: call.more,
         second: call.second,
+        cause: call.cause,
     };
     put(list, at, waiting)
 }
@@ -141,7 +145,7 @@ fn in_list(list: [Place; 32], at: u8) -> Place
     FREE
 }
 
-// The call in the place waits at its second post from now on, and has no second any more; a number of no place changes nothing.
+// The call in the place waits at its second post from now on, with its cause, and has no second any more; a number of no place changes nothing.
 pub fn move_on(places: Places, at: u8) -> Places
     ensures { λ r. ⌜ r ≡ record { place = moveOf (places .place) at } ⌝ }
 {
@@ -151,6 +155,7 @@ pub fn move_on(places: Places, at: u8) -> Places
         post: p.second,
         more: false,
         second: 0,
+        cause: p.cause,
     };
     take(places, at, call)
 }

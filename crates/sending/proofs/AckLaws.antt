@@ -130,23 +130,25 @@ module _ (p : Profile) (passes : profileOk p ≡ true) (users : Group) (s : Sort
   unfolding acksOf
   acks-few = ack-if-few 0 (isThere s 0) _ 2 (ack-if-few 1 (isThere s 1) _ 1 (last-few (isThere s 2)))
 
--- ---- INTERCEPTED, ACCEPTED, DIVERTED
+-- ---- any other message that is short
 
-plain-sends : (p : Profile) → profileOk p ≡ true → (t : ℕ) → isCarried t ≡ true → bodyC (p .air) t .ok (blank t) ≡ true
-    → length (bitsOf (p .air) (blank t)) ≤ 100 → Sends p (blank t)
-unfolding validOf messageC blank
-plain-sends p passes t carried body short =
-    record { valid = both-true true _ refl (both-true _ _ (carried-ok (p .air .ss) t (omega (arith, ss-most p passes)) carried) body); short = omega arith }
+pub value-sends : (p : Profile) → profileOk p ≡ true → (v : Value) → isCarried (v .pdu) ≡ true → bodyC (p .air) (v .pdu) .ok v ≡ true
+    → length (bitsOf (p .air) v) ≤ 100 → Sends p v
+unfolding validOf messageC
+value-sends p passes v carried body short =
+    record { valid = both-true true _ refl (both-true _ _ (carried-ok (p .air .ss) (v .pdu) (omega (arith, ss-most p passes)) carried) body); short = omega arith }
+
+-- ---- INTERCEPTED, ACCEPTED, DIVERTED
 
 module _ (p : Profile) (passes : profileOk p ≡ true) where
   pub intercepted-sends : Sends p (blank 10)
   unfolding isCarried rowOf rowIn table both bodyC firstParts gets puts getOptions putOptions partsC optionsC eachC elements elementOf widths widthOf sameValue sameNumbers sameBools sameGroup sameAddresses sameAddress blank noGroup nobodies flag number bitsOf messageC headerC
-  intercepted-sends = plain-sends p passes 10 refl refl (simp (length-append, length-binary) (omega arith))
+  intercepted-sends = value-sends p passes (blank 10) refl refl (simp (length-append, length-binary) (omega arith))
 
   pub accepted-sends : Sends p (blank 13)
   unfolding isCarried rowOf rowIn table both bodyC firstParts gets puts getOptions putOptions partsC optionsC sameValue sameNumbers sameBools sameGroup sameAddresses sameAddress blank noGroup nobodies number bitsOf messageC headerC
-  accepted-sends = plain-sends p passes 13 refl refl (simp (length-append, length-binary) (omega arith))
+  accepted-sends = value-sends p passes (blank 13) refl refl (simp (length-append, length-binary) (omega arith))
 
   pub diverted-sends : Sends p (blank 16)
   unfolding isCarried rowOf rowIn table both bodyC firstParts gets puts getOptions putOptions partsC optionsC eachC elements elementOf widths widthOf sameValue sameNumbers sameBools sameGroup sameAddresses sameAddress blank noGroup nobodies flag number bitsOf messageC headerC
-  diverted-sends = plain-sends p passes 16 refl refl (simp (length-append, length-binary) (omega arith))
+  diverted-sends = value-sends p passes (blank 16) refl refl (simp (length-append, length-binary) (omega arith))

@@ -60,3 +60,14 @@ module _ (p : Profile) (passes : profileOk p ≡ true) where
   one-sent l m v w x y s room ex ew e =
       let all = all-sent l (v ∷ []) (omega arith) room (s, tt) in
       ((rw (ex, ew) at (e .0)) ∙ all .0, (rw (ex, ew) at (e .1)) ∙ all .1)
+
+  -- a call that sends two
+  pub two-sent : (l k m : List ℕ) (v₁ v₂ w₁ w₂ : Value) (x y z : Laid) → Sends p v₁ → Sends p v₂ → 300 ≤ length l → x ≡ noLaid → w₁ ≡ v₁ → w₂ ≡ v₂
+      → (y ≡ sendLaid p x l w₁) × (k ≡ sendArea p x l w₁) → (z ≡ sendLaid p y k w₂) × (m ≡ sendArea p y k w₂)
+      → (z ≡ laidOf (p .air) (v₁ ∷ v₂ ∷ [])) × (m ≡ layAll (p .air) l (v₁ ∷ v₂ ∷ []))
+  unfolding allLaid allArea
+  two-sent l k m v₁ v₂ w₁ w₂ x y z s t room ex e₁ e₂ a b =
+      let all = all-sent l (v₁ ∷ v₂ ∷ []) (omega arith) room (s, (t, tt)) in
+      let y₁ : y ≡ sendLaid p noLaid l v₁ = rw (ex, e₁) at (a .0) in
+      let k₁ : k ≡ sendArea p noLaid l v₁ = rw (ex, e₁) at (a .1) in
+      ((rw (y₁, k₁, e₂) at (b .0)) ∙ all .0, (rw (y₁, k₁, e₂) at (b .1)) ∙ all .1)

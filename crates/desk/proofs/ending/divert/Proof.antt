@@ -17,6 +17,9 @@ refused-requires c κs = search needs
 returns : tie.Need-returns
 returns c = refused-plain _ _ _ _ _ _ _ (c .refused .ensures) (c .before .refuse .ensures) (decide-14 _ _ _ _ _ (c .before .before .if1 .taken))
 
+number-at-requires : tie.Need-number-at-requires
+number-at-requires c κs = search needs
+
 ending-of-requires : tie.Need-ending-of-requires
 ending-of-requires c κs = search needs
 
@@ -37,12 +40,10 @@ same-length c = search needs
 
 returns-2 : tie.Need-returns-2
 returns-2 c =
-    let s = c .before .before .before in
-    let e = c .before .before .before .before .before .before .before .before .before in
-    let a = c .before .before .before .before .before .before .before .before .before .before .before .before in
-    let f = end-found _ _ _ _ (e .ending-of .result) (e .ending-of .ensures) (c .before .before .before .before .before .before .before .before .if2 .taken) in
-    decided _ _ _ _ _ _ _ _ _ (decide-end _ _ _ _ _ (c .before .before .before .before .before .before .before .before .before .before .if1 .left) ∙ f .0) refl (f .1)
-    (one-sent _ (a .pre) _ _ _ _ _ _ (diverted-sends _ (a .pre)) (c .before .before .before .before .before .before .before .before .before .before .if1 .left) (c .before .before .before .before .before .no-laid .ensures) (c .before .before .before .before .before .before .blank .ensures) (s .send .ensures))
+    let a = c .before .before .before .before .before .before .before .before .before .before .before .before .before in
+    let f = end-found _ _ _ _ (c .before .before .before .before .before .before .before .before .before .ending-of .result) (rw (c .before .before .before .before .before .before .before .before .before .before .number-at .ensures) at (c .before .before .before .before .before .before .before .before .before .ending-of .ensures)) (c .before .before .before .before .before .before .before .before .if2 .taken) in
+    decided _ _ _ _ _ _ _ _ _ (decide-end _ _ _ _ _ (c .before .before .before .before .before .before .before .before .before .before .before .if1 .left) ∙ f .0) refl (f .1 .0)
+    (one-sent _ (a .pre) _ _ _ _ _ _ (diverted-sends _ (a .pre)) (c .before .before .before .before .before .before .before .before .before .before .before .if1 .left) (c .before .before .before .before .before .no-laid .ensures) (c .before .before .before .before .before .before .blank .ensures) (c .before .before .before .send .ensures))
     (c .ended .ensures)
 
 refused-requires-2 : tie.Need-refused-requires-2
@@ -50,9 +51,8 @@ refused-requires-2 c κs = search needs
 
 returns-3 : tie.Need-returns-3
 returns-3 c =
-    let e = c .before .before .before in
     refused-plain _ _ _ _ _ _ _ (c .refused2 .ensures) refl
-    (decide-end _ _ _ _ _ (c .before .before .before .before .if1 .left) ∙ end-not _ _ _ _ (e .ending-of .result) (e .ending-of .ensures) (c .before .before .if2 .left))
+    (decide-end _ _ _ _ _ (c .before .before .before .before .before .if1 .left) ∙ end-not _ _ _ _ (c .before .before .before .ending-of .result) (rw (c .before .before .before .before .number-at .ensures) at (c .before .before .before .ending-of .ensures)) (c .before .before .if2 .left))
 
 pub divert-spec : {M : Type 1} → statement M
 divert-spec =
@@ -61,6 +61,7 @@ divert-spec =
     refuse-requires
     refused-requires
     returns
+    number-at-requires
     ending-of-requires
     blank-requires
     no-laid-requires

@@ -1,9 +1,11 @@
 -- Written by tools/proofs from tools/desk.conf. `desk::posted::sent` meets its contract. Assumes nothing.
-use mathlib.Core.Path.{refl}
+use Prim.Native.Nat.{ℕ, _^_, _<_}
+use mathlib.Core.Path.{refl, sym, subst}
 use borrow.Author.Needs.{needs}
 use borrow.Author.Tests.{eq-eqb, ne-eqb}
 use Rattle.desk.proofs.EndLaws.{accept-plain}
-use Rattle.desk.proofs.PostLaws.{plain-by, refused-by, decide-plain, interrogate-plain, interrogate-area}
+use Rattle.desk.proofs.NoticeLaws.{reject-cause}
+use Rattle.desk.proofs.PostLaws.{plain-by, refused-by, decide-plain, interrogate-plain, interrogate-area, desk-profile}
 use Rattle.desk.specs.Orders.{sentAnswer}
 use Rattle.desk.proofs.posted.sent.Statement.{statement}
 use Rattle.desk.proofs.posted.sent.Tie as tie
@@ -11,7 +13,7 @@ use Rattle.desk.proofs.posted.sent.Tie as tie
 activate-requires : tie.Need-activate-requires
 activate-requires c κs =
     let a = c .before .before .before in
-    (a .pre .0, (a .pre .1, c .before .if1 .taken))
+    (desk-profile _ (a .pre .0), (a .pre .1, c .before .if1 .taken))
 
 same-length : tie.Need-same-length
 same-length c = search needs
@@ -27,13 +29,10 @@ returns-2 : tie.Need-returns-2
 unfolding sentAnswer
 returns-2 c =
     rw (ne-eqb _ _ (c .before .before .if1 .left), eq-eqb _ _ (c .before .if2 .taken))
-    (plain-by _ _ _ _ _ _ _ _ _ (interrogate-plain _ _ _ _ _) (c .interrogate .ensures, interrogate-area _ _ _ _ _ _))
-
-number-at-requires : tie.Need-number-at-requires
-number-at-requires c κs = search needs
+    (plain-by _ _ _ _ _ _ _ _ _ (interrogate-plain _ _ _ _ _) (c .interrogate .ensures, interrogate-area _ _ _ _ _ _ _))
 
 accept-requires : tie.Need-accept-requires
-accept-requires c κs = c .before .before .before .before .before .before .pre .0
+accept-requires c κs = c .before .before .before .before .before .pre .0
 
 same-length-2 : tie.Need-same-length-2
 same-length-2 c = search needs
@@ -41,14 +40,11 @@ same-length-2 c = search needs
 returns-3 : tie.Need-returns-3
 unfolding sentAnswer
 returns-3 c =
-    rw (ne-eqb _ _ (c .before .before .before .before .before .before .before .if1 .left), ne-eqb _ _ (c .before .before .before .before .before .before .if2 .left), eq-eqb _ _ (c .before .before .before .before .before .if3 .taken))
-    (plain-by _ _ _ _ _ _ _ _ _ (decide-plain _ _ _ _ _ (accept-plain _ _)) (rw (c .before .before .before .before .number-at .ensures) at (c .before .before .accept .ensures)))
-
-number-at-requires-2 : tie.Need-number-at-requires-2
-number-at-requires-2 c κs = search needs
+    rw (ne-eqb _ _ (c .before .before .before .before .before .before .if1 .left), ne-eqb _ _ (c .before .before .before .before .before .if2 .left), eq-eqb _ _ (c .before .before .before .before .if3 .taken))
+    (plain-by _ _ _ _ _ _ _ _ _ (decide-plain _ _ _ _ _ (accept-plain _ _)) (c .before .before .accept .ensures))
 
 divert-requires : tie.Need-divert-requires
-divert-requires c κs = c .before .before .before .before .before .before .before .pre .0
+divert-requires c κs = desk-profile _ (c .before .before .before .before .before .before .pre .0)
 
 same-length-3 : tie.Need-same-length-3
 same-length-3 c = search needs
@@ -56,8 +52,28 @@ same-length-3 c = search needs
 returns-4 : tie.Need-returns-4
 unfolding sentAnswer
 returns-4 c =
-    rw (ne-eqb _ _ (c .before .before .before .before .before .before .before .before .if1 .left), ne-eqb _ _ (c .before .before .before .before .before .before .before .if2 .left), ne-eqb _ _ (c .before .before .before .before .before .before .if3 .left), eq-eqb _ _ (c .before .before .before .before .before .if4 .taken))
-    (plain-by _ _ _ _ _ _ _ _ _ (decide-plain _ _ _ _ _ refl) (rw (c .before .before .before .before .number-at2 .ensures) at (c .before .before .divert .ensures)))
+    rw (ne-eqb _ _ (c .before .before .before .before .before .before .before .if1 .left), ne-eqb _ _ (c .before .before .before .before .before .before .if2 .left), ne-eqb _ _ (c .before .before .before .before .before .if3 .left), eq-eqb _ _ (c .before .before .before .before .if4 .taken))
+    (plain-by _ _ _ _ _ _ _ _ _ (decide-plain _ _ _ _ _ refl) (c .before .before .divert .ensures))
+
+number-at-requires : tie.Need-number-at-requires
+number-at-requires c κs = search needs
+
+number-at-requires-2 : tie.Need-number-at-requires-2
+number-at-requires-2 c κs = search needs
+
+rejected-requires : tie.Need-rejected-requires
+rejected-requires c κs =
+    let a = c .before .before .before .before .before .before .before .before .before in
+    (desk-profile _ (a .pre .0), subst (λ (x : ℕ). x < 2 ^ 5) (sym (c .before .number-at2 .ensures)) (reject-cause _ _ (a .pre .1) (c .before .before .before .if5 .taken)))
+
+same-length-4 : tie.Need-same-length-4
+same-length-4 c = search needs
+
+returns-5 : tie.Need-returns-5
+unfolding sentAnswer
+returns-5 c =
+    rw (ne-eqb _ _ (c .before .before .before .before .before .before .before .before .before .before .if1 .left), ne-eqb _ _ (c .before .before .before .before .before .before .before .before .before .if2 .left), ne-eqb _ _ (c .before .before .before .before .before .before .before .before .if3 .left), ne-eqb _ _ (c .before .before .before .before .before .before .before .if4 .left), eq-eqb _ _ (c .before .before .before .before .before .before .if5 .taken))
+    (plain-by _ _ _ _ _ _ _ _ _ (decide-plain _ _ _ _ _ refl) (rw (c .before .before .before .before .before .number-at .ensures, c .before .before .before .before .number-at2 .ensures) at (c .before .before .rejected .ensures)))
 
 refuse-requires : tie.Need-refuse-requires
 refuse-requires c κs = search needs
@@ -65,10 +81,10 @@ refuse-requires c κs = search needs
 refused-requires : tie.Need-refused-requires
 refused-requires c κs = search needs
 
-returns-5 : tie.Need-returns-5
+returns-6 : tie.Need-returns-6
 unfolding sentAnswer
-returns-5 c =
-    rw (ne-eqb _ _ (c .before .before .before .before .before .if1 .left), ne-eqb _ _ (c .before .before .before .before .if2 .left), ne-eqb _ _ (c .before .before .before .if3 .left), ne-eqb _ _ (c .before .before .if4 .left))
+returns-6 c =
+    rw (ne-eqb _ _ (c .before .before .before .before .before .before .if1 .left), ne-eqb _ _ (c .before .before .before .before .before .if2 .left), ne-eqb _ _ (c .before .before .before .before .if3 .left), ne-eqb _ _ (c .before .before .before .if4 .left), ne-eqb _ _ (c .before .before .if5 .left))
     (refused-by _ _ _ _ _ _ _ _ _ _ (c .refused .ensures) (c .before .refuse .ensures) refl)
 
 pub sent-spec : {M : Type 1} → statement M
@@ -80,14 +96,17 @@ sent-spec =
     returns
     interrogate-requires
     returns-2
-    number-at-requires
     accept-requires
     same-length-2
     returns-3
-    number-at-requires-2
     divert-requires
     same-length-3
     returns-4
+    number-at-requires
+    number-at-requires-2
+    rejected-requires
+    same-length-4
+    returns-5
     refuse-requires
     refused-requires
-    returns-5)
+    returns-6)

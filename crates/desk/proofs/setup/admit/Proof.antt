@@ -1,10 +1,12 @@
 -- Written by tools/proofs from tools/desk.conf. `desk::setup::admit` meets its contract. Assumes nothing.
 use mathlib.Core.Path.{sym, _∙_}
+use native.Mathlib.Omega.{arith}
 use borrow.Author.Needs.{needs}
 use Rattle.desk.proofs.KeepLaws.{refused-plain}
+use Rattle.desk.proofs.NoticeLaws.{request-sends}
 use Rattle.desk.proofs.SetUpLaws.{admit-18, admitted-is}
 use Rattle.sending.proofs.AckLaws.{intercepted-sends}
-use Rattle.sending.proofs.SentLaws.{one-sent}
+use Rattle.sending.proofs.SentLaws.{two-sent}
 use Rattle.desk.proofs.setup.admit.Statement.{statement}
 use Rattle.desk.proofs.setup.admit.Tie as tie
 
@@ -32,8 +34,17 @@ no-laid-requires c κs = search needs
 send-requires : tie.Need-send-requires
 send-requires c κs = search needs
 
-cast-t19 : tie.Need-cast-t19
-cast-t19 c = search needs
+request-requires : tie.Need-request-requires
+request-requires c κs = search needs
+
+send-requires-2 : tie.Need-send-requires-2
+send-requires-2 c κs = search needs
+
+cast-t24 : tie.Need-cast-t24
+cast-t24 c = record { fits = omega (arith, c .before .before .before .before .before .before .before .before .before .before .before .before .before .before .before .before .before .before .pre .1 .0) }
+
+cast-t25 : tie.Need-cast-t25
+cast-t25 c = record { fits = omega (arith, c .before .before .before .before .before .before .before .before .before .before .before .before .before .before .before .before .before .before .pre .1 .1 .0) }
 
 take-requires : tie.Need-take-requires
 take-requires c κs = search needs
@@ -46,9 +57,10 @@ same-length c = search needs
 
 returns-2 : tie.Need-returns-2
 returns-2 c =
-    let a = c .before .before .before .before .before .before .before .before .before .before .before .before .before .before .before in
-    admitted-is _ _ _ (c .before .before .before .before .before .before .before .before .lowest-free .result) _ _ _ _ _ (sym (c .before .before .before .before .before .before .before .before .before .before .admits .ensures) ∙ c .before .before .before .before .before .before .before .before .before .if1 .taken) (c .before .before .before .before .before .before .before .before .lowest-free .ensures)
-    (one-sent _ (a .pre .0) _ _ _ _ _ _ (intercepted-sends _ (a .pre .0)) (a .pre .1 .1) (c .before .before .before .before .before .before .no-laid .ensures) (c .before .before .before .before .before .before .before .blank .ensures) (c .before .before .before .before .send .ensures))
+    let a = c .before .before .before .before .before .before .before .before .before .before .before .before .before .before .before .before .before .before .before .before in
+    admitted-is _ _ _ (c .before .before .before .before .before .before .before .before .before .before .before .before .before .lowest-free .result) _ _ _ _ _ (sym (c .before .before .before .before .before .before .before .before .before .before .before .before .before .before .before .admits .ensures) ∙ c .before .before .before .before .before .before .before .before .before .before .before .before .before .before .if1 .taken) (c .before .before .before .before .before .before .before .before .before .before .before .before .before .lowest-free .ensures)
+    (two-sent _ (a .pre .0) _ _ _ _ _ _ _ _ _ _ (intercepted-sends _ (a .pre .0)) (request-sends _ (a .pre .0) _ _ (a .pre .1 .0) (a .pre .1 .1 .0)) (a .pre .1 .1 .1)
+    (c .before .before .before .before .before .before .before .before .before .before .before .no-laid .ensures) (c .before .before .before .before .before .before .before .before .before .before .before .before .blank .ensures) (c .before .before .before .before .before .before .request .ensures) (c .before .before .before .before .before .before .before .before .before .send .ensures) (c .before .before .before .before .send2 .ensures))
     (c .before .take .ensures) (c .no-marks .ensures)
 
 pub admit-spec : {M : Type 1} → statement M
@@ -63,7 +75,10 @@ admit-spec =
     blank-requires
     no-laid-requires
     send-requires
-    cast-t19
+    request-requires
+    send-requires-2
+    cast-t24
+    cast-t25
     take-requires
     no-marks-requires
     same-length

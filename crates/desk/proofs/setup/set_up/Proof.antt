@@ -2,7 +2,7 @@
 use mathlib.Core.Path.{sym, _∙_}
 use borrow.Author.Needs.{needs}
 use Rattle.desk.proofs.KeepLaws.{refused-plain, free-plain, same-plain}
-use Rattle.desk.proofs.SetUpLaws.{setup-16, setup-14, setup-15, setup-17, setup-party, party-free, party-admit, setup-identifier}
+use Rattle.desk.proofs.SetUpLaws.{setup-16, setup-14, setup-15, setup-17, setup-party, party-free, party-admit, setup-identifier, setup-cause}
 use Rattle.desk.proofs.setup.set_up.Statement.{statement}
 use Rattle.desk.proofs.setup.set_up.Tie as tie
 
@@ -28,7 +28,7 @@ refused-requires : tie.Need-refused-requires
 refused-requires c κs = search needs
 
 returns : tie.Need-returns
-returns c = refused-plain _ _ _ _ _ _ _ (c .refused .ensures) (c .before .refuse .ensures) (setup-16 _ _ _ _ _ _ _ (sym (c .before .before .before .before .before .before .before .set-up-ok .ensures) ∙ c .before .before .if1 .left))
+returns c = refused-plain _ _ _ _ _ _ _ (c .refused .ensures) (c .before .refuse .ensures) (setup-16 _ _ _ _ _ _ _ _ (sym (c .before .before .before .before .before .before .before .set-up-ok .ensures) ∙ c .before .before .if1 .left))
 
 refuse-requires-2 : tie.Need-refuse-requires-2
 refuse-requires-2 c κs = search needs
@@ -39,7 +39,7 @@ refused-requires-2 c κs = search needs
 returns-2 : tie.Need-returns-2
 returns-2 c =
     refused-plain _ _ _ _ _ _ _ (c .refused2 .ensures) (c .before .refuse2 .ensures)
-    (setup-14 _ _ _ _ _ _ _ (sym (c .before .before .before .before .before .before .before .before .set-up-ok .ensures) ∙ c .before .before .before .if1 .taken) (c .before .before .if2 .taken))
+    (setup-14 _ _ _ _ _ _ _ _ (sym (c .before .before .before .before .before .before .before .before .set-up-ok .ensures) ∙ c .before .before .before .if1 .taken) (c .before .before .if2 .taken))
 
 refuse-requires-3 : tie.Need-refuse-requires-3
 refuse-requires-3 c κs = search needs
@@ -50,7 +50,7 @@ refused-requires-3 c κs = search needs
 returns-3 : tie.Need-returns-3
 returns-3 c =
     refused-plain _ _ _ _ _ _ _ (c .refused3 .ensures) (c .before .refuse3 .ensures)
-    (setup-15 _ _ _ _ _ _ _ (sym (c .before .before .before .before .before .before .before .before .before .set-up-ok .ensures) ∙ c .before .before .before .before .if1 .taken) (c .before .before .before .if2 .left) (sym (c .before .before .before .before .before .before .before .before .records-ok .ensures) ∙ c .before .before .if3 .left))
+    (setup-15 _ _ _ _ _ _ _ _ (sym (c .before .before .before .before .before .before .before .before .before .set-up-ok .ensures) ∙ c .before .before .before .before .if1 .taken) (c .before .before .before .if2 .left) (sym (c .before .before .before .before .before .before .before .before .records-ok .ensures) ∙ c .before .before .if3 .left))
 
 refuse-requires-4 : tie.Need-refuse-requires-4
 refuse-requires-4 c κs = search needs
@@ -61,13 +61,13 @@ refused-requires-4 c κs = search needs
 returns-4 : tie.Need-returns-4
 returns-4 c =
     refused-plain _ _ _ _ _ _ _ (c .refused4 .ensures) (c .before .refuse4 .ensures)
-    (setup-17 _ _ _ _ _ _ _ (sym (c .before .before .before .before .before .before .before .before .before .before .set-up-ok .ensures) ∙ c .before .before .before .before .before .if1 .taken) (c .before .before .before .before .if2 .left) (sym (c .before .before .before .before .before .before .before .before .before .records-ok .ensures) ∙ c .before .before .before .if3 .taken)
+    (setup-17 _ _ _ _ _ _ _ _ (sym (c .before .before .before .before .before .before .before .before .before .before .set-up-ok .ensures) ∙ c .before .before .before .before .before .if1 .taken) (c .before .before .before .before .if2 .left) (sym (c .before .before .before .before .before .before .before .before .before .records-ok .ensures) ∙ c .before .before .before .if3 .taken)
     (c .before .before .before .before .before .before .before .before .place-of .result) (c .before .before .before .before .before .before .before .before .place-of .ensures) (c .before .before .if4 .taken))
 
 admit-requires : tie.Need-admit-requires
 admit-requires c κs =
-    let k = setup-identifier _ _ _ (sym (c .before .before .before .before .before .before .before .before .before .before .set-up-ok .ensures) ∙ c .before .before .before .before .before .if1 .taken) in
-    (c .before .before .before .before .before .before .before .before .before .before .before .before .before .before .before .pre, (k, c .before .before .before .before .if2 .left))
+    let e = sym (c .before .before .before .before .before .before .before .before .before .before .set-up-ok .ensures) ∙ c .before .before .before .before .before .if1 .taken in
+    (c .before .before .before .before .before .before .before .before .before .before .before .before .before .before .before .pre, (setup-identifier _ _ _ _ e, (setup-cause _ _ _ _ e, c .before .before .before .before .if2 .left)))
 
 same-length : tie.Need-same-length
 same-length c = search needs
@@ -75,7 +75,7 @@ same-length c = search needs
 returns-5 : tie.Need-returns-5
 returns-5 c =
     let p = c .before .before .before .before .before .before .before .before .before .before in
-    let e = setup-party _ _ _ _ _ _ _ (sym (c .before .before .before .before .before .before .before .before .before .before .before .before .before .set-up-ok .ensures) ∙ c .before .before .before .before .before .before .before .before .if1 .taken) (c .before .before .before .before .before .before .before .if2 .left) (sym (c .before .before .before .before .before .before .before .before .before .before .before .before .records-ok .ensures) ∙ c .before .before .before .before .before .before .if3 .taken)
+    let e = setup-party _ _ _ _ _ _ _ _ (sym (c .before .before .before .before .before .before .before .before .before .before .before .before .before .set-up-ok .ensures) ∙ c .before .before .before .before .before .before .before .before .if1 .taken) (c .before .before .before .before .before .before .before .if2 .left) (sym (c .before .before .before .before .before .before .before .before .before .before .before .before .records-ok .ensures) ∙ c .before .before .before .before .before .before .if3 .taken)
     (c .before .before .before .before .before .before .before .before .before .before .before .place-of .result) (c .before .before .before .before .before .before .before .before .before .before .before .place-of .ensures) (c .before .before .before .before .before .if4 .left) (p .restricted .result) (p .restricted .ensures)
     ∙ party-admit _ (p .restricted .result) (c .before .before .before .before .if5 .taken) in
     same-plain _ _ _ _ _ _ _ e (rw (c .before .before .before .before .before .before .before .before .before .second .ensures) at (c .before .before .admit .ensures))
@@ -86,7 +86,7 @@ keeps-requires c κs = search needs
 returns-6 : tie.Need-returns-6
 returns-6 c =
     let p = c .before .before .before .before .before .before .before in
-    let e = setup-party _ _ _ _ _ _ _ (sym (c .before .before .before .before .before .before .before .before .before .before .set-up-ok .ensures) ∙ c .before .before .before .before .before .if1 .taken) (c .before .before .before .before .if2 .left) (sym (c .before .before .before .before .before .before .before .before .before .records-ok .ensures) ∙ c .before .before .before .if3 .taken)
+    let e = setup-party _ _ _ _ _ _ _ _ (sym (c .before .before .before .before .before .before .before .before .before .before .set-up-ok .ensures) ∙ c .before .before .before .before .before .if1 .taken) (c .before .before .before .before .if2 .left) (sym (c .before .before .before .before .before .before .before .before .before .records-ok .ensures) ∙ c .before .before .before .if3 .taken)
     (c .before .before .before .before .before .before .before .before .place-of .result) (c .before .before .before .before .before .before .before .before .place-of .ensures) (c .before .before .if4 .left) (p .restricted .result) (p .restricted .ensures)
     ∙ party-free _ (p .restricted .result) (c .before .if5 .left) in
     free-plain _ _ _ _ _ (c .keeps .ensures) e

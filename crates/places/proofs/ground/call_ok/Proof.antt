@@ -1,6 +1,6 @@
 -- Written by tools/proofs from tools/places.conf. `places::ground::call_ok` meets its contract. Assumes nothing.
 use borrow.Author.Needs.{needs}
-use Rattle.places.proofs.PlaceLaws.{call-free, call-wide, call-past, call-second}
+use Rattle.places.proofs.PlaceLaws.{call-free, call-wide, call-past, call-second, call-cause}
 use Rattle.places.proofs.ground.call_ok.Statement.{statement}
 use Rattle.places.proofs.ground.call_ok.Tie as tie
 
@@ -18,8 +18,16 @@ second-ok-requires c κs = search needs
 
 returns-4 : tie.Need-returns-4
 returns-4 c =
-    let p1 = c .before .before .before .before .before in
-    call-second _ _ (p1 .if1 .taken) (c .before .before .before .if2 .taken) (c .before .if3 .taken) _ (c .second-ok .ensures)
+    let s = c .before .before in
+    let p1 = s .before .before .before .before .before in
+    call-cause _ _ (p1 .if1 .taken) (s .before .before .before .if2 .taken) (s .before .if3 .taken) _ (s .second-ok .ensures) (c .before .if4 .taken)
+
+returns-5 : tie.Need-returns-5
+returns-5 c =
+    let s = c .before in
+    let p1 = s .before .before .before .before .before in
+    call-second _ _ (p1 .if1 .taken) (s .before .before .before .if2 .taken) (s .before .if3 .taken) _ (s .second-ok .ensures) (c .if4 .left)
 
 pub call-ok-spec : {M : Type 1} → statement M
-call-ok-spec = tie.close (tie.spec returns returns-2 returns-3 second-ok-requires returns-4)
+call-ok-spec =
+    tie.close (tie.spec returns returns-2 returns-3 second-ok-requires returns-4 returns-5)
