@@ -76,6 +76,7 @@ fn call(desk: Desk, caller: u32, identifier: u32) -> Stepped {
                 extension: 0,
             },
             identifier: identifier,
+            cause: 0,
         },
     )
 }
@@ -116,7 +117,7 @@ fn say_answer(answer: Answer) {
         Answer::Proceed => say_other(),
         Answer::Diverted => say_other(),
         Answer::Rejected => say_other(),
-        Answer::Cancelled => say_other(),
+        Answer::Cancelled { post } => say_other(),
         Answer::Moved { post } => say_other(),
     }
 }

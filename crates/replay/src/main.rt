@@ -277,6 +277,7 @@ fn answer(output: &mut [u8], filled: usize, number: u64, state: State, line: Lin
         Task::Fill { at, place } => silent(filled, fill(state, at, place)),
         Task::Dump => dump(output, filled, number, state),
         Task::Second { at, post } => silent(filled, with_second(state, at, post)),
+        Task::Cause { at, cause } => silent(filled, with_cause(state, at, cause)),
     }
 }
 
@@ -521,13 +522,21 @@ fn with_second(state: State, at: u8, post: u8) -> State {
             state,
             at,
             Place {
-                used: true,
-                identifier: p.identifier,
-                post: p.post,
                 more: true,
                 second: post,
+                ..p
             },
         );
+    }
+    state
+}
+
+// The same of its cause.
+fn with_cause(state: State, at: u8, cause: u8) -> State {
+    let desk = state.desk;
+    let p = places::place_at(desk.places, at);
+    if p.used {
+        return fill(state, at, Place { cause: cause, ..p });
     }
     state
 }

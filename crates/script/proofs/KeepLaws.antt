@@ -20,7 +20,7 @@ use Rattle.lines.specs.Shape.{isDigit, hexOf, noHex, hexAt}
 use Rattle.lines.proofs.ShapeLaws.{hex-long}
 use Rattle.script.specs.Shape.{startsWith, noNumber, numberIf, digitsThen, numberAt, noRow, noNumbers, numbersFrom, numbersAt}
 use Rattle.script.specs.Profiles.{pairsIn}
-use Rattle.script.specs.Lines.{when, recordTask, setUpTask, rejectTask, cancelTask, outTask, placeTask, unplaceTask, secondTask, plainLine, messageLine, postLine, profileLine, taskOf, lineOf}
+use Rattle.script.specs.Lines.{when, recordTask, setUpTask, rejectTask, cancelTask, outTask, placeTask, unplaceTask, secondTask, causeTask, plainLine, messageLine, postLine, profileLine, taskOf, lineOf}
 use Rattle.blocks.specs.Texts.{noText, textOf, keepOf}
 use Rattle.script.specs.declared.Line.{Line}
 use Rattle.script.specs.declared.Task.{Task}
@@ -127,7 +127,7 @@ not-counted n k s p q = ne-eqb (n .count) k (no s)
 
 set-up-none : (n : Numbers) → NoneOrAll 38 n → setUpTask n ≡ task.Unknown
 unfolding setUpTask
-set-up-none n s = rw (not-counted n 5 s (omega arith) (omega arith))
+set-up-none n s = ⊎-elim (λ a. rw a) (λ a. rw (a .0)) s
 
 reject-none : (n : Numbers) → NoneOrAll 38 n → rejectTask n ≡ task.Unknown
 unfolding rejectTask
@@ -157,6 +157,10 @@ second-none : (n : Numbers) → NoneOrAll 38 n → secondTask n ≡ task.Unknown
 unfolding secondTask
 second-none n s = rw (not-counted n 2 s (omega arith) (omega arith))
 
+cause-none : (n : Numbers) → NoneOrAll 38 n → causeTask n ≡ task.Unknown
+unfolding causeTask
+cause-none n s = rw (not-counted n 2 s (omega arith) (omega arith))
+
 module _ (l : List ℕ) (h : 539 < length l) where
   -- from a position of up to 8 on
   counted : (at : ℕ) → 0 < at → at ≤ 8 → NoneOrAll 38 (numbersAt 38 l at)
@@ -181,6 +185,7 @@ module _ (l : List ℕ) (h : 539 < length l) where
         place-none (numbersAt 38 l 6) (counted 6 (omega arith) (omega arith)),
         unplace-none (numbersAt 38 l 8) (counted 8 (omega arith) (omega arith)),
         second-none (numbersAt 38 l 7) (counted 7 (omega arith) (omega arith)),
+        cause-none (numbersAt 38 l 6) (counted 6 (omega arith) (omega arith)),
         no-dump,
       )
       (simp cond-unknown)

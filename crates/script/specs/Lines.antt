@@ -38,14 +38,16 @@ recordTask n =
       active = eqb (getD (n .number) 5 0) 1;
     }))))))
 
--- CALLER EXT CALLED EXT ID
+-- CALLER EXT CALLED EXT ID [CAUSE]: a cause that is left out is 0, as the row is beyond its count
 unfoldable pub setUpTask : Numbers → Task
 setUpTask n =
-    when (eqb (n .count) 5)
+    when (leb 5 (n .count))
+    (when (leb (n .count) 6)
     (task.Call
     (event.SetUp (record { ssi = getD (n .number) 0 0; extension = getD (n .number) 1 0 })
     (record { ssi = getD (n .number) 2 0; extension = getD (n .number) 3 0 })
-    (getD (n .number) 4 0)))
+    (getD (n .number) 4 0)
+    (getD (n .number) 5 0))))
 
 -- P ID
 unfoldable pub rejectTask : Numbers → Task
@@ -66,7 +68,7 @@ placeTask n =
     (when (leb (getD (n .number) 0 0) 31)
     (when (leb (getD (n .number) 1 0) 65535)
     (when (leb (getD (n .number) 2 0) 255)
-    (task.Fill (getD (n .number) 0 0) (record { used = true; identifier = getD (n .number) 1 0; post = getD (n .number) 2 0; more = false; second = 0 })))))
+    (task.Fill (getD (n .number) 0 0) (record { used = true; identifier = getD (n .number) 1 0; post = getD (n .number) 2 0; more = false; second = 0; cause = 0 })))))
 
 -- I: the place is free, all zero
 unfoldable pub unplaceTask : Numbers → Task
@@ -79,6 +81,12 @@ unfoldable pub secondTask : Numbers → Task
 secondTask n =
     when (eqb (n .count) 2)
     (when (leb (getD (n .number) 0 0) 31) (when (leb (getD (n .number) 1 0) 255) (task.Second (getD (n .number) 0 0) (getD (n .number) 1 0))))
+
+-- I CAUSE
+unfoldable pub causeTask : Numbers → Task
+causeTask n =
+    when (eqb (n .count) 2)
+    (when (leb (getD (n .number) 0 0) 31) (when (leb (getD (n .number) 1 0) 255) (task.Cause (getD (n .number) 0 0) (getD (n .number) 1 0))))
 
 -- ---- the lines
 
@@ -123,8 +131,10 @@ taskOf l =
     (cond (startsWith l (117 ∷ 110 ∷ 112 ∷ 108 ∷ 97 ∷ 99 ∷ 101 ∷ 32 ∷ [])) (unplaceTask (numbersAt 38 l 8))
     -- `second `
     (cond (startsWith l (115 ∷ 101 ∷ 99 ∷ 111 ∷ 110 ∷ 100 ∷ 32 ∷ [])) (secondTask (numbersAt 38 l 7))
+    -- `cause `
+    (cond (startsWith l (99 ∷ 97 ∷ 117 ∷ 115 ∷ 101 ∷ 32 ∷ [])) (causeTask (numbersAt 38 l 6))
     -- `dump`, the whole line
-    (cond (startsWith l (100 ∷ 117 ∷ 109 ∷ 112 ∷ [])) (when (eqb (length l) 4) task.Dump) task.Unknown))))))))
+    (cond (startsWith l (100 ∷ 117 ∷ 109 ∷ 112 ∷ [])) (when (eqb (length l) 4) task.Dump) task.Unknown)))))))))
 
 unfoldable pub lineOf : List ℕ → Line
 lineOf l =

@@ -19,7 +19,7 @@ mod shape;
 mod tasks;
 
 // What a line asks for: nothing that is understood; a call of the desk; a new desk; a record, the length of the output area or a place
-// that is set; all that there is, to be printed; a second post for the call in a place.
+// that is set; all that there is, to be printed; a second post, or a cause, for the call in a place.
 pub enum Task {
     Unknown,
     Call(Event),
@@ -29,6 +29,7 @@ pub enum Task {
     Fill { at: u8, place: Place },
     Dump,
     Second { at: u8, post: u8 },
+    Cause { at: u8, cause: u8 },
 }
 
 // A task, and what goes with it: the profile of a new desk; of a post's message the first `count` of the bytes. All else is zero.
@@ -95,6 +96,9 @@ fn task_of(line: &[u8]) -> Task
     }
     if shape::starts(line, b"second ") {
         return tasks::second(shape::numbers_at(line, 7, 38));
+    }
+    if shape::starts(line, b"cause ") {
+        return tasks::cause(shape::numbers_at(line, 6, 38));
     }
     if shape::starts(line, b"dump") {
         return tasks::dump(line.len());

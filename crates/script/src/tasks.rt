@@ -1,7 +1,7 @@
 // The lines that are a keyword and numbers: how many there are, and the largest that each may be.
 ghost use mathlib.Core.Path.{_≡_};
 ghost use lib.Dec.{eqb};
-ghost use Rattle.script.specs.Lines.{when, recordTask, setUpTask, rejectTask, cancelTask, outTask, placeTask, unplaceTask, secondTask};
+ghost use Rattle.script.specs.Lines.{when, recordTask, setUpTask, rejectTask, cancelTask, outTask, placeTask, unplaceTask, secondTask, causeTask};
 use crate::Task;
 use crate::shape::Numbers;
 use desk::Event;
@@ -44,7 +44,10 @@ pub(crate) fn set_up(n: Numbers) -> Task
     ensures { λ r. ⌜ r ≡ setUpTask n ⌝ }
 {
     let number = n.number;
-    if n.count == 5 {} else {
+    if n.count < 5 {
+        return Task::Unknown;
+    }
+    if n.count > 6 {
         return Task::Unknown;
     }
     Task::Call(Event::SetUp {
@@ -57,6 +60,7 @@ pub(crate) fn set_up(n: Numbers) -> Task
             extension: number[3],
         },
         identifier: number[4],
+        cause: number[5],
     })
 }
 
@@ -124,6 +128,7 @@ pub(crate) fn fill(n: Numbers) -> Task
             post: number[2] as u8,
             more: false,
             second: 0,
+            cause: 0,
         },
     }
 }
@@ -144,6 +149,25 @@ pub(crate) fn second(n: Numbers) -> Task
     Task::Second {
         at: number[0] as u8,
         post: number[1] as u8,
+    }
+}
+
+pub(crate) fn cause(n: Numbers) -> Task
+    ensures { λ r. ⌜ r ≡ causeTask n ⌝ }
+{
+    let number = n.number;
+    if n.count == 2 {} else {
+        return Task::Unknown;
+    }
+    if number[0] > 31 {
+        return Task::Unknown;
+    }
+    if number[1] > 255 {
+        return Task::Unknown;
+    }
+    Task::Cause {
+        at: number[0] as u8,
+        cause: number[1] as u8,
     }
 }
 

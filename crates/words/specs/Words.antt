@@ -81,15 +81,15 @@ acksWords laid area =
     ++ (decimalOf (laid .count)
     ++ ((ackBits laid 0 ++ (ackBits laid 1 ++ ackBits laid 2)) ++ (ackHex laid area 0 ++ (ackHex laid area 1 ++ ackHex laid area 2))))
 
--- `admitted POST PLACE ` and the message
+-- `admitted POST PLACE ` and the two messages
 unfoldable pub admittedWords : ℕ → ℕ → Laid → List ℕ → List ℕ
 admittedWords post place laid area =
     (97 ∷ 100 ∷ 109 ∷ 105 ∷ 116 ∷ 116 ∷ 101 ∷ 100 ∷ 32 ∷ [])
-    ++ (decimalOf post ++ ((32 ∷ []) ++ (decimalOf place ++ ((32 ∷ []) ++ messageHex area 0 (bitsIn laid 0)))))
+    ++ (decimalOf post ++ ((32 ∷ []) ++ (decimalOf place ++ ((32 ∷ []) ++ (messageHex area 0 (bitsIn laid 0) ++ ((32 ∷ []) ++ messageHex area 1 (bitsIn laid 1)))))))
 
--- `moved ` and the post
-unfoldable pub movedWords : ℕ → List ℕ
-movedWords post = (109 ∷ 111 ∷ 118 ∷ 101 ∷ 100 ∷ 32 ∷ []) ++ decimalOf post
+-- the post and the message
+unfoldable pub postWords : ℕ → Laid → List ℕ → List ℕ
+postWords post laid area = decimalOf post ++ ((32 ∷ []) ++ messageHex area 0 (bitsIn laid 0))
 
 unfoldable pub wordsOf : Answer → Laid → List ℕ → List ℕ
 wordsOf (answer.Refused s) laid area = refusedOf (s .number)
@@ -103,11 +103,12 @@ wordsOf (answer.Admitted post place) laid area = admittedWords post place laid a
 wordsOf answer.Proceed laid area = (112 ∷ 114 ∷ 111 ∷ 99 ∷ 101 ∷ 101 ∷ 100 ∷ 32 ∷ []) ++ messageHex area 0 (bitsIn laid 0)
 -- `diverted `
 wordsOf answer.Diverted laid area = (100 ∷ 105 ∷ 118 ∷ 101 ∷ 114 ∷ 116 ∷ 101 ∷ 100 ∷ 32 ∷ []) ++ messageHex area 0 (bitsIn laid 0)
--- `rejected`
-wordsOf answer.Rejected laid area = 114 ∷ 101 ∷ 106 ∷ 101 ∷ 99 ∷ 116 ∷ 101 ∷ 100 ∷ []
--- `cancelled`
-wordsOf answer.Cancelled laid area = 99 ∷ 97 ∷ 110 ∷ 99 ∷ 101 ∷ 108 ∷ 108 ∷ 101 ∷ 100 ∷ []
-wordsOf (answer.Moved post) laid area = movedWords post
+-- `rejected `
+wordsOf answer.Rejected laid area = (114 ∷ 101 ∷ 106 ∷ 101 ∷ 99 ∷ 116 ∷ 101 ∷ 100 ∷ 32 ∷ []) ++ messageHex area 0 (bitsIn laid 0)
+-- `cancelled `
+wordsOf (answer.Cancelled post) laid area = (99 ∷ 97 ∷ 110 ∷ 99 ∷ 101 ∷ 108 ∷ 108 ∷ 101 ∷ 100 ∷ 32 ∷ []) ++ postWords post laid area
+-- `moved `
+wordsOf (answer.Moved post) laid area = (109 ∷ 111 ∷ 118 ∷ 101 ∷ 100 ∷ 32 ∷ []) ++ postWords post laid area
 
 -- ---- a dump's parts: each with a space before it, and nothing for what is not used
 
@@ -119,10 +120,14 @@ fieldOf n = (58 ∷ []) ++ decimalOf n
 unfoldable pub secondWords : Bool → ℕ → List ℕ
 secondWords more second = cond more ((62 ∷ []) ++ decimalOf second) []
 
--- I:ID:POST, or I:ID:POST>SECOND
+-- `!` and the cause, if it is not 0
+unfoldable pub causeWords : ℕ → List ℕ
+causeWords cause = cond (eqb cause 0) [] ((33 ∷ []) ++ decimalOf cause)
+
+-- I:ID:POST, with >SECOND and !CAUSE behind it where they are
 unfoldable pub placeWords : ℕ → Place → List ℕ
 placeWords i p =
-    cond (p .used) ((32 ∷ []) ++ (decimalOf i ++ (fieldOf (p .identifier) ++ (fieldOf (p .post) ++ secondWords (p .more) (p .second))))) []
+    cond (p .used) ((32 ∷ []) ++ (decimalOf i ++ (fieldOf (p .identifier) ++ (fieldOf (p .post) ++ (secondWords (p .more) (p .second) ++ causeWords (p .cause)))))) []
 
 -- I:SSI:EXT:POST:ACTIVE
 unfoldable pub recordWords : ℕ → Record → List ℕ

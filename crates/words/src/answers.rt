@@ -4,7 +4,7 @@ ghost use mathlib.Core.List.{_++_};
 ghost use lib.ListN.{getD};
 ghost use Rattle.profile.specs.Counting.{one};
 ghost use Rattle.blocks.specs.Texts.{Wrote};
-ghost use Rattle.words.specs.Words.{messageHex, bitsIn, refusedOf, stateWord, ackBits, ackHex, acksWords, admittedWords, movedWords, wordsOf, secondWords, placeWords, recordWords};
+ghost use Rattle.words.specs.Words.{messageHex, bitsIn, refusedOf, stateWord, ackBits, ackHex, acksWords, admittedWords, postWords, wordsOf, secondWords, causeWords, placeWords, recordWords};
 use crate::texts;
 use blocks::Text;
 use desk::Answer;
@@ -23,9 +23,9 @@ pub(crate) fn answer(text: Text, answer: Answer, laid: Laid, area: &[u8]) -> Tex
         Answer::Admitted { post, place } => admitted(text, post, place, laid, area),
         Answer::Proceed => message(texts::add(text, b"proceed "), laid, area, 0),
         Answer::Diverted => message(texts::add(text, b"diverted "), laid, area, 0),
-        Answer::Rejected => texts::add(text, b"rejected"),
-        Answer::Cancelled => texts::add(text, b"cancelled"),
-        Answer::Moved { post } => moved(text, post),
+        Answer::Rejected => message(texts::add(text, b"rejected "), laid, area, 0),
+        Answer::Cancelled { post } => { posted(texts::add(text, b"cancelled "), post, laid, area) }
+        Answer::Moved { post } => posted(texts::add(text, b"moved "), post, laid, area),
     }
 }
 
@@ -97,13 +97,15 @@ fn admitted(text: Text, post: u8, place: u8, laid: Laid, area: &[u8]) -> Text
 {
     let named = texts::add_number(texts::add(text, b"admitted "), post as u32);
     let placed = texts::add_number(texts::add(named, b" "), place as u32);
-    message(texts::add(placed, b" "), laid, area, 0)
+    let first = message(texts::add(placed, b" "), laid, area, 0);
+    message(texts::add(first, b" "), laid, area, 1)
 }
 
-fn moved(text: Text, post: u8) -> Text
-    ensures { λ r. ⌜ Wrote text r (movedWords post) ⌝ }
+fn posted(text: Text, post: u8, laid: Laid, area: &[u8]) -> Text
+    ensures { λ r. ⌜ Wrote text r (postWords post laid (now (area .entry))) ⌝ }
 {
-    texts::add_number(texts::add(text, b"moved "), post as u32)
+    let named = texts::add_number(text, post as u32);
+    message(texts::add(named, b" "), laid, area, 0)
 }
 
 // Message k of those that were laid.
@@ -139,7 +141,8 @@ pub(crate) fn place_part(text: Text, i: u8, place: Place) -> Text
         let numbered = texts::add_number(texts::add(text, b" "), i as u32);
         let named = texts::add_field(numbered, place.identifier as u32);
         let posted = texts::add_field(named, place.post as u32);
-        return second_part(posted, place.more, place.second);
+        let asked = second_part(posted, place.more, place.second);
+        return cause_part(asked, place.cause);
     }
     text
 }
@@ -151,6 +154,15 @@ fn second_part(text: Text, more: bool, second: u8) -> Text
         return texts::add_number(texts::add(text, b">"), second as u32);
     }
     text
+}
+
+fn cause_part(text: Text, cause: u8) -> Text
+    ensures { λ r. ⌜ Wrote text r (causeWords cause) ⌝ }
+{
+    if cause == 0 {
+        return text;
+    }
+    texts::add_number(texts::add(text, b"!"), cause as u32)
 }
 
 pub(crate) fn record_part(text: Text, i: u8, row: Record) -> Text

@@ -227,53 +227,93 @@ slice-aggregate-starts-9 c = search needs
 starts-requires-9 : tie.Need-starts-requires-9
 starts-requires-9 c κs = search needs
 
-dump-requires : tie.Need-dump-requires
-dump-requires c κs = search needs
+numbers-at-requires-9 : tie.Need-numbers-at-requires-9
+numbers-at-requires-9 c κs = search needs
+
+cause-requires : tie.Need-cause-requires
+cause-requires c κs = search needs
 
 returns-9 : tie.Need-returns-9
 unfolding taskOf
 returns-9 c =
-    let p1 = c .before .before .before .before .before .before .before .before .before .before .before .before .before .before .before .before .before .before .before .before .before .before .before .before .before .before in
-    let p2 = c .before .before .before .before .before .before .before .before .before .before .before .before .before .before .before .before .before .before .before .before .before .before .before .before .before in
-    let p3 = c .before .before .before .before .before .before .before .before .before .before .before .before .before .before .before .before .before .before .before .before .before .before .before in
-    let p4 = c .before .before .before .before .before .before .before .before .before .before .before .before .before .before .before .before .before .before .before .before .before .before in
-    let p5 = c .before .before .before .before .before .before .before .before .before .before .before .before .before .before .before .before .before .before .before .before in
-    let p6 = c .before .before .before .before .before .before .before .before .before .before .before .before .before .before .before .before .before .before .before in
-    let p7 = c .before .before .before .before .before .before .before .before .before .before .before .before .before .before .before .before .before in
-    let p8 = c .before .before .before .before .before .before .before .before .before .before .before .before .before .before .before .before in
-    let p9 = c .before .before .before .before .before .before .before .before .before .before .before .before .before .before in
-    let p10 = c .before .before .before .before .before .before .before .before .before .before .before .before .before in
-    let p11 = c .before .before .before .before .before .before .before .before .before .before .before in
-    let p12 = c .before .before .before .before .before .before .before .before .before .before in
-    let p13 = c .before .before .before .before .before .before .before .before in
-    let p14 = c .before .before .before .before .before .before .before in
-    let p15 = c .before .before .before .before .before in
-    let p16 = c .before .before .before .before in
-    let p17 = c .before .before in
-    let p18 = c .before in
-    rw (c .dump .ensures, sym (p1 .starts .ensures) ∙ p2 .if1 .left, sym (p3 .starts2 .ensures) ∙ p4 .if2 .left, sym (p5 .starts3 .ensures) ∙ p6 .if3 .left, sym (p7 .starts4 .ensures) ∙ p8 .if4 .left, sym (p9 .starts5 .ensures) ∙ p10 .if5 .left, sym (p11 .starts6 .ensures) ∙ p12 .if6 .left, sym (p13 .starts7 .ensures) ∙ p14 .if7 .left, sym (p15 .starts8 .ensures) ∙ p16 .if8 .left, sym (p17 .starts9 .ensures) ∙ p18 .if9 .taken)
+    let p1 = c .before .before .before .before .before .before .before .before .before .before .before .before .before .before .before .before .before .before .before .before .before .before .before .before .before .before .before in
+    let p2 = c .before .before .before .before .before .before .before .before .before .before .before .before .before .before .before .before .before .before .before .before .before .before .before .before .before .before in
+    let p3 = c .before .before .before .before .before .before .before .before .before .before .before .before .before .before .before .before .before .before .before .before .before .before .before .before in
+    let p4 = c .before .before .before .before .before .before .before .before .before .before .before .before .before .before .before .before .before .before .before .before .before .before .before in
+    let p5 = c .before .before .before .before .before .before .before .before .before .before .before .before .before .before .before .before .before .before .before .before .before in
+    let p6 = c .before .before .before .before .before .before .before .before .before .before .before .before .before .before .before .before .before .before .before .before in
+    let p7 = c .before .before .before .before .before .before .before .before .before .before .before .before .before .before .before .before .before .before in
+    let p8 = c .before .before .before .before .before .before .before .before .before .before .before .before .before .before .before .before .before in
+    let p9 = c .before .before .before .before .before .before .before .before .before .before .before .before .before .before .before in
+    let p10 = c .before .before .before .before .before .before .before .before .before .before .before .before .before .before in
+    let p11 = c .before .before .before .before .before .before .before .before .before .before .before .before in
+    let p12 = c .before .before .before .before .before .before .before .before .before .before .before in
+    let p13 = c .before .before .before .before .before .before .before .before .before in
+    let p14 = c .before .before .before .before .before .before .before .before in
+    let p15 = c .before .before .before .before .before .before in
+    let p16 = c .before .before .before .before .before in
+    let p17 = c .before .before .before in
+    let p18 = c .before .before in
+    let p19 = c .before in
+    rw (c .cause .ensures, p19 .numbers-at9 .ensures, sym (p1 .starts .ensures) ∙ p2 .if1 .left, sym (p3 .starts2 .ensures) ∙ p4 .if2 .left, sym (p5 .starts3 .ensures) ∙ p6 .if3 .left, sym (p7 .starts4 .ensures) ∙ p8 .if4 .left, sym (p9 .starts5 .ensures) ∙ p10 .if5 .left, sym (p11 .starts6 .ensures) ∙ p12 .if6 .left, sym (p13 .starts7 .ensures) ∙ p14 .if7 .left, sym (p15 .starts8 .ensures) ∙ p16 .if8 .left, sym (p17 .starts9 .ensures) ∙ p18 .if9 .taken)
+
+slice-aggregate-starts-10 : tie.Need-slice-aggregate-starts-10
+slice-aggregate-starts-10 c = search needs
+
+starts-requires-10 : tie.Need-starts-requires-10
+starts-requires-10 c κs = search needs
+
+dump-requires : tie.Need-dump-requires
+dump-requires c κs = search needs
 
 returns-10 : tie.Need-returns-10
 unfolding taskOf
 returns-10 c =
-    let p1 = c .before .before .before .before .before .before .before .before .before .before .before .before .before .before .before .before .before .before .before .before .before .before .before .before .before in
-    let p2 = c .before .before .before .before .before .before .before .before .before .before .before .before .before .before .before .before .before .before .before .before .before .before .before .before in
-    let p3 = c .before .before .before .before .before .before .before .before .before .before .before .before .before .before .before .before .before .before .before .before .before .before in
-    let p4 = c .before .before .before .before .before .before .before .before .before .before .before .before .before .before .before .before .before .before .before .before .before in
-    let p5 = c .before .before .before .before .before .before .before .before .before .before .before .before .before .before .before .before .before .before .before in
-    let p6 = c .before .before .before .before .before .before .before .before .before .before .before .before .before .before .before .before .before .before in
-    let p7 = c .before .before .before .before .before .before .before .before .before .before .before .before .before .before .before .before in
-    let p8 = c .before .before .before .before .before .before .before .before .before .before .before .before .before .before .before in
-    let p9 = c .before .before .before .before .before .before .before .before .before .before .before .before .before in
-    let p10 = c .before .before .before .before .before .before .before .before .before .before .before .before in
-    let p11 = c .before .before .before .before .before .before .before .before .before .before in
-    let p12 = c .before .before .before .before .before .before .before .before .before in
-    let p13 = c .before .before .before .before .before .before .before in
-    let p14 = c .before .before .before .before .before .before in
-    let p15 = c .before .before .before .before in
-    let p16 = c .before .before .before in
-    let p17 = c .before in
-    rw (sym (p1 .starts .ensures) ∙ p2 .if1 .left, sym (p3 .starts2 .ensures) ∙ p4 .if2 .left, sym (p5 .starts3 .ensures) ∙ p6 .if3 .left, sym (p7 .starts4 .ensures) ∙ p8 .if4 .left, sym (p9 .starts5 .ensures) ∙ p10 .if5 .left, sym (p11 .starts6 .ensures) ∙ p12 .if6 .left, sym (p13 .starts7 .ensures) ∙ p14 .if7 .left, sym (p15 .starts8 .ensures) ∙ p16 .if8 .left, sym (p17 .starts9 .ensures) ∙ c .if9 .left)
+    let p1 = c .before .before .before .before .before .before .before .before .before .before .before .before .before .before .before .before .before .before .before .before .before .before .before .before .before .before .before .before .before in
+    let p2 = c .before .before .before .before .before .before .before .before .before .before .before .before .before .before .before .before .before .before .before .before .before .before .before .before .before .before .before .before in
+    let p3 = c .before .before .before .before .before .before .before .before .before .before .before .before .before .before .before .before .before .before .before .before .before .before .before .before .before .before in
+    let p4 = c .before .before .before .before .before .before .before .before .before .before .before .before .before .before .before .before .before .before .before .before .before .before .before .before .before in
+    let p5 = c .before .before .before .before .before .before .before .before .before .before .before .before .before .before .before .before .before .before .before .before .before .before .before in
+    let p6 = c .before .before .before .before .before .before .before .before .before .before .before .before .before .before .before .before .before .before .before .before .before .before in
+    let p7 = c .before .before .before .before .before .before .before .before .before .before .before .before .before .before .before .before .before .before .before .before in
+    let p8 = c .before .before .before .before .before .before .before .before .before .before .before .before .before .before .before .before .before .before .before in
+    let p9 = c .before .before .before .before .before .before .before .before .before .before .before .before .before .before .before .before .before in
+    let p10 = c .before .before .before .before .before .before .before .before .before .before .before .before .before .before .before .before in
+    let p11 = c .before .before .before .before .before .before .before .before .before .before .before .before .before .before in
+    let p12 = c .before .before .before .before .before .before .before .before .before .before .before .before .before in
+    let p13 = c .before .before .before .before .before .before .before .before .before .before .before in
+    let p14 = c .before .before .before .before .before .before .before .before .before .before in
+    let p15 = c .before .before .before .before .before .before .before .before in
+    let p16 = c .before .before .before .before .before .before .before in
+    let p17 = c .before .before .before .before .before in
+    let p18 = c .before .before .before .before in
+    let p19 = c .before .before in
+    let p20 = c .before in
+    rw (c .dump .ensures, sym (p1 .starts .ensures) ∙ p2 .if1 .left, sym (p3 .starts2 .ensures) ∙ p4 .if2 .left, sym (p5 .starts3 .ensures) ∙ p6 .if3 .left, sym (p7 .starts4 .ensures) ∙ p8 .if4 .left, sym (p9 .starts5 .ensures) ∙ p10 .if5 .left, sym (p11 .starts6 .ensures) ∙ p12 .if6 .left, sym (p13 .starts7 .ensures) ∙ p14 .if7 .left, sym (p15 .starts8 .ensures) ∙ p16 .if8 .left, sym (p17 .starts9 .ensures) ∙ p18 .if9 .left, sym (p19 .starts10 .ensures) ∙ p20 .if10 .taken)
+
+returns-11 : tie.Need-returns-11
+unfolding taskOf
+returns-11 c =
+    let p1 = c .before .before .before .before .before .before .before .before .before .before .before .before .before .before .before .before .before .before .before .before .before .before .before .before .before .before .before .before in
+    let p2 = c .before .before .before .before .before .before .before .before .before .before .before .before .before .before .before .before .before .before .before .before .before .before .before .before .before .before .before in
+    let p3 = c .before .before .before .before .before .before .before .before .before .before .before .before .before .before .before .before .before .before .before .before .before .before .before .before .before in
+    let p4 = c .before .before .before .before .before .before .before .before .before .before .before .before .before .before .before .before .before .before .before .before .before .before .before .before in
+    let p5 = c .before .before .before .before .before .before .before .before .before .before .before .before .before .before .before .before .before .before .before .before .before .before in
+    let p6 = c .before .before .before .before .before .before .before .before .before .before .before .before .before .before .before .before .before .before .before .before .before in
+    let p7 = c .before .before .before .before .before .before .before .before .before .before .before .before .before .before .before .before .before .before .before in
+    let p8 = c .before .before .before .before .before .before .before .before .before .before .before .before .before .before .before .before .before .before in
+    let p9 = c .before .before .before .before .before .before .before .before .before .before .before .before .before .before .before .before in
+    let p10 = c .before .before .before .before .before .before .before .before .before .before .before .before .before .before .before in
+    let p11 = c .before .before .before .before .before .before .before .before .before .before .before .before .before in
+    let p12 = c .before .before .before .before .before .before .before .before .before .before .before .before in
+    let p13 = c .before .before .before .before .before .before .before .before .before .before in
+    let p14 = c .before .before .before .before .before .before .before .before .before in
+    let p15 = c .before .before .before .before .before .before .before in
+    let p16 = c .before .before .before .before .before .before in
+    let p17 = c .before .before .before .before in
+    let p18 = c .before .before .before in
+    let p19 = c .before in
+    rw (sym (p1 .starts .ensures) ∙ p2 .if1 .left, sym (p3 .starts2 .ensures) ∙ p4 .if2 .left, sym (p5 .starts3 .ensures) ∙ p6 .if3 .left, sym (p7 .starts4 .ensures) ∙ p8 .if4 .left, sym (p9 .starts5 .ensures) ∙ p10 .if5 .left, sym (p11 .starts6 .ensures) ∙ p12 .if6 .left, sym (p13 .starts7 .ensures) ∙ p14 .if7 .left, sym (p15 .starts8 .ensures) ∙ p16 .if8 .left, sym (p17 .starts9 .ensures) ∙ p18 .if9 .left, sym (p19 .starts10 .ensures) ∙ c .if10 .left)
 
 pub task-of-spec : {M : Type 1} → statement M
 task-of-spec =
@@ -321,6 +361,11 @@ task-of-spec =
     returns-8
     slice-aggregate-starts-9
     starts-requires-9
-    dump-requires
+    numbers-at-requires-9
+    cause-requires
     returns-9
-    returns-10)
+    slice-aggregate-starts-10
+    starts-requires-10
+    dump-requires
+    returns-10
+    returns-11)

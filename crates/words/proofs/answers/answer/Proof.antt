@@ -77,8 +77,11 @@ slice-aggregate-add-5 c = search needs
 add-requires-5 : tie.Need-add-requires-5
 add-requires-5 c κs = search needs
 
-enum-told-6 : tie.Need-enum-told-6
-enum-told-6 c = search needs
+message-requires-3 : tie.Need-message-requires-3
+message-requires-3 c κs = search needs
+
+enum-known-answer-4 : tie.Need-enum-known-answer-4
+enum-known-answer-4 c = search needs
 
 slice-aggregate-add-6 : tie.Need-slice-aggregate-add-6
 slice-aggregate-add-6 c = search needs
@@ -86,11 +89,20 @@ slice-aggregate-add-6 c = search needs
 add-requires-6 : tie.Need-add-requires-6
 add-requires-6 c κs = search needs
 
-enum-known-answer-4 : tie.Need-enum-known-answer-4
-enum-known-answer-4 c = search needs
+posted-requires : tie.Need-posted-requires
+posted-requires c κs = search needs
 
-moved-requires : tie.Need-moved-requires
-moved-requires c κs = search needs
+enum-known-answer-5 : tie.Need-enum-known-answer-5
+enum-known-answer-5 c = search needs
+
+slice-aggregate-add-7 : tie.Need-slice-aggregate-add-7
+slice-aggregate-add-7 c = search needs
+
+add-requires-7 : tie.Need-add-requires-7
+add-requires-7 c κs = search needs
+
+posted-requires-2 : tie.Need-posted-requires-2
+posted-requires-2 c κs = search needs
 
 returns : tie.Need-returns
 unfolding wordsOf
@@ -133,18 +145,17 @@ returns-7 c =
 returns-8 : tie.Need-returns-8
 unfolding wordsOf
 returns-8 c =
-    let p1 = c .before .before in
-    rw (p1 .enum-told5 .given .1) (c .add5 .ensures)
+    let p1 = c .before .before .before in
+    let p2 = c .before in
+    rw (p1 .enum-told5 .given .1) (wrote-join (p2 .add5 .ensures) (c .message3 .ensures))
 
 returns-9 : tie.Need-returns-9
 unfolding wordsOf
-returns-9 c =
-    let p1 = c .before .before in
-    rw (p1 .enum-told6 .given .1) (c .add6 .ensures)
+returns-9 c = rw (c .before .before .before .before .answer4 .given .1) (wrote-join (c .before .add6 .ensures) (c .posted .ensures))
 
 returns-10 : tie.Need-returns-10
 unfolding wordsOf
-returns-10 c = rw (c .before .before .answer4 .given .1) (c .moved .ensures)
+returns-10 c = rw (c .before .before .before .before .answer5 .given .1) (wrote-join (c .before .add7 .ensures) (c .posted2 .ensures))
 
 pub answer-spec : {M : Type 1} → statement M
 answer-spec =
@@ -174,11 +185,15 @@ answer-spec =
     enum-told-5
     slice-aggregate-add-5
     add-requires-5
-    enum-told-6
+    message-requires-3
+    enum-known-answer-4
     slice-aggregate-add-6
     add-requires-6
-    enum-known-answer-4
-    moved-requires
+    posted-requires
+    enum-known-answer-5
+    slice-aggregate-add-7
+    add-requires-7
+    posted-requires-2
     returns
     returns-2
     returns-3

@@ -29,15 +29,19 @@ add-field-requires-2 c κs = search needs
 second-part-requires : tie.Need-second-part-requires
 second-part-requires c κs = search needs
 
+cause-part-requires : tie.Need-cause-part-requires
+cause-part-requires c κs = search needs
+
 returns : tie.Need-returns
 unfolding placeWords
 returns c =
-    let p1 = c .before .before .before .before .before .before .before .before in
-    let p2 = c .before .before .before .before .before .before in
-    let p3 = c .before .before .before .before .before in
-    let p4 = c .before .before .before in
-    let p5 = c .before in
-    rw (p1 .if1 .taken) (wrote-join (p2 .add .ensures) (wrote-join (p3 .add-number .ensures) (wrote-join (p4 .add-field .ensures) (wrote-join (p5 .add-field2 .ensures) (c .second-part .ensures)))))
+    let p1 = c .before .before .before .before .before .before .before .before .before in
+    let p2 = c .before .before .before .before .before .before .before in
+    let p3 = c .before .before .before .before .before .before in
+    let p4 = c .before .before .before .before in
+    let p5 = c .before .before in
+    let p6 = c .before in
+    rw (p1 .if1 .taken) (wrote-join (p2 .add .ensures) (wrote-join (p3 .add-number .ensures) (wrote-join (p4 .add-field .ensures) (wrote-join (p5 .add-field2 .ensures) (wrote-join (p6 .second-part .ensures) (c .cause-part .ensures))))))
 
 returns-2 : tie.Need-returns-2
 unfolding placeWords
@@ -55,5 +59,6 @@ place-part-spec =
     cast-add-field-2
     add-field-requires-2
     second-part-requires
+    cause-part-requires
     returns
     returns-2)
