@@ -22,7 +22,7 @@ use Rattle.records.specs.Records.{noParty}
 use Rattle.records.specs.declared.Party.{Party}
 use Rattle.desk.specs.Desks.{deskWith}
 use Rattle.desk.specs.Grounds.{waits, waitsHere}
-use Rattle.desk.specs.Orders.{postsOf, placesOf, endAnswer, acceptAnswer, decideAnswer, rejectAnswer, answerOf}
+use Rattle.desk.specs.Orders.{postsOf, placesOf, acceptAnswer, decideAnswer, rejectAnswer, answerOf}
 use Rattle.desk.specs.Steps.{postOf, identifierOf}
 use Rattle.desk.specs.declared.Answer.{Answer}
 use Rattle.desk.specs.declared.Answer.the-variants as answer
@@ -31,7 +31,7 @@ use Rattle.desk.specs.declared.Event.{Event}
 use Rattle.desk.specs.declared.Event.the-variants as event
 use Rattle.desk.proofs.AnswerLaws.{step-answer}
 use Rattle.desk.proofs.Moves.{moved-so}
-use Rattle.history.specs.Histories.{Call, History, stepFor, runOf, Waiting, without, meantBy, answered, afterwards, waitingAfter, waitingOf, countBy, isWaiting, IsSent, isAdmission, admitsNone}
+use Rattle.history.specs.Histories.{Call, History, stepFor, runOf, Waiting, without, causeOf, meantBy, answered, afterwards, waitingAfter, waitingOf, countBy, isWaiting, IsSent, isAdmission, admitsNone}
 use Rattle.history.proofs.WaitingLaws.{hasSuch, without-count, some-such}
 use Rattle.history.proofs.RunLaws.{Along, along, along-step, meant-same, moved-other, step-profile, run-parts}
 use Rattle.history.proofs.Sharing.{waiting, next, kept, waiting-is, stays-ok}
@@ -41,7 +41,7 @@ use Rattle.history.proofs.Moving.{count-none, read-by, sent-accept, sen
 abbrev strays : ℕ → ℕ → Waiting → Bool
 strays identifier post x = both (eqb (x .identifier) identifier) (not (both (eqb (x .post) post) (not (x .second .found))))
 
-fewer : (identifier : ℕ) (test : Waiting → Bool) (w : List Waiting) → countBy test (without identifier w) ≤ countBy test w
+pub fewer : (identifier : ℕ) (test : Waiting → Bool) (w : List Waiting) → countBy test (without identifier w) ≤ countBy test w
 unfolding countBy without
 fewer identifier test [] = omega arith
 fewer identifier test (x ∷ w) = go (eqb (x .identifier) identifier) (fewer identifier test w)
@@ -78,28 +78,28 @@ module _ (d : Desk) (w : List Waiting) (a : Along d w) (c : Call) (identifier po
       stray false true e = refl
       stray b false e = not-both e
 
-  stays-answer : (second : Party) (x : Answer) → stepFor d c .answer ≡ x → both (isAdmission x) (eqb meant identifier) ≡ false
-      → countBy (strays identifier post) (answered meant second x w) ≡ 0
+  stays-answer : (second : Party) (cause : ℕ) (x : Answer) → stepFor d c .answer ≡ x → both (isAdmission x) (eqb meant identifier) ≡ false
+      → countBy (strays identifier post) (answered (record { identifier = meant; second = second; cause = cause }) x w) ≡ 0
   unfolding countBy both
-  stays-answer second (answer.Refused s) z h = none
-  stays-answer second answer.Acks z h = none
-  stays-answer second (answer.State k) z h = none
-  stays-answer second answer.Free z h = none
-  stays-answer second (answer.Admitted q i) z h = omega (arith, none, other-call identifier post (record { identifier = meant; post = q; second = second }) h)
-  stays-answer second answer.Proceed z h = omega (arith, none, fewer meant (strays identifier post) w)
-  stays-answer second answer.Diverted z h = omega (arith, none, fewer meant (strays identifier post) w)
-  stays-answer second answer.Rejected z h = omega (arith, none, fewer meant (strays identifier post) w)
-  stays-answer second answer.Cancelled z h = omega (arith, none, fewer meant (strays identifier post) w)
-  stays-answer second (answer.Moved to) z h = go (eqb meant identifier) refl
+  stays-answer second cause (answer.Refused s) z h = none
+  stays-answer second cause answer.Acks z h = none
+  stays-answer second cause (answer.State k) z h = none
+  stays-answer second cause answer.Free z h = none
+  stays-answer second cause (answer.Admitted q i) z h = omega (arith, none, other-call identifier post (record { identifier = meant; post = q; second = second; cause = cause }) h)
+  stays-answer second cause answer.Proceed z h = omega (arith, none, fewer meant (strays identifier post) w)
+  stays-answer second cause answer.Diverted z h = omega (arith, none, fewer meant (strays identifier post) w)
+  stays-answer second cause answer.Rejected z h = omega (arith, none, fewer meant (strays identifier post) w)
+  stays-answer second cause (answer.Cancelled p) z h = omega (arith, none, fewer meant (strays identifier post) w)
+  stays-answer second cause (answer.Moved to) z h = go (eqb meant identifier) refl
     where
-      go : (b : Bool) → eqb meant identifier ≡ b → countBy (strays identifier post) (record { identifier = meant; post = to; second = noParty } ∷ without meant w) ≡ 0
+      go : (b : Bool) → eqb meant identifier ≡ b → countBy (strays identifier post) (record { identifier = meant; post = to; second = noParty; cause = causeOf w meant } ∷ without meant w) ≡ 0
       go true e = absurd (not-moved to z e)
-      go false e = omega (arith, none, fewer meant (strays identifier post) w, other-call identifier post (record { identifier = meant; post = to; second = noParty }) e)
+      go false e = omega (arith, none, fewer meant (strays identifier post) w, other-call identifier post (record { identifier = meant; post = to; second = noParty; cause = causeOf w meant }) e)
 
   stays-step : both (isAdmission (stepFor d c .answer)) (eqb (meantBy (d .profile) (c .message) (c .event)) identifier) ≡ false
       → countBy (strays identifier post) (afterwards (d .profile) w c (stepFor d c .answer)) ≡ 0
   unfolding afterwards
-  stays-step h = rw (meant-same d w a c (c .event)) (stays-answer _ (stepFor d c .answer) refl (rw (meant-same d w a c (c .event)) at h))
+  stays-step h = rw (meant-same d w a c (c .event)) (stays-answer _ _ (stepFor d c .answer) refl (rw (meant-same d w a c (c .event)) at h))
 
 not-true : (b : Bool) → not b ≡ true → b ≡ false
 not-true true e = not-both e
@@ -157,7 +157,7 @@ module _ (p : Profile) (opens : profileOk p ≡ true) (before : List Call) (m : 
         rw moved
         (let e = without-count which (strays which to) (waiting p opens before) in
         let z = count-none (λ x. both (not (eqb (x .identifier) which)) (strays which to x)) (λ x. never (eqb (x .identifier) which) _) (waiting p opens before) in
-        let y : one (strays which to (record { identifier = which; post = to; second = noParty })) ≡ 0 = rw (eq-eqb which which refl, eq-eqb to to refl) refl in
+        let y : one (strays which to (record { identifier = which; post = to; second = noParty; cause = causeOf (waiting p opens before) which })) ≡ 0 = rw (eq-eqb which which refl, eq-eqb to to refl) refl in
         omega (arith, e, z, y))
       where
         never : (b c : Bool) → both (not b) (both b c) ≡ false
@@ -244,19 +244,18 @@ module _ (p : Profile) (opens : profileOk p ≡ true) (before : List Call) (m : 
           ∙ decide-20 desk (length (c .area)) post which answer.Diverted (sent .room) (waits-so true e) (elsewhere post other (waits-so true e))
 
     -- and a reject
-    pub reject-20 : (c : Call) (post : ℕ) → (post ≡ to → ⊥) → c .event ≡ event.Reject post which → post < p .shares .posts → which < 2 ^ 14
+    pub reject-20 : (c : Call) (post : ℕ) → (post ≡ to → ⊥) → c .event ≡ event.Reject post which → post < p .shares .posts → which < 2 ^ 14 → 300 ≤ length (c .area)
         → isWaiting (waiting p opens all) which ≡ true → stepFor desk c .answer ≡ answer.Refused (refusal 20)
-    unfolding answerOf rejectAnswer endAnswer
-    reject-20 c post other is below small e =
+    unfolding answerOf rejectAnswer
+    reject-20 c post other is below small room e =
         step-answer desk (c .rows) (c .count) (c .message) (c .area) (c .event)
         ∙ ap (λ (x : Event). answerOf desk (c .rows) (c .count) (c .message) (length (c .area)) x) is
         ∙ rw (
           stays-ok p opens all,
           lt-ltb post (postsOf desk) (subst (λ (x : Profile). post < x .shares .posts) (sym (kept p opens all)) below),
           lt-ltb which (2 ^ 14) small,
-          waits-so true e,
-          elsewhere post other (waits-so true e),
-        ) refl
+        )
+        (decide-20 desk (length (c .area)) post which answer.Rejected room (waits-so true e) (elsewhere post other (waits-so true e)))
 
     -- the second post's ACCEPT lets it proceed
     pub second-proceeds : (c : Call) → IsSent p 12 c to which → isWaiting (waiting p opens all) which ≡ true → stepFor desk c .answer ≡ answer.Proceed

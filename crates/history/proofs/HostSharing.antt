@@ -75,19 +75,19 @@ module _ (p : Profile) (o : Opened) (opening : o ≡ openOf p) (found : o .found
   is-open : (profileOk p ≡ true) × (openOf p .desk ≡ deskWith p)
   is-open = opened p (ap (λ (x : Opened). x .found) (sym opening) ∙ found)
 
-  opens : profileOk p ≡ true
+  pub opens : profileOk p ≡ true
   opens = is-open .0
 
-  desk-is : o .desk ≡ deskWith p
+  pub desk-is : o .desk ≡ deskWith p
   desk-is = ap (λ (x : Opened). x .desk) opening ∙ is-open .1
 
   abbrev steps : List Call
   steps = list.map callOf calls
 
-  waiting-is : step.waiting p opens steps ≡ waiting
+  pub waiting-is : step.waiting p opens steps ≡ waiting
   waiting-is = ap (λ (h : History). waitingOf p h) (ap (λ (d : Desk). runOf d steps) (sym desk-is) ∙ sym (written-down calls (o .desk) promised))
 
-  left-is : deskLeft (o .desk) calls ≡ step.next p opens steps
+  pub left-is : deskLeft (o .desk) calls ≡ step.next p opens steps
   left-is = desk-left calls (o .desk) promised ∙ ap (λ (d : Desk). leftBy d steps) desk-is
 
   -- no post passes its ceiling
@@ -97,7 +97,7 @@ module _ (p : Profile) (o : Opened) (opening : o ≡ openOf p) (found : o .found
   -- ---- the next call
 
   module _ (m : Made) (next : Promised (deskLeft (o .desk) calls) m) where
-    told-is : m .told .answer ≡ stepFor (step.next p opens steps) (callOf m) .answer
+    pub told-is : m .told .answer ≡ stepFor (step.next p opens steps) (callOf m) .answer
     told-is = told-step (deskLeft (o .desk) calls) m next ∙ ap (λ (d : Desk). stepFor d (callOf m) .answer) left-is
 
     -- it does not get 1
@@ -105,8 +105,8 @@ module _ (p : Profile) (o : Opened) (opening : o ≡ openOf p) (found : o .found
     call-never-one z = step.never-one p opens steps (callOf m) (ap numberOf (sym told-is) ∙ z)
 
     -- if it is a well-formed new restricted one
-    module _ (caller called : Identity) (identifier : ℕ) (event-is : m .event ≡ event.SetUp caller called identifier)
-        (formed : isRestrictedCall p waiting (callOf m) caller called identifier ≡ true) where
+    module _ (caller called : Identity) (identifier cause : ℕ) (event-is : m .event ≡ event.SetUp caller called identifier cause)
+        (formed : isRestrictedCall p waiting (callOf m) caller called identifier cause ≡ true) where
       -- the post that it is for
       abbrev pub post : ℕ
       post = partyFor (callOf m .rows) (callOf m .count) caller called .post
@@ -123,8 +123,8 @@ module _ (p : Profile) (o : Opened) (opening : o ≡ openOf p) (found : o .found
       abbrev pub NoPlace : Type 0
       NoPlace = NoPlaceBy waiting
 
-      formed-so : isRestrictedCall p (step.waiting p opens steps) (callOf m) caller called identifier ≡ true
-      formed-so = ap (λ (w : List Waiting). isRestrictedCall p w (callOf m) caller called identifier) waiting-is ∙ formed
+      formed-so : isRestrictedCall p (step.waiting p opens steps) (callOf m) caller called identifier cause ≡ true
+      formed-so = ap (λ (w : List Waiting). isRestrictedCall p w (callOf m) caller called identifier cause) waiting-is ∙ formed
 
       held-is : heldBy waiting post ≡ heldBy (step.waiting p opens steps) post
       held-is = ap (λ (w : List Waiting). heldBy w post) (sym waiting-is)
@@ -133,21 +133,21 @@ module _ (p : Profile) (o : Opened) (opening : o ≡ openOf p) (found : o .found
       pub call-reserved : heldBy waiting post < share post .reserved → ToldAdmitted
       call-reserved h =
           let a =
-          step.reserved-never-refused p opens steps (callOf m) caller called identifier event-is formed-so (subst (λ (k : ℕ). k < share post .reserved) held-is h) in
+          step.reserved-never-refused p opens steps (callOf m) caller called identifier cause event-is formed-so (subst (λ (k : ℕ). k < share post .reserved) held-is h) in
           record { place = a .place; answer-is = told-is ∙ a .answer-is }
 
       -- at its reserved number or above, a call gets 18 exactly if there is no place for it
       pub call-refused-exactly : share post .reserved ≤ heldBy waiting post
           → (NoPlace → m .told .answer ≡ answer.Refused (refusal 18)) × (m .told .answer ≡ answer.Refused (refusal 18) → NoPlace)
       call-refused-exactly h =
-          let e = step.refused-exactly p opens steps (callOf m) caller called identifier event-is formed-so (subst (λ (k : ℕ). share post .reserved ≤ k) held-is h) in
+          let e = step.refused-exactly p opens steps (callOf m) caller called identifier cause event-is formed-so (subst (λ (k : ℕ). share post .reserved ≤ k) held-is h) in
           (λ k. told-is ∙ e .0 (subst NoPlaceBy (sym waiting-is) k), λ z. subst NoPlaceBy waiting-is (e .1 (sym told-is ∙ z)))
 
       -- and is admitted else
       pub call-admitted-else : share post .reserved ≤ heldBy waiting post → (NoPlace → ⊥) → ToldAdmitted
       call-admitted-else h k =
           let a =
-          step.admitted-else p opens steps (callOf m) caller called identifier event-is formed-so (subst (λ (x : ℕ). share post .reserved ≤ x) held-is h)
+          step.admitted-else p opens steps (callOf m) caller called identifier cause event-is formed-so (subst (λ (x : ℕ). share post .reserved ≤ x) held-is h)
           (λ r. k (subst NoPlaceBy waiting-is r)) in
           record { place = a .place; answer-is = told-is ∙ a .answer-is }
 

@@ -4,4 +4,6 @@ pub mod RunLaws
 pub mod Sharing
 pub mod Moving
 pub mod AfterMoves
+pub mod Asking
 pub mod HostSharing
+pub mod HostAsking

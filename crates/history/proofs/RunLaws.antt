@@ -12,7 +12,8 @@ use Rattle.codec.proofs.Good.{both-right, not-both}
 use Rattle.profile.specs.Rules.{profileOk, noProfile}
 use Rattle.profile.specs.declared.Profile.{Profile}
 use Rattle.message.specs.Reading.{readOf}
-use Rattle.message.specs.Values.{blank, identifierIn}
+use Rattle.message.specs.Numbers as numbers
+use Rattle.message.specs.Values.{blank, identifierIn, numberAt}
 use Rattle.message.specs.declared.Value.{Value}
 use Rattle.places.specs.Held.{noPlace, placeIn, admitsOf}
 use Rattle.places.specs.Grounds.{placesOk}
@@ -26,7 +27,7 @@ use Rattle.records.specs.Records.{noParty}
 use Rattle.places.proofs.PlaceLaws.{take-keeps, clear-keeps, none-waiting-ok}
 use Rattle.desk.specs.Desks.{deskWith, openOf}
 use Rattle.desk.specs.Orders.{placesOf}
-use Rattle.desk.specs.Steps.{nothing, begins, moves, ends, effectBy, effectOf, valueBy, identifierOf, Spoken, secondFor, spokenOf, callFor, postOf, deskAfter}
+use Rattle.desk.specs.Steps.{nothing, begins, moves, ends, effectBy, effectOf, valueBy, identifierOf, Spoken, secondFor, causeFor, spokenOf, callFor, postOf, deskAfter}
 use Rattle.desk.specs.declared.Answer.{Answer}
 use Rattle.desk.specs.declared.Answer.the-variants as answer
 use Rattle.desk.specs.declared.Desk.{Desk}
@@ -36,8 +37,8 @@ use Rattle.desk.specs.declared.Opened.{Opened}
 use Rattle.desk.proofs.SetUps.{step-desk, admitted-so}
 use Rattle.desk.proofs.Endings.{isEnding, ended-waits}
 use Rattle.desk.proofs.Moves.{MovedCall, moved-so}
-use Rattle.history.specs.Histories.{Call, History, stepFor, runOf, leftBy, Waiting, without, namedBy, meantBy, askedSecond, answered, afterwards, waitingAfter, waitingOf}
-use Rattle.history.proofs.WaitingLaws.{waitingFor, Same, same-none, same-take, same-clear}
+use Rattle.history.specs.Histories.{Call, History, stepFor, runOf, leftBy, Waiting, without, namedBy, meantBy, askedSecond, causeBy, givenCause, causeOf, answered, afterwards, waitingAfter, waitingOf}
+use Rattle.history.proofs.WaitingLaws.{waitingFor, Same, same-none, same-take, same-clear, cause-same}
 
 -- a second post is another than the one where the call waits
 abbrev pub Other : Place → Type 0
@@ -58,10 +59,10 @@ other-set l n i p h o all j k = set-by l i p (omega (arith, n, h)) Other j (λ d
 -- ---- one call
 
 module _ (d : Desk) (w : List Waiting) (a : Along d w) (c : Call) where
-  abbrev spoken : Spoken
+  abbrev pub spoken : Spoken
   spoken = spokenOf (d .profile) (take (c .count) (c .rows)) (c .message) (c .event)
 
-  abbrev identifier : ℕ
+  abbrev pub identifier : ℕ
   identifier = identifierOf (d .profile) (c .message) (c .event)
 
   along-ends : isEnding (stepFor d c .answer) ≡ true → Along (deskAfter d (ends identifier)) (without identifier w)
@@ -77,7 +78,7 @@ module _ (d : Desk) (w : List Waiting) (a : Along d w) (c : Call) where
       }
 
   along-begins : (post place : ℕ) → stepFor d c .answer ≡ answer.Admitted post place
-      → Along (deskAfter d (begins (callFor spoken post))) (record { identifier = identifier; post = post; second = spoken .second } ∷ w)
+      → Along (deskAfter d (begins (callFor spoken post))) (record { identifier = identifier; post = post; second = spoken .second; cause = spoken .cause } ∷ w)
   unfolding deskAfter takeOf
   along-begins post place z =
       let k = admitted-so d (c .rows) (c .count) (c .message) (c .area) post place (c .event) z in
@@ -85,14 +86,14 @@ module _ (d : Desk) (w : List Waiting) (a : Along d w) (c : Call) where
       let f = lowest-free-exactly (placesOf d) (lowestFree (placesOf d) .place) at in
       record {
         size = length-take (placesOf d) _ _ ∙ a .size;
-        sound = take-keeps (d .profile .shares) (placesOf d) (a .size) _ _ (a .sound) (record { small = k .small; below = k .below; second = k .second }) (k .new) (k .admits) at;
+        sound = take-keeps (d .profile .shares) (placesOf d) (a .size) _ _ (a .sound) (record { small = k .small; below = k .below; second = k .second; cause = k .caused }) (k .new) (k .admits) at;
         same = same-take (placesOf d) w (a .size) (a .same) _ (callFor spoken post) (f .inside) (f .free);
         other = other-set (placesOf d) (a .size) _ (placeFor (callFor spoken post)) (f .inside) (λ u m e. k .other m e) (a .other);
       }
 
   -- a move: an end at one post and an admission, in the same place, at the other
   module _ (post : ℕ) (z : stepFor d c .answer ≡ answer.Moved post) where
-    abbrev place : ℕ
+    abbrev pub place : ℕ
     place = placeOf (placesOf d) identifier .place
 
     moved : MovedCall d identifier (postOf (c .event)) post
@@ -101,7 +102,7 @@ module _ (d : Desk) (w : List Waiting) (a : Along d w) (c : Call) where
     at : placeOf (placesOf d) identifier ≡ spotAt place
     at = spot-found (placeOf (placesOf d) identifier) (moved .waiting)
 
-    first : WaitsFirst (placesOf d) identifier place
+    pub first : WaitsFirst (placesOf d) identifier place
     first = place-of-exactly (placesOf d) identifier place at
 
     same-moved : Same (moveOf (placesOf d) place) (waitingFor (movedOn (placeIn (placesOf d) place)) ∷ without identifier w)
@@ -111,12 +112,17 @@ module _ (d : Desk) (w : List Waiting) (a : Along d w) (c : Call) where
         (same-clear (d .profile .shares) (placesOf d) w (a .size) (a .sound) (a .same) place identifier at)
         place (movedOn (placeIn (placesOf d) place)) (first .inside) (ap (λ (p : Place). p .used) (clear-free (placesOf d) place)))
 
-    moved-as : waitingFor (movedOn (placeIn (placesOf d) place)) ≡ record { identifier = identifier; post = post; second = noParty }
-    moved-as =
-        ap (λ (i : ℕ). record { identifier = i; post = placeIn (placesOf d) place .second; second = noParty }) (first .same)
-        ∙ ap (λ (q : ℕ). record { identifier = identifier; post = q; second = noParty }) (moved .second)
+    -- with the cause that it had
+    pub moved-cause : causeOf w identifier ≡ placeIn (placesOf d) place .cause
+    moved-cause = cause-same (d .profile .shares) (placesOf d) w (a .size) (a .sound) (a .same) place identifier at
 
-    along-moves : Along (deskAfter d (moves identifier)) (record { identifier = identifier; post = post; second = noParty } ∷ without identifier w)
+    moved-as : waitingFor (movedOn (placeIn (placesOf d) place)) ≡ record { identifier = identifier; post = post; second = noParty; cause = causeOf w identifier }
+    moved-as =
+        ap (λ (i : ℕ). record { identifier = i; post = placeIn (placesOf d) place .second; second = noParty; cause = placeIn (placesOf d) place .cause }) (first .same)
+        ∙ ap (λ (q : ℕ). record { identifier = identifier; post = q; second = noParty; cause = placeIn (placesOf d) place .cause }) (moved .second)
+        ∙ ap (λ (k : ℕ). record { identifier = identifier; post = post; second = noParty; cause = k }) (sym moved-cause)
+
+    along-moves : Along (deskAfter d (moves identifier)) (record { identifier = identifier; post = post; second = noParty; cause = causeOf w identifier } ∷ without identifier w)
     unfolding deskAfter moveOf takeOf
     along-moves =
         record {
@@ -137,7 +143,7 @@ module _ (d : Desk) (w : List Waiting) (a : Along d w) (c : Call) where
   unfolding deskAfter
   along-nothing = record { size = a .size; sound = a .sound; same = a .same; other = a .other }
 
-  along-answer : (x : Answer) → stepFor d c .answer ≡ x → Along (deskAfter d (effectBy spoken x)) (answered identifier (spoken .second) x w)
+  along-answer : (x : Answer) → stepFor d c .answer ≡ x → Along (deskAfter d (effectBy spoken x)) (answered (record { identifier = identifier; second = spoken .second; cause = spoken .cause }) x w)
   along-answer (answer.Refused s) z = along-nothing
   along-answer answer.Acks z = along-nothing
   along-answer (answer.State k) z = along-nothing
@@ -146,10 +152,10 @@ module _ (d : Desk) (w : List Waiting) (a : Along d w) (c : Call) where
   along-answer answer.Proceed z = along-ends (ap isEnding z)
   along-answer answer.Diverted z = along-ends (ap isEnding z)
   along-answer answer.Rejected z = along-ends (ap isEnding z)
-  along-answer answer.Cancelled z = along-ends (ap isEnding z)
+  along-answer (answer.Cancelled p) z = along-ends (ap isEnding z)
   along-answer (answer.Moved post) z = along-moves post z
 
-  -- the event means one call, to the history and to the desk, and the same post is asked second
+  -- the event means one call, to the history and to the desk, the same post is asked second, and the same cause given
   pub meant-same : (e : Event) → meantBy (d .profile) (c .message) e ≡ identifierOf (d .profile) (c .message) e
   unfolding blank
   meant-same (event.Message post bits) = go (readOf (d .profile) (c .message) bits)
@@ -157,22 +163,37 @@ module _ (d : Desk) (w : List Waiting) (a : Along d w) (c : Call) where
       go : (r : Read Value) → namedBy r ≡ identifierIn (valueBy r)
       go (got v n) = refl
       go (no s) = refl
-  meant-same (event.SetUp caller called identifier) = refl
+  meant-same (event.SetUp caller called identifier cause) = refl
   meant-same (event.Reject post identifier) = refl
   meant-same (event.Cancel identifier) = refl
 
   asked-same : (e : Event) → askedSecond (take (c .count) (c .rows)) e ≡ secondFor (take (c .count) (c .rows)) e
   asked-same (event.Message post bits) = refl
-  asked-same (event.SetUp caller called identifier) = refl
+  asked-same (event.SetUp caller called identifier cause) = refl
   asked-same (event.Reject post identifier) = refl
   asked-same (event.Cancel identifier) = refl
 
+  given-same : (e : Event) → givenCause (d .profile) (c .message) e ≡ causeFor (d .profile) (c .message) e
+  unfolding blank
+  given-same (event.Message post bits) = go (readOf (d .profile) (c .message) bits)
+    where
+      go : (r : Read Value) → causeBy r ≡ numberAt numbers.cause (valueBy r)
+      go (got v n) = refl
+      go (no s) = refl
+  given-same (event.SetUp caller called identifier cause) = refl
+  given-same (event.Reject post identifier) = refl
+  given-same (event.Cancel identifier) = refl
+
+  -- what waits afterwards, in the desk's words
+  pub afterwards-is : (x : Answer) → afterwards (d .profile) w c x ≡ answered (record { identifier = identifier; second = spoken .second; cause = spoken .cause }) x w
+  unfolding afterwards
+  afterwards-is x = rw (meant-same (c .event), asked-same (c .event), given-same (c .event)) refl
+
   -- the desk does with its places just what the history takes the answer to mean
   pub along-step : Along (stepFor d c .desk) (afterwards (d .profile) w c (stepFor d c .answer))
-  unfolding afterwards effectOf
+  unfolding effectOf
   along-step =
-      rw (meant-same (c .event), asked-same (c .event), step-desk d (c .rows) (c .count) (c .message) (c .area) (c .event))
-      (along-answer (stepFor d c .answer) refl)
+      rw (afterwards-is (stepFor d c .answer), step-desk d (c .rows) (c .count) (c .message) (c .area) (c .event)) (along-answer (stepFor d c .answer) refl)
 
 -- a call leaves the profile as it is
 pub step-profile : (d : Desk) (c : Call) → stepFor d c .desk .profile ≡ d .profile
@@ -217,7 +238,7 @@ opened p = go (profileOk p)
     go false e = not-both e
 
 module _ (p : Profile) (opens : profileOk p ≡ true) where
-  along-open : Along (deskWith p) []
+  pub along-open : Along (deskWith p) []
   unfolding profileOk
   along-open = record { size = length-none; sound = none-waiting-ok (p .shares) (both-right _ _ opens); same = same-none; other = λ i h u. not-both (rw (none-at i) at u) }
 

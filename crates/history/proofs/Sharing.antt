@@ -47,10 +47,10 @@ unfolding pastOne
 past-not-one c e = let low = leb-true 2 c (both-left _ _ e) in rw (ne-eqb c 1 (λ k. absurd (omega (arith, k)))) refl
 
 can-not-one : (e : Event) → Can notOne e
-can-not-one (event.Message post bits) = (refl, ((λ k. refl), (refl, (refl, λ k. refl))))
-can-not-one (event.SetUp caller called identifier) = (refl, λ post place. refl)
+can-not-one (event.Message post bits) = (refl, ((λ k. refl), (refl, (refl, (refl, λ k. refl)))))
+can-not-one (event.SetUp caller called identifier cause) = (refl, λ post place. refl)
 can-not-one (event.Reject post identifier) = refl
-can-not-one (event.Cancel identifier) = refl
+can-not-one (event.Cancel identifier) = λ k. refl
 
 -- on a desk that passes, 1 is not given
 passes-not-one : (d : Desk) (c : Call) → deskOk d ≡ true → notOne (stepFor d c .answer) ≡ true
@@ -114,14 +114,14 @@ module _ (p : Profile) (opens : profileOk p ≡ true) (calls : List Call) where
 
   -- ---- the next call, if it is a well-formed new restricted one
 
-  module _ (c : Call) (caller called : Identity) (identifier : ℕ) (event-is : c .event ≡ event.SetUp caller called identifier)
-      (formed : isRestrictedCall p waiting c caller called identifier ≡ true) where
+  module _ (c : Call) (caller called : Identity) (identifier cause : ℕ) (event-is : c .event ≡ event.SetUp caller called identifier cause)
+      (formed : isRestrictedCall p waiting c caller called identifier cause ≡ true) where
     -- the post that it is for
     abbrev pub post : ℕ
     post = partyFor (c .rows) (c .count) caller called .post
 
     pub record Formed : Type 0 where
-      pub call : setUpOk caller called identifier ≡ true
+      pub call : setUpOk caller called identifier cause ≡ true
       pub area : not (ltb (length (c .area)) 300) ≡ true
       pub records : recordsOk (c .rows) (c .count) (p .shares .posts) ≡ true
       pub new : not (isWaiting waiting identifier) ≡ true
@@ -130,7 +130,7 @@ module _ (p : Profile) (opens : profileOk p ≡ true) (calls : List Call) where
     facts : Formed
     unfolding isRestrictedCall
     facts =
-        let a = both-right (setUpOk caller called identifier) _ formed in
+        let a = both-right (setUpOk caller called identifier cause) _ formed in
         let b = both-right (not (ltb (length (c .area)) 300)) _ a in
         let e = both-right (recordsOk (c .rows) (c .count) (p .shares .posts)) _ b in
         record { call = both-left _ _ formed; area = both-left _ _ a; records = both-left _ _ b; new = both-left _ _ e; restricted = both-right (not (isWaiting waiting identifier)) _ e }
@@ -138,7 +138,7 @@ module _ (p : Profile) (opens : profileOk p ≡ true) (calls : List Call) where
     below : post < p .shares .posts
     below = party-below (c .rows) (c .count) (p .shares .posts) caller called (facts .records) (facts .restricted)
 
-    is-new : isNew next (c .rows) (c .count) (length (c .area)) caller called identifier ≡ true
+    is-new : isNew next (c .rows) (c .count) (length (c .area)) caller called identifier cause ≡ true
     unfolding isNew noneOf both
     is-new =
         rw (stays-ok, facts .call, facts .area, ap (λ (x : Profile). recordsOk (c .rows) (c .count) (x .shares .posts)) kept ∙ facts .records, ap not (sym (waiting-is identifier)) ∙ facts .new) refl
@@ -148,7 +148,7 @@ module _ (p : Profile) (opens : profileOk p ≡ true) (calls : List Call) where
     by-rule =
         step-answer next (c .rows) (c .count) (c .message) (c .area) (c .event)
         ∙ ap (λ (e : Event). answerOf next (c .rows) (c .count) (c .message) (length (c .area)) e) event-is
-        ∙ new-call next (c .rows) (c .count) (c .message) (length (c .area)) caller called identifier is-new
+        ∙ new-call next (c .rows) (c .count) (c .message) (length (c .area)) caller called identifier cause is-new
         ∙ rw (facts .restricted) refl
 
     yes : admitsOf (p .shares) (placesOf next) post ≡ true → stepFor next c .answer ≡ answer.Admitted post (lowestFree (placesOf next) .place)

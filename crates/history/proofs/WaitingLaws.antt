@@ -8,8 +8,8 @@ use native.Mathlib.Nat.{eq-or-lt-of-le}
 use native.Mathlib.Omega.{arith}
 use lib.Dec.{eqb, ltb}
 use lib.ListN.{length}
-use borrow.Author.Tests.{eq-eqb, ne-eqb, lt-ltb, le-ltb}
-use Rattle.bits.proofs.SetLaws.{lt-or}
+use borrow.Author.Tests.{eq-eqb, eqb-true, ne-eqb, lt-ltb, le-ltb}
+use Rattle.bits.proofs.SetLaws.{lt-or, eq-or}
 use Rattle.codec.specs.Codec.{both}
 use Rattle.codec.proofs.Good.{both-true}
 use Rattle.profile.specs.Counting.{one, sum}
@@ -24,15 +24,15 @@ use Rattle.places.proofs.SumLaws.{sum-same, sum-bump, sum-zero, sum-without}
 use Rattle.places.proofs.HeldLaws.{count-set, count-clear, none-at, waiting-inside}
 use Rattle.places.proofs.SpotLaws.{place-of-exactly, no-place-exactly, spot-found}
 use Rattle.places.proofs.PlaceLaws.{passes}
-use Rattle.history.specs.Histories.{Waiting, without, countBy, isWaiting, heldBy, freeBy, owedBy, owedToOthers}
+use Rattle.history.specs.Histories.{Waiting, without, causeOf, countBy, isWaiting, heldBy, freeBy, owedBy, owedToOthers}
 
 -- the call in a place
 abbrev pub callIn : Place → Waiting
-callIn p = record { identifier = p .identifier; post = p .post; second = record { found = p .more; post = p .second } }
+callIn p = record { identifier = p .identifier; post = p .post; second = record { found = p .more; post = p .second }; cause = p .cause }
 
 -- the call that is taken in
 abbrev pub waitingFor : Call → Waiting
-waitingFor x = record { identifier = x .identifier; post = x .post; second = record { found = x .more; post = x .second } }
+waitingFor x = record { identifier = x .identifier; post = x .post; second = record { found = x .more; post = x .second }; cause = x .cause }
 
 -- the call in a place passes a test
 unfoldable pub hasSuch : (Waiting → Bool) → Place → Bool
@@ -125,6 +125,24 @@ module _ (l : List Place) (w : List Waiting) (s : Same l w) where
       let e = sum-same 32 (λ j. 0) (λ j. one (hasSuch test (placeIn l j))) (λ j k. ap one (h j k)) in
       omega (arith, e, sum-zero 32 (λ j. 0) (λ j. refl), s test)
 
+-- a call with the identifier and another cause
+abbrev otherwise : ℕ → ℕ → Waiting → Bool
+otherwise identifier cause x = both (eqb (x .identifier) identifier) (not (eqb (x .cause) cause))
+
+only-cause : (identifier cause : ℕ) (w : List Waiting) → 0 < countBy (λ x. eqb (x .identifier) identifier) w → countBy (otherwise identifier cause) w ≤ 0
+    → causeOf w identifier ≡ cause
+unfolding countBy causeOf both
+only-cause identifier cause [] h k = absurd (omega arith)
+only-cause identifier cause (x ∷ w) h k = go (eqb (x .identifier) identifier) (eqb (x .cause) cause) refl (only-cause identifier cause w) h k
+  where
+    go : (b e : Bool) → eqb (x .cause) cause ≡ e
+        → (0 < countBy (λ y. eqb (y .identifier) identifier) w → countBy (otherwise identifier cause) w ≤ 0 → causeOf w identifier ≡ cause)
+        → 0 < one b + countBy (λ y. eqb (y .identifier) identifier) w
+        → one (both b (not e)) + countBy (otherwise identifier cause) w ≤ 0 → cond b (x .cause) (causeOf w identifier) ≡ cause
+    go true true z rest p q = eqb-true _ _ z
+    go true false z rest p q = absurd (omega arith)
+    go false e z rest p q = rest (omega arith) (omega arith)
+
 module _ (shares : Shares) (l : List Place) (w : List Waiting) (n : length l ≡ 32) (ok : placesOk shares l ≡ true) (s : Same l w) where
   -- no other place has the identifier of a call that waits
   others-apart : (i j identifier : ℕ) → placeOf l identifier ≡ spotAt i → (j ≡ i → ⊥) → placeIn l j .used ≡ true → placeIn l j .identifier ≡ identifier → ⊥
@@ -146,6 +164,24 @@ module _ (shares : Shares) (l : List Place) (w : List Waiting) (n : length l ≡
       (λ j d. ap one (apart-such identifier test (placeIn l j) (others-apart i j identifier at d))) in
       let z : one (hasSuch (apart identifier test) (placeIn l i)) ≡ 0 = ap one (own-such identifier test (placeIn l i) (f .same)) in
       omega (arith, c, b, z, s (apart identifier test), without-count identifier test w)
+
+  -- the cause with which the history has a call waiting is its place's
+  pub cause-same : (i identifier : ℕ) → placeOf l identifier ≡ spotAt i → causeOf w identifier ≡ placeIn l i .cause
+  unfolding hasSuch both
+  cause-same i identifier at =
+      let f = place-of-exactly l identifier i at in
+      only-cause identifier (placeIn l i .cause) w
+      (some-such l w s (λ x. eqb (x .identifier) identifier) i (f .inside) (such-here identifier (placeIn l i) (f .used) (f .same)))
+      (none-such l w s (otherwise identifier (placeIn l i .cause)) (λ j h. go j (placeIn l j .used) refl (eqb (placeIn l j .identifier) identifier) refl))
+    where
+      go : (j : ℕ) (u : Bool) → placeIn l j .used ≡ u → (e : Bool) → eqb (placeIn l j .identifier) identifier ≡ e
+          → both u (both e (not (eqb (placeIn l j .cause) (placeIn l i .cause)))) ≡ false
+      go j true u true e = ⊎-elim
+          (λ d. ap not (eq-eqb (placeIn l j .cause) (placeIn l i .cause) (ap (λ (k : ℕ). placeIn l k .cause) d)))
+          (λ d. absurd (others-apart i j identifier at d u (eqb-true _ _ e)))
+          (eq-or j i)
+      go j true u false e = refl
+      go j false u e z = refl
 
   -- ---- what is counted from the history is what the desk counts
 

@@ -11,7 +11,8 @@ use Rattle.profile.specs.Counting.{one, sum}
 use Rattle.profile.specs.Rules.{shareIn}
 use Rattle.profile.specs.declared.Profile.{Profile}
 use Rattle.profile.specs.declared.Shares.{Shares}
-use Rattle.message.specs.Values.{identifierIn}
+use Rattle.message.specs.Numbers as place
+use Rattle.message.specs.Values.{numberAt, identifierIn}
 use Rattle.message.specs.Reading.{readOf}
 use Rattle.message.specs.declared.Value.{Value}
 use Rattle.records.specs.Records.{recordsOk, noParty, secondOf}
@@ -57,11 +58,13 @@ leftBy d (c ∷ calls) = leftBy (stepFor d c .desk) calls
 
 -- ---- which calls wait
 
--- a waiting call: its identifier, the post where it waits now, and the post that is asked after that one, if there is such
+-- a waiting call: its identifier, the post where it waits now, the post that is asked after that one, if there is such, and its
+-- interception cause
 pub record Waiting : Type 0 where
   pub identifier : ℕ
   pub post : ℕ
   pub second : Party
+  pub cause : ℕ
 
 unfoldable pub without : ℕ → List Waiting → List Waiting
 without identifier [] = []
@@ -75,35 +78,61 @@ namedBy (no s) = 0
 -- the call that an event means
 abbrev pub meantBy : Profile → List ℕ → Event → ℕ
 meantBy p l (event.Message post bits) = namedBy (readOf p l bits)
-meantBy p l (event.SetUp caller called identifier) = identifier
+meantBy p l (event.SetUp caller called identifier cause) = identifier
 meantBy p l (event.Reject post identifier) = identifier
 meantBy p l (event.Cancel identifier) = identifier
 
 -- the post that is asked second about a call being set up, by the records that are lent with it
 abbrev pub askedSecond : List Record → Event → Party
 askedSecond rows (event.Message post bits) = noParty
-askedSecond rows (event.SetUp caller called identifier) = secondOf rows caller called
+askedSecond rows (event.SetUp caller called identifier cause) = secondOf rows caller called
 askedSecond rows (event.Reject post identifier) = noParty
 askedSecond rows (event.Cancel identifier) = noParty
 
+-- the cause that an event gives: a set-up the interception cause, a post's message its own
+abbrev pub causeBy : Read Value → ℕ
+causeBy (got v n) = numberAt place.cause v
+causeBy (no s) = 0
+
+abbrev pub givenCause : Profile → List ℕ → Event → ℕ
+givenCause p l (event.Message post bits) = causeBy (readOf p l bits)
+givenCause p l (event.SetUp caller called identifier cause) = cause
+givenCause p l (event.Reject post identifier) = 0
+givenCause p l (event.Cancel identifier) = 0
+
+-- the cause with which a call waits
+unfoldable pub causeOf : List Waiting → ℕ → ℕ
+causeOf [] identifier = 0
+causeOf (x ∷ w) identifier = cond (eqb (x .identifier) identifier) (x .cause) (causeOf w identifier)
+
+-- the call that an event means, and what it says of it: the post that is asked second, and the cause
+pub record Meant : Type 0 where
+  pub identifier : ℕ
+  pub second : Party
+  pub cause : ℕ
+
 -- what an answer means for the waiting calls w, where the event meant this one: admitted, it begins to wait at the post that the answer
--- names; moved, it ends where it waited and begins to wait at the post that the answer names, with none after that; accepted, diverted,
--- rejected or cancelled, it waits no more; by every other answer nothing changes
-abbrev pub answered : ℕ → Party → Answer → List Waiting → List Waiting
-answered identifier second (answer.Admitted post place) w = record { identifier = identifier; post = post; second = second } ∷ w
-answered identifier second (answer.Moved post) w = record { identifier = identifier; post = post; second = noParty } ∷ without identifier w
-answered identifier second answer.Proceed w = without identifier w
-answered identifier second answer.Diverted w = without identifier w
-answered identifier second answer.Rejected w = without identifier w
-answered identifier second answer.Cancelled w = without identifier w
-answered identifier second (answer.Refused s) w = w
-answered identifier second answer.Acks w = w
-answered identifier second (answer.State k) w = w
-answered identifier second answer.Free w = w
+-- names; moved, it ends where it waited and begins to wait at the post that the answer names, with none after that and with the same
+-- cause; accepted, diverted, rejected or cancelled, it waits no more; by every other answer nothing changes
+abbrev pub answered : Meant → Answer → List Waiting → List Waiting
+answered m (answer.Admitted post place) w = record { identifier = m .identifier; post = post; second = m .second; cause = m .cause } ∷ w
+answered m (answer.Moved post) w =
+    record { identifier = m .identifier; post = post; second = noParty; cause = causeOf w (m .identifier) } ∷ without (m .identifier) w
+answered m answer.Proceed w = without (m .identifier) w
+answered m answer.Diverted w = without (m .identifier) w
+answered m answer.Rejected w = without (m .identifier) w
+answered m (answer.Cancelled post) w = without (m .identifier) w
+answered m (answer.Refused s) w = w
+answered m answer.Acks w = w
+answered m (answer.State k) w = w
+answered m answer.Free w = w
 
 -- the calls that wait after a call that was answered so, where these waited before it
 unfoldable pub afterwards : Profile → List Waiting → Call → Answer → List Waiting
-afterwards p w c a = answered (meantBy p (c .message) (c .event)) (askedSecond (take (c .count) (c .rows)) (c .event)) a w
+afterwards p w c a =
+    answered
+    (record { identifier = meantBy p (c .message) (c .event); second = askedSecond (take (c .count) (c .rows)) (c .event); cause = givenCause p (c .message) (c .event) })
+    a w
 
 -- and after a history
 unfoldable pub waitingAfter : Profile → List Waiting → History → List Waiting
@@ -142,9 +171,9 @@ owedToOthers shares w post = sum (shares .posts) (λ q. cond (eqb q post) 0 (owe
 -- ---- a well-formed new restricted call
 
 -- it passes 16, 14, 15 and 17, and is not free; 1 never comes along a history (never-one)
-unfoldable pub isRestrictedCall : Profile → List Waiting → Call → Identity → Identity → ℕ → Bool
-isRestrictedCall p w c caller called identifier =
-    both (setUpOk caller called identifier)
+unfoldable pub isRestrictedCall : Profile → List Waiting → Call → Identity → Identity → ℕ → ℕ → Bool
+isRestrictedCall p w c caller called identifier cause =
+    both (setUpOk caller called identifier cause)
     (both (not (ltb (length (c .area)) 300))
     (both (recordsOk (c .rows) (c .count) (p .shares .posts))
     (both (not (isWaiting w identifier)) (partyFor (c .rows) (c .count) caller called .found))))
@@ -181,7 +210,7 @@ isAdmission (answer.Admitted post place) = true
 isAdmission answer.Proceed = false
 isAdmission answer.Diverted = false
 isAdmission answer.Rejected = false
-isAdmission answer.Cancelled = false
+isAdmission (answer.Cancelled post) = false
 isAdmission (answer.Moved post) = false
 
 unfoldable pub admitsNone : Profile → ℕ → History → Bool

@@ -9,6 +9,7 @@ use Rattle.desk.specs.declared.Event.{Event}
 use Rattle.host.specs.Lending.{loadedOf, Called}
 use Rattle.host.specs.declared.Told.{Told}
 use Rattle.history.specs.Histories.{Call, History}
+use Rattle.history.specs.Radio.{Entry}
 
 -- a call of `host::call` that was made: what was lent beside the desk, what the host was told, and the desk, the records and the output
 -- area afterwards
@@ -43,3 +44,11 @@ callOf m = record { rows = loadedOf (m .rows); count = length (m .rows); message
 unfoldable pub historyOf : List Made → History
 historyOf [] = []
 historyOf (m ∷ calls) = (callOf m, m .told .answer) ∷ historyOf calls
+
+-- the same with what went out on the radio: the messages that the host was told of, in the output area that it lent
+abbrev pub entryBy : Made → Entry
+entryBy m = record { call = callOf m; answer = m .told .answer; laid = m .told .laid; output = m .output }
+
+unfoldable pub logBy : List Made → List Entry
+logBy [] = []
+logBy (m ∷ calls) = entryBy m ∷ logBy calls
