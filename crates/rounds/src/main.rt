@@ -1,10 +1,11 @@
 // The worked values of docs/ROUNDS.md under the sample profile: each is written, what was written is read, and what was read is written
 // again. Two lines for each row, `K NAME BITS HEX` and `K again BITS HEX`, or `K refused N HEX`; HEX is the whole area, whose bytes were
-// AA, and 55 the second time. proofs/Cases of `writing` has the same rows through the definitions.
+// AA, and 55 the second time. proofs/Cases of `writing` has rows 1 to 18 through the definitions.
 use message::Address;
 use message::Group;
 use message::Value;
-use writing::Written;
+
+mod show;
 
 fn main() {
     activates();
@@ -14,55 +15,61 @@ fn main() {
     acks_not_valid();
     activates_not_valid();
     others_not_valid();
+    requests();
+    endings();
+    request_sizes();
+    requests_not_valid();
+    options_not_valid();
+    endings_not_valid();
 }
 
 // ---- the rows
 
 fn activates() {
-    row(1, case_8(), 12);
-    row(2, two_and_one(), 48);
-    row(3, one_and_none(), 48);
-    row(4, three_and_range(), 48);
+    show::row(1, case_8(), 12);
+    show::row(2, two_and_one(), 48);
+    show::row(3, one_and_none(), 48);
+    show::row(4, three_and_range(), 48);
 }
 
 fn acks() {
-    row(5, ack(four(), true, 0xC000_0000_0000_0000, 1, 0), 48);
-    row(6, ack(four(), true, 0x2000_0000_0000_0000, 0, 1), 48);
-    row(7, ack(four(), false, 0, 1, 0), 48);
-    row(8, ack(twice_and_one(), false, 0, 0, 127), 48);
-    row(9, ack(sixty_four(), true, 0xAAAA_AAAA_AAAA_AAAA, 0, 2), 48);
+    show::row(5, ack(four(), true, 0xC000_0000_0000_0000, 1, 0), 48);
+    show::row(6, ack(four(), true, 0x2000_0000_0000_0000, 0, 1), 48);
+    show::row(7, ack(four(), false, 0, 1, 0), 48);
+    show::row(8, ack(twice_and_one(), false, 0, 0, 127), 48);
+    show::row(9, ack(sixty_four(), true, 0xAAAA_AAAA_AAAA_AAAA, 0, 2), 48);
 }
 
 fn calls() {
-    row(10, interrogate(user(1001)), 48);
-    row(11, interrogate(stranger(1001, 77)), 48);
-    row(12, notice(10, 0, false, message::NOBODY), 48);
-    row(13, notice(10, 2, true, user(1)), 48);
-    row(14, call(12, 5), 48);
-    row(15, call(13, 0), 48);
-    row(16, call(15, 16383), 48);
-    row(17, notice(16, 0, false, message::NOBODY), 48);
-    row(18, notice(16, 31, true, stranger(16777215, 1)), 48);
+    show::row(10, interrogate(user(1001)), 48);
+    show::row(11, interrogate(stranger(1001, 77)), 48);
+    show::row(12, notice(10, 0, false, message::NOBODY), 48);
+    show::row(13, notice(10, 2, true, user(1)), 48);
+    show::row(14, call(12, 5), 48);
+    show::row(15, call(13, 0), 48);
+    show::row(16, call(15, 16383), 48);
+    show::row(17, notice(16, 0, false, message::NOBODY), 48);
+    show::row(18, notice(16, 31, true, stranger(16777215, 1)), 48);
 }
 
 fn sizes() {
-    row(19, case_8(), 9);
-    row(20, case_8(), 8);
-    row(21, call(13, 0), 2);
-    row(22, call(13, 0), 1);
-    row(23, call(13, 0), 0);
+    show::row(19, case_8(), 9);
+    show::row(20, case_8(), 8);
+    show::row(21, call(13, 0), 2);
+    show::row(22, call(13, 0), 1);
+    show::row(23, call(13, 0), 0);
 }
 
 fn acks_not_valid() {
-    row(24, ack(four(), true, 0xC800_0000_0000_0000, 1, 0), 12);
-    row(25, ack(four(), false, 0x8000_0000_0000_0000, 1, 0), 12);
-    row(26, interrogate(address(1, 1001, 77)), 12);
-    row(27, one_too_many(), 12);
-    row(28, ack(four(), false, 0, 1, 1), 12);
+    show::row(24, ack(four(), true, 0xC800_0000_0000_0000, 1, 0), 12);
+    show::row(25, ack(four(), false, 0x8000_0000_0000_0000, 1, 0), 12);
+    show::row(26, interrogate(address(1, 1001, 77)), 12);
+    show::row(27, one_too_many(), 12);
+    show::row(28, ack(four(), false, 0, 1, 1), 12);
 }
 
 fn activates_not_valid() {
-    row(
+    show::row(
         29,
         activate(
             four(),
@@ -71,20 +78,76 @@ fn activates_not_valid() {
         ),
         12,
     );
-    row(30, call(12, 16384), 12);
-    row(31, notice(10, 32, false, message::NOBODY), 12);
-    row(32, alone(4, message::NOBODY, message::NOBODY), 12);
-    row(33, alone(0, message::NOBODY, message::NOBODY), 12);
+    show::row(30, call(12, 16384), 12);
+    show::row(31, notice(10, 32, false, message::NOBODY), 12);
+    show::row(32, alone(4, message::NOBODY, message::NOBODY), 12);
+    show::row(33, alone(0, message::NOBODY, message::NOBODY), 12);
 }
 
 fn others_not_valid() {
-    row(34, alone(15, user(1004), user(1001)), 12);
-    row(35, alone(15, user(1), user(65)), 12);
-    row(36, call(5, 0), 12);
-    row(37, numbered(), 12);
+    show::row(34, alone(15, user(1004), user(1001)), 12);
+    show::row(35, alone(15, user(1), user(65)), 12);
+    show::row(36, call(5, 0), 12);
+    show::row(37, numbered(interrogate(user(1001)), 1), 12);
+}
+
+fn requests() {
+    show::row(38, request(5, 0), 48);
+    show::row(39, request(5, 2), 48);
+    show::row(40, all_given(detailed()), 48);
+    show::row(41, service_of_called(), 48);
+    show::row(42, all_given(largest()), 48);
+    show::row(43, called_alone(16, user(7)), 48);
+    show::row(44, marked(request(16383, 31), NO_PARTY), 48);
+}
+
+fn endings() {
+    show::row(45, call(14, 5), 48);
+    show::row(46, call(14, 16383), 48);
+    show::row(47, call_and_cause(17, 5, 2), 48);
+    show::row(48, notice(18, 2, false, message::NOBODY), 48);
+    show::row(49, notice(18, 2, true, user(1001)), 48);
+}
+
+fn request_sizes() {
+    show::row(50, all_given(detailed()), 19);
+    show::row(51, all_given(detailed()), 18);
+}
+
+fn requests_not_valid() {
+    show::row(52, marked(detailed(), NO_CALLING), 12);
+    show::row(53, marked(detailed(), NO_CALLED), 12);
+    show::row(54, detailed_but(message::MNI_AT, 16777216), 12);
+    show::row(55, detailed_but(message::CALLED_AREA_AT, 16), 12);
+    show::row(56, detailed_but(message::CALLING_SERVICE_AT, 4), 12);
+}
+
+fn options_not_valid() {
+    show::row(
+        57,
+        message::with_number(service_of_called(), message::CALLING_SERVICE_AT, 3),
+        12,
+    );
+    show::row(58, numbered(all_given(detailed()), 2), 12);
+    show::row(59, called_alone(0, address(3, 1004, 0)), 12);
+    show::row(60, request(16384, 0), 12);
+}
+
+fn endings_not_valid() {
+    show::row(61, call_and_cause(17, 5, 32), 12);
+    show::row(62, call_and_cause(14, 5, 2), 12);
+    show::row(63, call_and_cause(18, 5, 2), 12);
+    show::row(64, message::with_given(call(12, 5), 2), 12);
 }
 
 // ---- their values
+
+// REQUEST's options but the calling address, but the called, but both.
+const NO_CALLING: [bool; 7] = [false, true, true, true, true, true, true];
+
+const NO_CALLED: [bool; 7] = [true, false, true, true, true, true, true];
+
+const NO_PARTY: [bool; 7] = [false, false, true, true, true, true, true];
 
 fn case_8() -> Value {
     alone(15, user(1001), user(1004))
@@ -122,11 +185,44 @@ fn one_too_many() -> Value {
     )
 }
 
-// INTERROGATE with a range number, which it does not carry.
-fn numbered() -> Value {
-    let mut value = interrogate(user(1001));
-    value.users.range = 1;
-    value
+// With a range number of users, which INTERROGATE and REQUEST do not carry.
+fn numbered(value: Value, range: u8) -> Value {
+    let mut v = value;
+    v.users.range = range;
+    v
+}
+
+// REQUEST 5, cause 2, with something of each option, none marked as there.
+fn detailed() -> Value {
+    with_details(
+        with_parties(request(5, 2), user(1001), stranger(1004, 5)),
+        5,
+        [1, 2],
+        [1, 2],
+    )
+}
+
+fn detailed_but(place: u8, n: u32) -> Value {
+    all_given(message::with_number(detailed(), place, n))
+}
+
+fn largest() -> Value {
+    let user = stranger(16777215, 16777215);
+    with_details(
+        with_parties(request(16383, 31), user, user),
+        16777215,
+        [15, 15],
+        [3, 3],
+    )
+}
+
+fn service_of_called() -> Value {
+    let value = message::with_number(request(5, 0), message::CALLED_SERVICE_AT, 3);
+    message::with_given(value, 6)
+}
+
+fn called_alone(cause: u32, called: Address) -> Value {
+    message::with_given(message::with_user(request(5, cause), 1, called), 1)
 }
 
 fn four() -> Group {
@@ -167,15 +263,63 @@ fn interrogate(whom: Address) -> Value {
     message::with_user(message::blank(8), 0, whom)
 }
 
-// INTERCEPTED or DIVERTED.
+// INTERCEPTED, DIVERTED or REJECTED.
 fn notice(pdu: u8, cause: u8, option: bool, dispatcher: Address) -> Value {
     let value = message::with_number(message::blank(pdu), message::CAUSE_AT, cause as u32);
     given(message::with_dispatcher(value, dispatcher), option)
 }
 
-// ACCEPT, DIVERT or ACCEPTED.
+// ACCEPT, DIVERT, CANCEL or ACCEPTED.
 fn call(pdu: u8, identifier: u32) -> Value {
     message::with_number(message::blank(pdu), message::IDENTIFIER_AT, identifier)
+}
+
+// REJECT, or REQUEST without its options.
+fn call_and_cause(pdu: u8, identifier: u32, cause: u32) -> Value {
+    message::with_number(call(pdu, identifier), message::CAUSE_AT, cause)
+}
+
+fn request(identifier: u32, cause: u32) -> Value {
+    call_and_cause(11, identifier, cause)
+}
+
+fn with_parties(value: Value, calling: Address, called: Address) -> Value {
+    message::with_user(message::with_user(value, 0, calling), 1, called)
+}
+
+// The network, and the areas and services of the calling and of the called.
+fn with_details(value: Value, mni: u32, areas: [u32; 2], services: [u32; 2]) -> Value {
+    let known = message::with_number(value, message::MNI_AT, mni);
+    with_pair(
+        with_pair(
+            known,
+            message::CALLING_AREA_AT,
+            message::CALLED_AREA_AT,
+            areas,
+        ),
+        message::CALLING_SERVICE_AT,
+        message::CALLED_SERVICE_AT,
+        services,
+    )
+}
+
+fn with_pair(value: Value, calling: u8, called: u8, pair: [u32; 2]) -> Value {
+    message::with_number(
+        message::with_number(value, calling, pair[0]),
+        called,
+        pair[1],
+    )
+}
+
+fn all_given(value: Value) -> Value {
+    marked(value, [true; 7])
+}
+
+// With just these of REQUEST's options marked as there.
+fn marked(value: Value, options: [bool; 7]) -> Value {
+    let mut v = value;
+    v.given = options;
+    v
 }
 
 // With its option, or without.
@@ -210,123 +354,5 @@ fn address(kind: u8, ssi: u32, extension: u32) -> Address {
         kind: kind,
         ssi: ssi,
         extension: extension,
-    }
-}
-
-// ---- one row
-
-// The value into an area of so many bytes, at most 48.
-fn row(number: u64, value: Value, bytes: usize) {
-    if bytes > 48 {
-        return;
-    }
-    let mut area = [0xAAu8; 48];
-    write(number, value, &mut area[..bytes]);
-}
-
-fn write(number: u64, value: Value, area: &mut [u8]) {
-    let written = writing::write(profile::sample_profile(), value, area);
-    say(number, value.pdu, written, area);
-}
-
-fn say(number: u64, pdu: u8, written: Written, area: &[u8]) {
-    say_number(number);
-    if written.done {
-        say_name(pdu);
-        say_area(written.bits, area);
-        read(number, written.bits, area);
-        return;
-    }
-    let stop = written.stop;
-    io::write_all(1, b"refused");
-    say_area(stop.number as usize, area);
-}
-
-fn read(number: u64, bits: usize, area: &[u8]) {
-    let found = reading::read(profile::sample_profile(), area, bits);
-    let value = found.value;
-    if area.len() > 48 {
-        return;
-    }
-    let mut second = [0x55u8; 48];
-    write_again(number, value, &mut second[..area.len()]);
-}
-
-fn write_again(number: u64, value: Value, second: &mut [u8]) {
-    let written = writing::write(profile::sample_profile(), value, second);
-    say_again(number, written.bits, second);
-}
-
-fn say_again(number: u64, bits: usize, second: &[u8]) {
-    say_number(number);
-    io::write_all(1, b"again");
-    say_area(bits, second);
-}
-
-// ---- its lines
-
-fn say_number(number: u64) {
-    say_decimal(number);
-    io::write_all(1, b" ");
-}
-
-fn say_area(number: usize, area: &[u8]) {
-    io::write_all(1, b" ");
-    say_decimal(number as u64);
-    io::write_all(1, b" ");
-    say_hex(area);
-    io::write_all(1, b"\n");
-}
-
-fn say_decimal(number: u64) {
-    let mut digits = [0u8; 20];
-    let count = io::decimal(number, &mut digits);
-    io::write_all(1, &digits[..count]);
-}
-
-fn say_hex(bytes: &[u8]) {
-    let mut i: usize = 0;
-    while i < bytes.len() {
-        let byte = bytes[i];
-        let pair = [digit(byte / 16), digit(byte % 16)];
-        io::write_all(1, &pair);
-        i += 1;
-    }
-}
-
-fn digit(x: u8) -> u8 {
-    if x < 10 {
-        return x + 48;
-    }
-    if x < 16 {
-        return x + 55;
-    }
-    63
-}
-
-fn say_name(pdu: u8) {
-    if pdu == 2 {
-        io::write_all(1, b"ACTIVATE");
-    }
-    if pdu == 3 {
-        io::write_all(1, b"ACTIVATE ACK");
-    }
-    if pdu == 8 {
-        io::write_all(1, b"INTERROGATE");
-    }
-    if pdu == 10 {
-        io::write_all(1, b"INTERCEPTED");
-    }
-    if pdu == 12 {
-        io::write_all(1, b"ACCEPT");
-    }
-    if pdu == 13 {
-        io::write_all(1, b"ACCEPTED");
-    }
-    if pdu == 15 {
-        io::write_all(1, b"DIVERT");
-    }
-    if pdu == 16 {
-        io::write_all(1, b"DIVERTED");
     }
 }

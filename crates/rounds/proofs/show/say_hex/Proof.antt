@@ -1,9 +1,9 @@
--- Written by tools/proofs from tools/rounds.conf. `rounds::say_hex` meets its contract. Assumes nothing.
+-- Written by tools/proofs from tools/rounds.conf. `rounds::show::say_hex` meets its contract. Assumes nothing.
 use Prim.Native.Nat.{_-_, _≤_}
 use lib.ListN.{length}
 use borrow.Author.Needs.{needs}
-use Rattle.rounds.proofs.say_hex.Statement.{statement}
-use Rattle.rounds.proofs.say_hex.Tie as tie
+use Rattle.rounds.proofs.show.say_hex.Statement.{statement}
+use Rattle.rounds.proofs.show.say_hex.Tie as tie
 
 abbrev Inv-loop : tie.InvT-loop
 Inv-loop bytes i₀ i = i ≤ length bytes

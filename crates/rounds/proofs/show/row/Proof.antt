@@ -1,10 +1,10 @@
--- Written by tools/proofs from tools/rounds.conf. `rounds::row` meets its contract. Assumes nothing.
+-- Written by tools/proofs from tools/rounds.conf. `rounds::show::row` meets its contract. Assumes nothing.
 use mathlib.Core.Path.{sym}
 use native.Mathlib.Omega.{arith}
 use lib.Seq.{length-take-le}
 use borrow.Author.Needs.{needs}
-use Rattle.rounds.proofs.row.Statement.{statement}
-use Rattle.rounds.proofs.row.Tie as tie
+use Rattle.rounds.proofs.show.row.Statement.{statement}
+use Rattle.rounds.proofs.show.row.Tie as tie
 
 returns : tie.Need-returns
 returns c = search needs

@@ -1,10 +1,10 @@
--- Written by tools/proofs from tools/rounds.conf. `rounds::read` meets its contract. Assumes nothing.
+-- Written by tools/proofs from tools/rounds.conf. `rounds::show::read` meets its contract. Assumes nothing.
 use mathlib.Core.Path.{sym}
 use native.Mathlib.Omega.{arith}
 use lib.Seq.{length-take-le}
 use borrow.Author.Needs.{needs}
-use Rattle.rounds.proofs.read.Statement.{statement}
-use Rattle.rounds.proofs.read.Tie as tie
+use Rattle.rounds.proofs.show.read.Statement.{statement}
+use Rattle.rounds.proofs.show.read.Tie as tie
 
 sample-profile-requires : tie.Need-sample-profile-requires
 sample-profile-requires c κs = search needs
