@@ -1,5 +1,5 @@
 //! A plain reader, as one writes it without a thought of speed and without waste: one bit at a
-//! time, numbers into the value's 228 bytes, no allocation. It reads and checks all that `cad_read`
+//! time, numbers into the value's 241 bytes, no allocation. It reads and checks all that `cad_read`
 //! does, with the same refusals in the same order, and is what `cad_read`'s speed is measured by.
 
 use std::slice;
@@ -7,7 +7,7 @@ use std::slice;
 type Refusal = u32;
 
 const PROFILE_BYTES: usize = 39;
-const VALUE_BYTES: usize = 228;
+const VALUE_BYTES: usize = 241;
 
 /// Where the value has what.
 const USERS: usize = 1;
@@ -19,6 +19,17 @@ const CAUSE: usize = 118;
 const IDENTIFIER: usize = 119;
 const OPTION: usize = 121;
 const DISPATCHERS: usize = 122;
+/// REQUEST's marks, from the second option's on.
+const MARKS: usize = 228;
+
+/// REQUEST's options that are numbers: the mark's place, the number's, its bits and its bytes.
+const NUMBERS: [(usize, usize, usize, usize); 5] = [
+    (MARKS + 1, 234, 24, 3),
+    (MARKS + 2, 237, 4, 1),
+    (MARKS + 3, 238, 4, 1),
+    (MARKS + 4, 239, 2, 1),
+    (MARKS + 5, 240, 2, 1),
+];
 
 const NOBODY: u8 = 16;
 const FIRST_AND_LAST: u8 = 17;
@@ -125,18 +136,28 @@ fn read_elements(profile: &[u8], rest: &mut Bits, value: &mut [u8]) -> Result<()
             read_address(rest, value, USERS + 1)?;
             Ok(())
         }
-        10 | 16 => {
+        10 | 16 | 18 => {
             value[CAUSE] = rest.take(5)? as u8;
             if read_option(rest, value)? {
                 read_address(rest, value, DISPATCHERS + 1)?;
             }
             Ok(())
         }
-        12 | 15 => {
+        11 => {
+            put(value, IDENTIFIER, rest.take(14)?, 2);
+            value[CAUSE] = rest.take(5)? as u8;
+            read_request_options(rest, value)
+        }
+        12 | 14 | 15 => {
             put(value, IDENTIFIER, rest.take(14)?, 2);
             Ok(())
         }
         13 => Ok(()),
+        17 => {
+            put(value, IDENTIFIER, rest.take(14)?, 2);
+            value[CAUSE] = rest.take(5)? as u8;
+            Ok(())
+        }
         _ => Err(7),
     }
 }
@@ -170,6 +191,32 @@ fn read_option(rest: &mut Bits, value: &mut [u8]) -> Result<bool, Refusal> {
     }
     value[OPTION] = 1;
     Ok(true)
+}
+
+/// The O-bit, and after an O-bit of 1 seven options, each behind its P-bit; one has to be there.
+fn read_request_options(rest: &mut Bits, value: &mut [u8]) -> Result<(), Refusal> {
+    if rest.take(1)? == 0 {
+        return Ok(());
+    }
+    let mut there = 0;
+    for (mark, address) in [(OPTION, USERS + 1), (MARKS, USERS + 8)] {
+        if rest.take(1)? == 1 {
+            there += 1;
+            value[mark] = 1;
+            read_address(rest, value, address)?;
+        }
+    }
+    for (mark, at, width, bytes) in NUMBERS {
+        if rest.take(1)? == 1 {
+            there += 1;
+            value[mark] = 1;
+            put(value, at, rest.take(width)?, bytes);
+        }
+    }
+    if there == 0 {
+        return Err(12);
+    }
+    Ok(())
 }
 
 /// Users may not be nobody.

@@ -6,6 +6,12 @@ use crate::dice::Dice;
 const POSTS: usize = 22;
 const SHARES: usize = 23;
 
+/// In a value: the marks of REQUEST's second to seventh option, and its numbers.
+const MARKS: usize = 228;
+const MNI: usize = 234;
+const AREAS: usize = 237;
+const SERVICES: usize = 239;
+
 pub fn profile(dice: &mut Dice, good: &[u8]) -> Vec<u8> {
     let mut bytes = good.to_vec();
     match dice.below(14) {
@@ -61,7 +67,7 @@ pub fn value(dice: &mut Dice, good: &[u8]) -> Vec<u8> {
         _ => dice.below(15),
     };
     let address = dice.pick(&[2, 123]) + 7 * place;
-    match dice.below(16) {
+    match dice.below(20) {
         0 => flip(dice, &mut bytes),
         1 => any_byte(dice, &mut bytes),
         2 => bytes[0] = dice.number(5) as u8,
@@ -84,6 +90,10 @@ pub fn value(dice: &mut Dice, good: &[u8]) -> Vec<u8> {
                 bytes[address + 10] = first.wrapping_add(distance);
             }
         }
+        15 => bytes[MARKS + dice.below(6)] = dice.pick(&[0, 1, 1, 2, 255]),
+        16 => bytes[MNI + dice.below(3)] = dice.pick(&[0, 1, 255]),
+        17 => bytes[AREAS + dice.below(2)] = dice.pick(&[0, 1, 15, 16, 255]),
+        18 => bytes[SERVICES + dice.below(2)] = dice.pick(&[0, 1, 3, 4, 255]),
         _ => length(dice, &mut bytes),
     }
     bytes

@@ -29,6 +29,9 @@ pub mod plain;
 #[path = "../model/profile.rs"]
 pub mod profile;
 #[allow(dead_code)]
+#[path = "../model/request.rs"]
+pub mod request;
+#[allow(dead_code)]
 #[path = "../model/value.rs"]
 pub mod value;
 #[allow(dead_code)]

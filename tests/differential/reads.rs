@@ -12,7 +12,9 @@ use crate::profile::{sample, Meaning, Profile};
 use crate::write::bytes_of;
 
 /// Sizes of the value area: none, just within a field, the bound and its neighbours, more.
-const ROOMS: [usize; 12] = [0, 1, 107, 121, 200, 226, 227, 228, 229, 230, 256, 300];
+const ROOMS: [usize; 15] = [
+    0, 1, 107, 121, 200, 227, 228, 229, 239, 240, 241, 242, 243, 256, 300,
+];
 
 const FAULTS_A_ROUND: usize = 300;
 
@@ -92,7 +94,7 @@ fn faulty(dice: &mut Dice, profile: &Profile) -> Vec<bool> {
         .meanings
         .iter()
         .any(|meaning| matches!(meaning, Meaning::List(_) | Meaning::FirstAndLast));
-    let mut bits = match dice.below(12) {
+    let mut bits = match dice.below(15) {
         0 => fault::ss_type(dice, profile),
         1 => fault::pdu_type(dice, profile),
         2 | 3 if has_users => fault::range_ends(dice, profile),
@@ -111,6 +113,8 @@ fn faulty(dice: &mut Dice, profile: &Profile) -> Vec<bool> {
             fault::flip(dice, &mut bits);
             bits
         }
+        11 => fault::options(dice, profile),
+        12 => fault::about_waiting_call(dice, profile),
         _ => fault::sound(dice, profile),
     };
     if dice.one_in(6) {

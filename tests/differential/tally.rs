@@ -7,15 +7,19 @@ pub struct Tally {
     messages: [u64; ANSWERS],
 }
 
-const NAMES: [(usize, &str); 8] = [
+const NAMES: [(usize, &str); 12] = [
     (2, "ACTIVATE"),
     (3, "ACTIVATE ACK"),
     (8, "INTERROGATE"),
     (10, "INTERCEPTED"),
+    (11, "REQUEST"),
     (12, "ACCEPT"),
     (13, "ACCEPTED"),
+    (14, "CANCEL"),
     (15, "DIVERT"),
     (16, "DIVERTED"),
+    (17, "REJECT"),
+    (18, "REJECTED"),
 ];
 
 impl Tally {
@@ -38,7 +42,7 @@ impl Tally {
         self.answers.iter().sum()
     }
 
-    /// Whether just these answers came, each of them, and each of the eight messages.
+    /// Whether just these answers came, each of them, and each of the twelve messages.
     pub fn gave_all(&self, wanted: &[usize]) -> bool {
         let mut all = true;
         for answer in 0..ANSWERS {

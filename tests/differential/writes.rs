@@ -74,7 +74,9 @@ fn room(dice: &mut Dice, own: usize) -> usize {
 /// The first bytes of one value and the others of another, or the PDU type of another.
 fn mix(dice: &mut Dice, one: &[u8], other: &[u8]) -> Vec<u8> {
     let mut mixed = one.to_vec();
-    let from = dice.pick(&[1, 2, 9, 107, 108, 116, 117, 118, 119, 121, 122, 123]);
+    let from = dice.pick(&[
+        1, 2, 9, 16, 107, 108, 116, 117, 118, 119, 121, 122, 123, 228, 230, 234, 237, 239,
+    ]);
     mixed[from..].copy_from_slice(&other[from..]);
     mixed
 }

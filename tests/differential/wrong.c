@@ -1,15 +1,19 @@
 /*
- * Eight wrong products, each off in one thing now and then, made of the right one by the linker's --wrap; WRONG says which. With 0 it is
+ * Eleven wrong products, each off in one thing now and then, made of the right one by the linker's --wrap; WRONG says which. With 0 it is
  * the right one. The differential test has to find each of the others.
  */
 #include "cad.h"
 
 #include <stdlib.h>
+#include <string.h>
 
 uint32_t __real_cad_read(const uint8_t *, size_t, const uint8_t *, size_t, size_t, uint8_t *, size_t);
 uint32_t __real_cad_write(const uint8_t *, size_t, const uint8_t *, size_t, uint8_t *, size_t, size_t *);
 uint32_t __wrap_cad_read(const uint8_t *, size_t, const uint8_t *, size_t, size_t, uint8_t *, size_t);
 uint32_t __wrap_cad_write(const uint8_t *, size_t, const uint8_t *, size_t, uint8_t *, size_t, size_t *);
+
+/* REQUEST and REJECT, and where a value has REQUEST's two addresses and its two services. */
+enum { REQUEST = 11, REJECT = 17, CALLING = 2, CALLED = 9, ADDRESS_BYTES = 7, SERVICE_CALLING = 239, SERVICE_CALLED = 240 };
 
 static int wrong(void)
 {
@@ -41,6 +45,21 @@ uint32_t __wrap_cad_read(const uint8_t *profile, size_t profile_len, const uint8
     case 5: /* a step past the value's end */
         if (answer == CAD_DONE && cad_value_pdu(value) == CAD_ACCEPTED)
             value[CAD_VALUE_BYTES] ^= 1;
+        break;
+    case 9: /* the called address is read into the calling one */
+        if (answer == CAD_DONE && cad_value_pdu(value) == REQUEST)
+            memmove(value + CALLING, value + CALLED, ADDRESS_BYTES);
+        break;
+    case 10: /* the services are swapped */
+        if (answer == CAD_DONE && cad_value_pdu(value) == REQUEST) {
+            uint8_t calling = value[SERVICE_CALLING];
+            value[SERVICE_CALLING] = value[SERVICE_CALLED];
+            value[SERVICE_CALLED] = calling;
+        }
+        break;
+    case 11: /* REJECT's cause is lost */
+        if (answer == CAD_DONE && cad_value_pdu(value) == REJECT)
+            cad_value_set_cause(value, 0);
         break;
     default: break;
     }

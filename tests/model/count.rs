@@ -4,15 +4,19 @@
 use std::collections::BTreeMap;
 use std::io::{self, Write};
 
-const NAMES: [&str; 8] = [
+const NAMES: [&str; 12] = [
     "ACCEPT",
     "ACCEPTED",
     "ACTIVATE",
     "ACTIVATE ACK",
+    "CANCEL",
     "DIVERT",
     "DIVERTED",
     "INTERCEPTED",
     "INTERROGATE",
+    "REJECT",
+    "REJECTED",
+    "REQUEST",
 ];
 /// Those that reading under a sound profile can give.
 const REFUSALS: [u32; 10] = [3, 4, 5, 6, 7, 9, 10, 11, 12, 13];

@@ -4,6 +4,7 @@
 use crate::dice::Dice;
 use crate::message::{identity_count, meaning_of, AckResult, Address, Group, Message};
 use crate::profile::{Meaning, Post, Profile, MOST_POSTS, PLACES};
+use crate::request::{Options, AREA_BITS, SERVICE_BITS};
 
 const LARGEST_24_BITS: u32 = (1 << 24) - 1;
 
@@ -45,7 +46,12 @@ pub fn posts(dice: &mut Dice) -> Vec<Post> {
 }
 
 pub fn message(dice: &mut Dice, profile: &Profile) -> Message {
-    let pdu_type = dice.pick(&[2, 2, 2, 3, 3, 3, 8, 8, 10, 10, 12, 13, 15, 16, 16]);
+    if dice.one_in(3) {
+        return about_waiting_call(dice, profile);
+    }
+    let pdu_type = dice.pick(&[
+        2, 2, 2, 3, 3, 3, 8, 8, 10, 10, 12, 12, 13, 13, 15, 15, 16, 16,
+    ]);
     match pdu_type {
         2 | 3 => match users(dice, profile) {
             Some(users) if pdu_type == 2 => Message::Activate {
@@ -73,6 +79,48 @@ pub fn message(dice: &mut Dice, profile: &Profile) -> Message {
             cause: dice.number(5),
             dispatcher: optional_address(dice, profile),
         },
+    }
+}
+
+/// REQUEST, CANCEL, REJECT or REJECTED, nearly half of the time REQUEST.
+pub fn about_waiting_call(dice: &mut Dice, profile: &Profile) -> Message {
+    match dice.below(7) {
+        0 => Message::Cancel {
+            identifier: identifier(dice),
+        },
+        1 => Message::Reject {
+            identifier: identifier(dice),
+            cause: dice.number(5),
+        },
+        2 | 3 => Message::Rejected {
+            cause: dice.number(5),
+            dispatcher: optional_address(dice, profile),
+        },
+        _ => Message::Request {
+            identifier: identifier(dice),
+            cause: dice.number(5),
+            options: options(dice, profile),
+        },
+    }
+}
+
+/// Any choice of the seven; none, all and just one come more often than the others.
+fn options(dice: &mut Dice, profile: &Profile) -> Options {
+    let chosen = match dice.below(6) {
+        0 => 0,
+        1 => 127,
+        2 => 1 << dice.below(7),
+        _ => dice.number(7),
+    };
+    let there = |option: u32| (chosen >> option) & 1 == 1;
+    Options {
+        calling: there(0).then(|| address(dice, profile)),
+        called: there(1).then(|| address(dice, profile)),
+        mni: there(2).then(|| extension(dice, profile.home_extension)),
+        calling_area: there(3).then(|| dice.number(AREA_BITS)),
+        called_area: there(4).then(|| dice.number(AREA_BITS)),
+        calling_service: there(5).then(|| dice.number(SERVICE_BITS)),
+        called_service: there(6).then(|| dice.number(SERVICE_BITS)),
     }
 }
 
@@ -184,6 +232,7 @@ pub fn address(dice: &mut Dice, profile: &Profile) -> Address {
     }
 }
 
+/// 24 bits, as an MNI has too.
 fn extension(dice: &mut Dice, home: u32) -> u32 {
     match dice.below(4) {
         0 => home,

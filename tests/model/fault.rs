@@ -5,9 +5,10 @@ use crate::dice::Dice;
 use crate::draw;
 use crate::message::{Address, Group, Message};
 use crate::profile::Profile;
+use crate::request::Options;
 use crate::write::{bits_of, elements};
 
-const CARRIED: [u32; 8] = [2, 3, 8, 10, 12, 13, 15, 16];
+const CARRIED: [u32; 12] = [2, 3, 8, 10, 11, 12, 13, 14, 15, 16, 17, 18];
 
 pub fn sound(dice: &mut Dice, profile: &Profile) -> Vec<bool> {
     bits_of(profile, &draw::message(dice, profile))
@@ -89,14 +90,15 @@ pub fn kind(dice: &mut Dice, profile: &Profile) -> Vec<bool> {
     bits_of(profile, &message)
 }
 
-/// O-bit 1, P-bit 0 or 1, and then nothing, a bit, or an address's worth of bits.
+/// O-bit 1, P-bit 0 or 1, and then nothing, a bit, or an address's worth of bits, in a message of
+/// one option.
 pub fn option(dice: &mut Dice, profile: &Profile) -> Vec<bool> {
     let mut message = draw::message(dice, profile);
     match &mut message {
         Message::Activate { dispatchers, .. } => *dispatchers = None,
-        Message::Intercepted { dispatcher, .. } | Message::Diverted { dispatcher, .. } => {
-            *dispatcher = None;
-        }
+        Message::Intercepted { dispatcher, .. }
+        | Message::Diverted { dispatcher, .. }
+        | Message::Rejected { dispatcher, .. } => *dispatcher = None,
         _ => {
             message = Message::Intercepted {
                 cause: dice.number(5),
@@ -112,6 +114,49 @@ pub fn option(dice: &mut Dice, profile: &Profile) -> Vec<bool> {
         bits.push(p_bit);
         let rest = dice.pick(&[0, 1, 2, 4, 26, 30, 50]);
         bits.extend(dice.bits(rest));
+    }
+    bits
+}
+
+/// REQUEST or REJECTED with an O-bit of 1 and all P-bits 0, or with one P-bit that has nothing
+/// behind it. Some end among the P-bits, or have bits after the last one.
+pub fn options(dice: &mut Dice, profile: &Profile) -> Vec<bool> {
+    let header = [(profile.ss_type, 6)];
+    let request = [(11, 5), (dice.number(14), 14), (dice.number(5), 5), (1, 1)];
+    let rejected = [(18, 5), (dice.number(5), 5), (1, 1)];
+    let (before, p_bits): (&[(u32, usize)], usize) = match dice.below(4) {
+        0 => (&rejected, 1),
+        _ => (&request, 7),
+    };
+    let mut bits = elements(&[&header, before].concat());
+    for _ in 0..p_bits {
+        bits.push(dice.one_in(30));
+    }
+    match dice.below(4) {
+        0 => bits.truncate(bits.len() - 1 - dice.below(p_bits)),
+        1 => leave_over(dice, &mut bits),
+        _ => {}
+    }
+    bits
+}
+
+/// A message about a waiting call, a bit short or a bit too long, cut anywhere behind its type, or
+/// with a kind that is refused.
+pub fn about_waiting_call(dice: &mut Dice, profile: &Profile) -> Vec<bool> {
+    let mut message = draw::about_waiting_call(dice, profile);
+    let mut addresses = addresses_of(&mut message);
+    if !addresses.is_empty() && dice.one_in(3) {
+        let chosen = dice.below(addresses.len());
+        addresses[chosen].kind = dice.pick(&[0, 3]);
+        return bits_of(profile, &message);
+    }
+    let mut bits = bits_of(profile, &message);
+    match dice.below(4) {
+        0 => bits.truncate(11 + dice.below(bits.len() - 11)),
+        1 => bits.push(dice.one_in(2)),
+        _ => {
+            bits.pop();
+        }
     }
     bits
 }
@@ -208,14 +253,15 @@ fn groups_of(message: &mut Message) -> Vec<&mut Group> {
 fn addresses_of(message: &mut Message) -> Vec<&mut Address> {
     match message {
         Message::Interrogate { user } => vec![user],
-        Message::Intercepted {
-            dispatcher: Some(dispatcher),
-            ..
+        Message::Intercepted { dispatcher, .. }
+        | Message::Diverted { dispatcher, .. }
+        | Message::Rejected { dispatcher, .. } => dispatcher.iter_mut().collect(),
+        Message::Request { options, .. } => {
+            let Options {
+                calling, called, ..
+            } = options;
+            calling.iter_mut().chain(called).collect()
         }
-        | Message::Diverted {
-            dispatcher: Some(dispatcher),
-            ..
-        } => vec![dispatcher],
         _ => groups_of(message)
             .into_iter()
             .flat_map(|group| group.addresses.iter_mut())

@@ -78,7 +78,7 @@ impl Source {
 
     fn other_line(&mut self) -> Vec<u8> {
         let (dice, profile) = (&mut self.dice, &self.profile);
-        let mut bits = match dice.below(100) {
+        let mut bits = match dice.below(112) {
             0..=24 => fault::sound(dice, profile),
             25..=29 => fault::ss_type(dice, profile),
             30..=37 => fault::pdu_type(dice, profile),
@@ -100,6 +100,8 @@ impl Source {
             }
             85..=87 => return self.too_few_bytes(),
             88..=89 => return self.near_most_bits(),
+            90..=95 => fault::about_waiting_call(dice, profile),
+            96..=101 => fault::options(dice, profile),
             _ => return self.odd_line(),
         };
         if dice.one_in(6) {

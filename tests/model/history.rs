@@ -7,6 +7,7 @@ mod damage;
 mod lent;
 mod moves;
 mod odd;
+mod orders;
 mod profiles;
 mod scene;
 
@@ -119,6 +120,7 @@ impl Source {
                 Some(line) => line,
                 None => self.call(),
             },
+            70..=73 => self.two_grounds(),
             _ => self.call(),
         }
     }
@@ -133,11 +135,12 @@ impl Source {
     }
 
     fn odd_line(&mut self) -> Vec<u8> {
-        let good = match self.dice.below(7) {
+        let good = match self.dice.below(8) {
             0 => profiles::line(&self.replay.desk.profile),
             1 => self.record_line(),
             2 => b"place 31 16383 0".to_vec(),
             3 => b"second 31 0".to_vec(),
+            4 => b"cause 31 31".to_vec(),
             _ => self.call(),
         };
         odd::line(&mut self.dice, &good)

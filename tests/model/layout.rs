@@ -1,12 +1,19 @@
 //! The bytes in which a profile and a value cross to a C program, and back; numbers are
-//! big-endian. A profile has 39 bytes, a value 228; no other bytes are one.
+//! big-endian. A profile has 39 bytes, a value 241; no other bytes are one.
 
 use crate::message::Address;
 use crate::profile::{Meaning, Post, Profile, MOST_POSTS};
 use crate::value::{FlatGroup, Value, MOST_ADDRESSES};
 
 pub const PROFILE_BYTES: usize = 39;
-pub const VALUE_BYTES: usize = 228;
+pub const VALUE_BYTES: usize = 241;
+
+/// What request (iv) appended to a value's 228 bytes: the marks of REQUEST's second to seventh
+/// option, its MNI, and two areas and two services, each the calling's first.
+const FURTHER: usize = 228;
+const MNI: usize = 234;
+const AREAS: usize = 237;
+const SERVICES: usize = 239;
 
 const NOBODY: u8 = 16;
 const FIRST_AND_LAST: u8 = 17;
@@ -100,6 +107,10 @@ pub fn read_value(bytes: &[u8]) -> Option<Value> {
         identifier: number(&bytes[119..121]),
         option: read_flag(bytes[121])?,
         dispatchers: read_group(&bytes[122..228]),
+        further: read_flags(&bytes[FURTHER..MNI])?,
+        mni: number(&bytes[MNI..AREAS]),
+        areas: [AREAS, AREAS + 1].map(|at| u32::from(bytes[at])),
+        services: [SERVICES, SERVICES + 1].map(|at| u32::from(bytes[at])),
     })
 }
 
@@ -116,6 +127,13 @@ pub fn value_bytes(value: &Value) -> Vec<u8> {
     put(&mut bytes, value.identifier, 2);
     put(&mut bytes, u32::from(value.option), 1);
     put_group(&mut bytes, &value.dispatchers);
+    for mark in value.further {
+        put(&mut bytes, u32::from(mark), 1);
+    }
+    put(&mut bytes, value.mni, 3);
+    for number in value.areas.iter().chain(&value.services) {
+        put(&mut bytes, *number, 1);
+    }
     bytes
 }
 
@@ -125,6 +143,14 @@ fn read_flag(byte: u8) -> Option<bool> {
         1 => Some(true),
         _ => None,
     }
+}
+
+fn read_flags(bytes: &[u8]) -> Option<[bool; 6]> {
+    let mut flags = [false; 6];
+    for (flag, byte) in flags.iter_mut().zip(bytes) {
+        *flag = read_flag(*byte)?;
+    }
+    Some(flags)
 }
 
 /// A range number and fifteen addresses of 7 bytes.

@@ -5,5 +5,6 @@ pub mod interface;
 pub mod layout;
 pub mod message;
 pub mod profile;
+pub mod request;
 pub mod value;
 pub mod write;

@@ -23,6 +23,8 @@ mod places;
 mod profile;
 mod records;
 mod replay;
+mod request;
+mod requests;
 mod rounds;
 mod script;
 mod selftest;
@@ -39,7 +41,8 @@ use std::io::{self, BufWriter, Read, Write};
 use std::process::ExitCode;
 
 const USAGE: &str = "usage: model listing | generate SEED COUNT | suite | count | rounds | \
-    crossing | replay | script SEED COUNT | tally | moves | selftest";
+    crossing | replay | script SEED COUNT | tally | moves | \
+    requests | selftest";
 
 fn main() -> ExitCode {
     let arguments: Vec<String> = env::args_os()
@@ -81,6 +84,7 @@ fn run(words: &[&str]) -> io::Result<Option<bool>> {
         },
         ["tally"] => good = tally::tally(&standard_input()?, &mut out)?,
         ["moves"] => good = moves::count_moves(&standard_input()?, &mut out)?,
+        ["requests"] => good = requests::count_requests(&standard_input()?, &mut out)?,
         ["count"] => good = count::count(&standard_input()?, &mut out)?,
         ["selftest"] => good = selftest::selftest(&mut out)?,
         _ => return Ok(None),

@@ -1,8 +1,9 @@
-//! The eight messages of the base and how one is read from a byte buffer and a bit length.
+//! The messages that are carried and how one is read from a byte buffer and a bit length.
 //! Every refusal is given by document 01's number, in the order of its "Order" paragraph.
 
 use crate::bits::{Bits, Refusal};
 use crate::profile::{Meaning, Profile};
+use crate::request::{read_options, Options};
 
 pub const MOST_BITS: usize = 2048;
 pub const MOST_IDENTITIES: u32 = 64;
@@ -57,6 +58,24 @@ pub enum Message {
         cause: u32,
         dispatcher: Option<Address>,
     },
+    Request {
+        identifier: u32,
+        /// The interception cause.
+        cause: u32,
+        options: Options,
+    },
+    Cancel {
+        identifier: u32,
+    },
+    Reject {
+        identifier: u32,
+        /// The rejection cause, which REJECTED has too.
+        cause: u32,
+    },
+    Rejected {
+        cause: u32,
+        dispatcher: Option<Address>,
+    },
 }
 
 impl Message {
@@ -70,6 +89,10 @@ impl Message {
             Message::Accepted => 13,
             Message::Divert { .. } => 15,
             Message::Diverted { .. } => 16,
+            Message::Request { .. } => 11,
+            Message::Cancel { .. } => 14,
+            Message::Reject { .. } => 17,
+            Message::Rejected { .. } => 18,
         }
     }
 
@@ -83,6 +106,10 @@ impl Message {
             Message::Accepted => "ACCEPTED",
             Message::Divert { .. } => "DIVERT",
             Message::Diverted { .. } => "DIVERTED",
+            Message::Request { .. } => "REQUEST",
+            Message::Cancel { .. } => "CANCEL",
+            Message::Reject { .. } => "REJECT",
+            Message::Rejected { .. } => "REJECTED",
         }
     }
 }
@@ -120,10 +147,18 @@ fn read_elements(profile: &Profile, bits: &mut Bits) -> Result<Message, Refusal>
             cause: bits.take(5)?,
             dispatcher: read_optional_address(bits)?,
         }),
+        11 => Ok(Message::Request {
+            identifier: bits.take(14)?,
+            cause: bits.take(5)?,
+            options: read_options(bits)?,
+        }),
         12 => Ok(Message::Accept {
             identifier: bits.take(14)?,
         }),
         13 => Ok(Message::Accepted),
+        14 => Ok(Message::Cancel {
+            identifier: bits.take(14)?,
+        }),
         15 => Ok(Message::Divert {
             identifier: bits.take(14)?,
         }),
@@ -131,7 +166,15 @@ fn read_elements(profile: &Profile, bits: &mut Bits) -> Result<Message, Refusal>
             cause: bits.take(5)?,
             dispatcher: read_optional_address(bits)?,
         }),
-        // 4 to 7, 9, 11, 14, 17 and 18: the CAD types that are not carried yet.
+        17 => Ok(Message::Reject {
+            identifier: bits.take(14)?,
+            cause: bits.take(5)?,
+        }),
+        18 => Ok(Message::Rejected {
+            cause: bits.take(5)?,
+            dispatcher: read_optional_address(bits)?,
+        }),
+        // 4 to 7 and 9: the CAD types that are not carried yet.
         _ => Err(7),
     }
 }
@@ -230,7 +273,7 @@ pub fn are_range_ends(first: &Address, last: &Address) -> bool {
     span <= MOST_IDENTITIES
 }
 
-fn read_address(bits: &mut Bits) -> Result<Address, Refusal> {
+pub fn read_address(bits: &mut Bits) -> Result<Address, Refusal> {
     let kind = bits.take(2)?;
     if kind == 0 || kind == 3 {
         return Err(10);

@@ -128,7 +128,7 @@ const EVENTS: [(Event, &str); 32] = [
     ),
     (
         Event::FirstTooLateToEnd,
-        "20 for the first post's DIVERT or reject after the move",
+        "20 for the first post's DIVERT, REJECT or reject after the move",
     ),
     (
         Event::MovedAgain,
@@ -177,7 +177,8 @@ struct Past {
     named: bool,
 }
 
-/// The four that name a waiting call, with the post that asks, but for cancel.
+/// All that names a waiting call, with the post that asks, but for cancel; a reject may be plain
+/// or a message.
 enum Asking {
     Accept(u32),
     Divert(u32),
@@ -230,6 +231,7 @@ impl Watch {
                 caller,
                 called,
                 identifier,
+                ..
             }) => self.set_up(caller, called, identifier, &answer),
             Some(Line::Reject { post, identifier }) => {
                 self.asked(&before, Asking::Reject(post), identifier, &answer);
@@ -243,6 +245,9 @@ impl Watch {
                 }
                 Ok(Message::Divert { identifier }) => {
                     self.asked(&before, Asking::Divert(post), identifier, &answer);
+                }
+                Ok(Message::Reject { identifier, .. }) => {
+                    self.asked(&before, Asking::Reject(post), identifier, &answer);
                 }
                 _ => {}
             },

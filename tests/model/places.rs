@@ -2,13 +2,14 @@
 
 use crate::profile::{Profile, PLACES};
 
-/// A waiting call: the call identifier, the post at which it waits now, and the post that has to
-/// accept it after that one, if there is one.
+/// A waiting call: the call identifier, the post at which it waits now, the post that has to
+/// accept it after that one, if there is one, and the interception cause of its REQUEST.
 #[derive(Clone, Copy, PartialEq, Eq, Debug)]
 pub struct Call {
     pub identifier: u32,
     pub post: u32,
     pub second: Option<u32>,
+    pub cause: u32,
 }
 
 /// What each place holds, if it isn't free.
@@ -84,6 +85,7 @@ fn call_keeps_rules(profile: &Profile, call: &Call) -> bool {
         && call
             .second
             .map_or(true, |second| posts(profile).contains(&second))
+        && call.cause < 1 << 5
 }
 
 fn two_with_one_identifier(places: &Places) -> bool {

@@ -5,6 +5,7 @@ use crate::bits::Refusal;
 use crate::desk::{Answer, Desk, Lent, State};
 use crate::hex::hex_of;
 use crate::line::lines_of;
+use crate::places::Call;
 use crate::profile::sample;
 use crate::records::Record;
 use crate::script::{read_script_line, Line, MOST_OUTPUT};
@@ -64,15 +65,17 @@ impl Replay {
                 return None;
             }
             Line::Second { place, post } => return self.set_second(place, post),
+            Line::Cause { place, cause } => return self.set_cause(place, cause),
             Line::Dump => return Some(self.dump()),
             Line::Post { post, bits, bytes } => self.desk.message(lent, post, &bytes, bits),
             Line::SetUp {
                 caller,
                 called,
                 identifier,
-            } => self.desk.set_up(lent, caller, called, identifier),
-            Line::Reject { post, identifier } => self.desk.reject(post, identifier),
-            Line::Cancel { identifier } => self.desk.cancel(identifier),
+                cause,
+            } => self.desk.set_up(lent, caller, called, identifier, cause),
+            Line::Reject { post, identifier } => self.desk.reject(lent, post, identifier),
+            Line::Cancel { identifier } => self.desk.cancel(lent, identifier),
         };
         Some(words(outcome, &output))
     }
@@ -104,12 +107,19 @@ impl Replay {
         None
     }
 
+    /// As with a second post: a free place keeps nothing.
+    fn set_cause(&mut self, place: usize, cause: u32) -> Option<String> {
+        if let Some(call) = &mut self.desk.places[place] {
+            call.cause = cause;
+        }
+        None
+    }
+
     fn dump(&self) -> String {
         let mut words = vec!["dump".to_string()];
         for (place, call) in self.desk.places.iter().enumerate() {
             if let Some(call) = call {
-                let second = call.second.map_or(String::new(), |post| format!(">{post}"));
-                words.push(format!("{place}:{}:{}{second}", call.identifier, call.post));
+                words.push(format!("{place}:{}", call_words(call)));
             }
         }
         words.push("|".to_string());
@@ -128,6 +138,18 @@ impl Replay {
     }
 }
 
+/// ID:POST, with `>SECOND` where there is a second post and `!CAUSE` where the cause isn't 0.
+fn call_words(call: &Call) -> String {
+    let mut words = format!("{}:{}", call.identifier, call.post);
+    if let Some(second) = call.second {
+        words.push_str(&format!(">{second}"));
+    }
+    if call.cause != 0 {
+        words.push_str(&format!("!{}", call.cause));
+    }
+    words
+}
+
 fn words(outcome: Result<Answer, Refusal>, output: &[u8]) -> String {
     let hex = |at: usize, bits: usize| hex_of(&output[at..at + (bits + 7) / 8]);
     match outcome {
@@ -142,14 +164,20 @@ fn words(outcome: Result<Answer, Refusal>, output: &[u8]) -> String {
         }
         Ok(Answer::State(state)) => format!("state {}", state_word(state)),
         Ok(Answer::Free) => "free".to_string(),
-        Ok(Answer::Admitted { post, place, bits }) => {
-            format!("admitted {post} {place} {}", hex(0, bits))
+        Ok(Answer::Admitted {
+            post,
+            place,
+            intercepted_bits,
+            request_bits,
+        }) => {
+            let (intercepted, request) = (hex(0, intercepted_bits), hex(100, request_bits));
+            format!("admitted {post} {place} {intercepted} {request}")
         }
         Ok(Answer::Proceed { bits }) => format!("proceed {}", hex(0, bits)),
-        Ok(Answer::Moved { post }) => format!("moved {post}"),
+        Ok(Answer::Moved { post, bits }) => format!("moved {post} {}", hex(0, bits)),
         Ok(Answer::Diverted { bits }) => format!("diverted {}", hex(0, bits)),
-        Ok(Answer::Rejected) => "rejected".to_string(),
-        Ok(Answer::Cancelled) => "cancelled".to_string(),
+        Ok(Answer::Rejected { bits }) => format!("rejected {}", hex(0, bits)),
+        Ok(Answer::Cancelled { post, bits }) => format!("cancelled {post} {}", hex(0, bits)),
     }
 }
 

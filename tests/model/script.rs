@@ -29,6 +29,7 @@ pub enum Line {
         caller: Identity,
         called: Identity,
         identifier: u32,
+        cause: u32,
     },
     Reject {
         post: u32,
@@ -50,6 +51,10 @@ pub enum Line {
     Second {
         place: usize,
         post: u32,
+    },
+    Cause {
+        place: usize,
+        cause: u32,
     },
     Dump,
 }
@@ -87,17 +92,12 @@ fn read_numbers_line(name: &[u8], numbers: &[u32]) -> Option<Line> {
                 active: at_most(*active, 1)? == 1,
             },
         }),
-        (b"setup", [caller, callers, called, calleds, identifier]) => Some(Line::SetUp {
-            caller: Identity {
-                ssi: *caller,
-                extension: *callers,
-            },
-            called: Identity {
-                ssi: *called,
-                extension: *calleds,
-            },
-            identifier: *identifier,
-        }),
+        (b"setup", [parties @ .., identifier]) if parties.len() == 4 => {
+            Some(set_up(parties, *identifier, 0))
+        }
+        (b"setup", [parties @ .., identifier, cause]) if parties.len() == 4 => {
+            Some(set_up(parties, *identifier, *cause))
+        }
         (b"reject", [post, identifier]) => Some(Line::Reject {
             post: *post,
             identifier: *identifier,
@@ -114,6 +114,7 @@ fn read_numbers_line(name: &[u8], numbers: &[u32]) -> Option<Line> {
                 identifier: at_most(*identifier, 65_535)?,
                 post: at_most(*post, 255)?,
                 second: None,
+                cause: 0,
             },
         }),
         (b"unplace", [place]) => Some(Line::Unplace {
@@ -123,8 +124,26 @@ fn read_numbers_line(name: &[u8], numbers: &[u32]) -> Option<Line> {
             place: at_most(*place, PLACES - 1)? as usize,
             post: at_most(*post, 255)?,
         }),
+        (b"cause", [place, cause]) => Some(Line::Cause {
+            place: at_most(*place, PLACES - 1)? as usize,
+            cause: at_most(*cause, 255)?,
+        }),
         (b"dump", []) => Some(Line::Dump),
         _ => None,
+    }
+}
+
+/// SSI and extension of the caller, then of the called party.
+fn set_up(parties: &[u32], identifier: u32, cause: u32) -> Line {
+    let party = |ssi: usize| Identity {
+        ssi: parties[ssi],
+        extension: parties[ssi + 1],
+    };
+    Line::SetUp {
+        caller: party(0),
+        called: party(2),
+        identifier,
+        cause,
     }
 }
 

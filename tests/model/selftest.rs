@@ -7,6 +7,8 @@ mod ledger;
 mod move_scripts;
 mod moves;
 mod reading;
+mod request_scripts;
+mod requests;
 mod script_lines;
 mod scripts;
 mod writing;
@@ -37,5 +39,6 @@ pub fn selftest(out: &mut dyn Write) -> io::Result<bool> {
     desk::check(&mut report)?;
     moves::check(&mut report)?;
     ledger::check(&mut report)?;
+    requests::check(&mut report)?;
     Ok(report.all_good)
 }

@@ -1,10 +1,13 @@
 //! The fixed list of input lines that is stored as the listing's test input.
-//! Chosen by hand or counted through; no dice. Its last line has no LF.
+//! Chosen by hand or counted through; no dice. Its last line has no LF. What a request brings is
+//! appended.
+
+mod requests;
 
 use crate::hex::read_hex;
 use crate::line::line_of;
 use crate::shapes;
-use crate::worked;
+use crate::worked::{self, Case};
 use crate::write::{bytes_of, elements};
 use std::io::{self, Write};
 
@@ -37,6 +40,7 @@ fn lines() -> Vec<Vec<u8>> {
     suite.lengths();
     suite.lines.extend(shapes::lines());
     suite.text("25 25FFFF80");
+    suite.requests();
     suite.lines
 }
 
@@ -60,10 +64,7 @@ impl Suite {
             self.text(line);
         }
         for case in worked::cases().iter().filter(|case| case.expected.is_ok()) {
-            let bytes = read_hex(case.hex.as_bytes()).unwrap_or_default();
-            for length in 0..=case.length {
-                self.lines.push(line_of(length, &bytes));
-            }
+            self.cut_short(case);
         }
         // Bits left over: one, up to the byte's end, a byte, and all that the bytes hold.
         for line in [
@@ -77,6 +78,14 @@ impl Suite {
             "19 25A000",
         ] {
             self.text(line);
+        }
+    }
+
+    /// A case at every bit length up to its own.
+    fn cut_short(&mut self, case: &Case) {
+        let bytes = read_hex(case.hex.as_bytes()).unwrap_or_default();
+        for length in 0..=case.length {
+            self.lines.push(line_of(length, &bytes));
         }
     }
 

@@ -1,9 +1,10 @@
-//! The flat value: one struct with a field for all that any of the eight messages carries.
+//! The flat value: one struct with a field for all that any of the messages carries.
 //! What a message doesn't carry is zero, so a value is valid exactly if it is some message, flat.
 
 use crate::message::{are_range_ends, identity_count, meaning_of};
 use crate::message::{AckResult, Address, Group, Message};
 use crate::profile::{Meaning, Profile};
+use crate::request::{Options, AREA_BITS, MNI_BITS, SERVICE_BITS};
 
 pub const MOST_ADDRESSES: usize = 15;
 
@@ -17,7 +18,8 @@ pub struct FlatGroup {
 #[derive(Clone, PartialEq, Eq, Debug, Default)]
 pub struct Value {
     pub pdu: u32,
-    /// INTERROGATE's one address is address 0 here, with range number 0.
+    /// INTERROGATE's one address is address 0 here, and REQUEST's calling and called addresses
+    /// are addresses 0 and 1, with range number 0.
     pub users: FlatGroup,
     pub masked: bool,
     /// Identity i, from 0, is bit 63 - i, whatever the count.
@@ -26,9 +28,17 @@ pub struct Value {
     pub reason: u32,
     pub cause: u32,
     pub identifier: u32,
+    /// Whether the message's only option is there, or the first of REQUEST's.
     pub option: bool,
-    /// The one dispatcher of INTERCEPTED and DIVERTED is address 0 here, with range number 0.
+    /// The one dispatcher of INTERCEPTED, DIVERTED and REJECTED is address 0 here, with range
+    /// number 0.
     pub dispatchers: FlatGroup,
+    /// Whether REQUEST's other six options are there, in their order.
+    pub further: [bool; 6],
+    pub mni: u32,
+    /// Of the calling, of the called, as the services are.
+    pub areas: [u32; 2],
+    pub services: [u32; 2],
 }
 
 /// Document 01: "A value is valid exactly if ..."
@@ -77,19 +87,52 @@ pub fn flat(message: &Message) -> Value {
             }
         }
         Message::Interrogate { user } => value.users.addresses[0] = *user,
-        Message::Intercepted { cause, dispatcher } | Message::Diverted { cause, dispatcher } => {
+        Message::Intercepted { cause, dispatcher }
+        | Message::Diverted { cause, dispatcher }
+        | Message::Rejected { cause, dispatcher } => {
             value.cause = *cause;
             if let Some(address) = dispatcher {
                 value.option = true;
                 value.dispatchers.addresses[0] = *address;
             }
         }
-        Message::Accept { identifier } | Message::Divert { identifier } => {
+        Message::Accept { identifier }
+        | Message::Divert { identifier }
+        | Message::Cancel { identifier } => value.identifier = *identifier,
+        Message::Reject { identifier, cause } => {
             value.identifier = *identifier;
+            value.cause = *cause;
+        }
+        Message::Request {
+            identifier,
+            cause,
+            options,
+        } => {
+            value.identifier = *identifier;
+            value.cause = *cause;
+            flat_options(options, &mut value);
         }
         Message::Accepted => {}
     }
     value
+}
+
+fn flat_options(options: &Options, value: &mut Value) {
+    value.option = options.calling.is_some();
+    value.further = [
+        options.called.is_some(),
+        options.mni.is_some(),
+        options.calling_area.is_some(),
+        options.called_area.is_some(),
+        options.calling_service.is_some(),
+        options.called_service.is_some(),
+    ];
+    value.users.addresses[0] = options.calling.unwrap_or_default();
+    value.users.addresses[1] = options.called.unwrap_or_default();
+    value.mni = options.mni.unwrap_or_default();
+    value.areas = [options.calling_area, options.called_area].map(Option::unwrap_or_default);
+    value.services =
+        [options.calling_service, options.called_service].map(Option::unwrap_or_default);
 }
 
 fn flat_group(group: &Group) -> FlatGroup {
@@ -131,14 +174,30 @@ fn carried(profile: &Profile, value: &Value) -> Option<Message> {
             cause: fitting(value.cause, 5)?,
             dispatcher: carried_dispatcher(value)?,
         }),
+        11 => Some(Message::Request {
+            identifier: fitting(value.identifier, 14)?,
+            cause: fitting(value.cause, 5)?,
+            options: carried_options(value)?,
+        }),
         12 => Some(Message::Accept {
             identifier: fitting(value.identifier, 14)?,
         }),
         13 => Some(Message::Accepted),
+        14 => Some(Message::Cancel {
+            identifier: fitting(value.identifier, 14)?,
+        }),
         15 => Some(Message::Divert {
             identifier: fitting(value.identifier, 14)?,
         }),
         16 => Some(Message::Diverted {
+            cause: fitting(value.cause, 5)?,
+            dispatcher: carried_dispatcher(value)?,
+        }),
+        17 => Some(Message::Reject {
+            identifier: fitting(value.identifier, 14)?,
+            cause: fitting(value.cause, 5)?,
+        }),
+        18 => Some(Message::Rejected {
             cause: fitting(value.cause, 5)?,
             dispatcher: carried_dispatcher(value)?,
         }),
@@ -170,11 +229,37 @@ fn carried_ack(profile: &Profile, value: &Value) -> Option<Message> {
     })
 }
 
-/// The dispatcher of INTERCEPTED and DIVERTED, if the option is there; nothing at all if it
-/// is there and reading would refuse it.
+/// The dispatcher of INTERCEPTED, DIVERTED and REJECTED, if the option is there; nothing at all
+/// if it is there and reading would refuse it.
 fn carried_dispatcher(value: &Value) -> Option<Option<Address>> {
-    if value.option {
-        Some(Some(carried_address(&value.dispatchers.addresses[0])?))
+    carried_if(value.option, || {
+        carried_address(&value.dispatchers.addresses[0])
+    })
+}
+
+fn carried_options(value: &Value) -> Option<Options> {
+    let [calling, called, ..] = &value.users.addresses;
+    let [of_called, of_mni, of_calling_area, of_called_area, of_calling_service, of_called_service] =
+        value.further;
+    Some(Options {
+        calling: carried_if(value.option, || carried_address(calling))?,
+        called: carried_if(of_called, || carried_address(called))?,
+        mni: carried_if(of_mni, || fitting(value.mni, MNI_BITS))?,
+        calling_area: carried_if(of_calling_area, || fitting(value.areas[0], AREA_BITS))?,
+        called_area: carried_if(of_called_area, || fitting(value.areas[1], AREA_BITS))?,
+        calling_service: carried_if(of_calling_service, || {
+            fitting(value.services[0], SERVICE_BITS)
+        })?,
+        called_service: carried_if(of_called_service, || {
+            fitting(value.services[1], SERVICE_BITS)
+        })?,
+    })
+}
+
+/// An option, if it is there; nothing at all if it is there and isn't good.
+fn carried_if<T>(there: bool, carried: impl Fn() -> Option<T>) -> Option<Option<T>> {
+    if there {
+        Some(Some(carried()?))
     } else {
         Some(None)
     }

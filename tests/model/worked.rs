@@ -1,12 +1,15 @@
-//! Document 01's worked cases that need reading alone: 1 to 8, 10, and the listing example.
-//! Bytes, bit lengths and results are the paper's, typed in here; nothing is computed by `read`.
+//! Document 01's worked cases that need reading alone: 1 to 8, 10, and the listing example; and
+//! the messages worked out for request (iv). Bytes, bit lengths and results are the papers',
+//! typed in here; nothing is computed by `read`.
 
 use crate::bits::Refusal;
 use crate::message::{Address, Group, Message};
+use crate::request::Options;
 use crate::write::elements;
 
 pub struct Case {
-    pub number: u32,
+    /// The case's number in document 01, or the request in document 02.
+    pub name: &'static str,
     pub hex: &'static str,
     pub length: usize,
     pub expected: Result<Message, Refusal>,
@@ -17,25 +20,25 @@ pub const LISTING_OUTPUT: &str = "1 ACCEPTED\n2 refused 13\n3 ACCEPT\n";
 
 /// Cases 1 to 8; case 1 has three bit lengths.
 pub fn cases() -> Vec<Case> {
-    let case = |number, hex, length, expected| Case {
-        number,
+    let case = |name, hex, length, expected| Case {
+        name,
         hex,
         length,
         expected,
     };
     vec![
-        case(1, "25A0", 11, Ok(Message::Accepted)),
-        case(1, "25A0", 12, Err(13)),
-        case(1, "25A0", 10, Err(4)),
-        case(2, "25800280", 25, Ok(Message::Accept { identifier: 5 })),
+        case("1", "25A0", 11, Ok(Message::Accepted)),
+        case("1", "25A0", 12, Err(13)),
+        case("1", "25A0", 10, Err(4)),
+        case("2", "25800280", 25, Ok(Message::Accept { identifier: 5 })),
         case(
-            3,
+            "3",
             "25FFFF80",
             25,
             Ok(Message::Divert { identifier: 16_383 }),
         ),
         case(
-            4,
+            "4",
             "254000",
             17,
             Ok(Message::Intercepted {
@@ -44,7 +47,7 @@ pub fn cases() -> Vec<Case> {
             }),
         ),
         case(
-            5,
+            "5",
             "260000",
             17,
             Ok(Message::Diverted {
@@ -53,7 +56,7 @@ pub fn cases() -> Vec<Case> {
             }),
         ),
         case(
-            6,
+            "6",
             "2542D0000010",
             44,
             Ok(Message::Intercepted {
@@ -62,14 +65,82 @@ pub fn cases() -> Vec<Case> {
             }),
         ),
         case(
-            7,
+            "7",
             "2508001F48",
             37,
             Ok(Message::Interrogate {
                 user: at_home(1001),
             }),
         ),
-        case(8, "245E8001F4A0007D80", 68, Ok(activate_range(4))),
+        case("8", "245E8001F4A0007D80", 68, Ok(activate_range(4))),
+    ]
+}
+
+/// REQUEST, CANCEL, REJECT and REJECTED, and for some of them a length that isn't theirs.
+pub fn request_cases() -> Vec<Case> {
+    let case = |hex, length, expected| Case {
+        name: "(iv)",
+        hex,
+        length,
+        expected,
+    };
+    let request = |cause, options| {
+        Ok(Message::Request {
+            identifier: 5,
+            cause,
+            options,
+        })
+    };
+    let seven_options = Options {
+        calling: Some(at_home(1001)),
+        called: Some(Address {
+            kind: 2,
+            ssi: 1004,
+            extension: 5,
+        }),
+        mni: Some(5),
+        calling_area: Some(1),
+        called_area: Some(2),
+        calling_service: Some(1),
+        called_service: Some(2),
+    };
+    let last_option = Options {
+        called_service: Some(3),
+        ..Options::default()
+    };
+    let rejected = |dispatcher| {
+        Ok(Message::Rejected {
+            cause: 2,
+            dispatcher,
+        })
+    };
+    let with_seven = "2560028B4000FA70001F6000002C00001632B8";
+    vec![
+        case("25600280", 31, request(0, Options::default())),
+        case("25600288", 31, request(2, Options::default())),
+        case(with_seven, 150, request(2, seven_options)),
+        case("2560028207", 40, request(0, last_option)),
+        case("25C00280", 25, Ok(Message::Cancel { identifier: 5 })),
+        case(
+            "26200288",
+            30,
+            Ok(Message::Reject {
+                identifier: 5,
+                cause: 2,
+            }),
+        ),
+        case("264200", 17, rejected(None)),
+        case("2642D0003E90", 44, rejected(Some(at_home(1001)))),
+        // REQUEST with an O-bit of 1: seven P-bits of 0, and one P-bit fewer.
+        case("2560028200", 38, Err(12)),
+        case("2560028200", 37, Err(4)),
+        // A calling and then a called address of kinds 0 and 3.
+        case("256002830000", 41, Err(10)),
+        case("25600283C000", 41, Err(10)),
+        case("256002828000", 41, Err(10)),
+        case("25600282E000", 41, Err(10)),
+        case("25C00280", 26, Err(13)),
+        case("26200288", 31, Err(13)),
     ]
 }
 

@@ -4,6 +4,7 @@
 use crate::bits::Refusal;
 use crate::message::{AckResult, Address, Group, Message};
 use crate::profile::Profile;
+use crate::request::put_options;
 use crate::value::{valid_message, Value};
 
 /// Writes the value from byte 0 on and gives its bit length; the spare bits of the last byte
@@ -61,15 +62,30 @@ pub fn bits_of(profile: &Profile, message: &Message) -> Vec<bool> {
             put_result(&mut bits, result);
         }
         Message::Interrogate { user } => put_address(&mut bits, user),
-        Message::Intercepted { cause, dispatcher } | Message::Diverted { cause, dispatcher } => {
+        Message::Intercepted { cause, dispatcher }
+        | Message::Diverted { cause, dispatcher }
+        | Message::Rejected { cause, dispatcher } => {
             put(&mut bits, *cause, 5);
             put_option_present(&mut bits, dispatcher.is_some());
             if let Some(address) = dispatcher {
                 put_address(&mut bits, address);
             }
         }
-        Message::Accept { identifier } | Message::Divert { identifier } => {
+        Message::Accept { identifier }
+        | Message::Divert { identifier }
+        | Message::Cancel { identifier } => put(&mut bits, *identifier, 14),
+        Message::Reject { identifier, cause } => {
             put(&mut bits, *identifier, 14);
+            put(&mut bits, *cause, 5);
+        }
+        Message::Request {
+            identifier,
+            cause,
+            options,
+        } => {
+            put(&mut bits, *identifier, 14);
+            put(&mut bits, *cause, 5);
+            put_options(&mut bits, options);
         }
         Message::Accepted => {}
     }
@@ -83,7 +99,7 @@ fn put_group(bits: &mut Vec<bool>, group: &Group) {
     }
 }
 
-fn put_address(bits: &mut Vec<bool>, address: &Address) {
+pub fn put_address(bits: &mut Vec<bool>, address: &Address) {
     put(bits, address.kind, 2);
     put(bits, address.ssi, 24);
     if address.kind == 2 {

@@ -11,6 +11,9 @@ use crate::profile::{Meaning, Profile};
 use crate::records::Identity;
 use crate::write::{bits_of, bytes_of};
 
+/// Some are good in their lowest 5, 8 or 16 bits.
+pub(super) const CAUSES_TOO_WIDE: [u32; 8] = [32, 33, 63, 255, 256, 1 << 14, 1 << 16, u32::MAX];
+
 impl Source {
     pub(super) fn call(&mut self) -> Vec<u8> {
         let (set_up, ending) = match self.mood {
@@ -30,21 +33,23 @@ impl Source {
     fn set_up(&mut self) -> Vec<u8> {
         let (mut caller, mut called) = self.parties();
         let mut identifier = self.new_identifier();
-        if self.dice.one_in(25) {
+        let mut cause = set_up_cause(&mut self.dice);
+        if self.dice.one_in(20) {
             let far = self.dice.pick(&[1 << 24, u32::MAX]);
-            match self.dice.below(5) {
+            match self.dice.below(8) {
                 0 => caller.ssi = far,
                 1 => caller.extension = far,
                 2 => called.ssi = far,
                 3 => called.extension = far,
-                _ => identifier = self.dice.pick(&[1 << 14, u32::MAX]),
+                4 => identifier = self.dice.pick(&[1 << 14, u32::MAX]),
+                _ => cause = Some(self.dice.pick(&CAUSES_TOO_WIDE)),
             }
         }
-        set_up_line(caller, called, identifier)
+        set_up_line(caller, called, identifier, cause)
     }
 
     /// A third of the time two whose posts are both to be asked, if there are such.
-    fn parties(&mut self) -> (Identity, Identity) {
+    pub(super) fn parties(&mut self) -> (Identity, Identity) {
         if self.dice.one_in(3) {
             if let Some(parties) = self.parties_of_two_posts() {
                 return parties;
@@ -73,7 +78,7 @@ impl Source {
     }
 
     /// One that ended calls leave behind and new ones take again; it may be waiting.
-    fn new_identifier(&mut self) -> u32 {
+    pub(super) fn new_identifier(&mut self) -> u32 {
         match self.dice.below(12) {
             0 => self.dice.pick(&[0, 16_383]),
             1 => self.dice.number(14),
@@ -81,7 +86,7 @@ impl Source {
         }
     }
 
-    /// ACCEPT, DIVERT, reject or cancel, mostly of a waiting call and mostly at its post.
+    /// ACCEPT, DIVERT, REJECT, reject or cancel, mostly of a waiting call and mostly at its post.
     fn ending(&mut self) -> Vec<u8> {
         let calls = self.calls_waiting();
         let of_two_posts: Vec<(Call, u32)> = calls
@@ -101,15 +106,19 @@ impl Source {
         if self.dice.one_in(8) {
             post = self.post();
         }
-        let message = match self.dice.below(4) {
+        let message = match self.dice.below(5) {
             0 => Message::Accept { identifier },
             1 => Message::Divert { identifier },
+            2 => Message::Reject {
+                identifier,
+                cause: cause(&mut self.dice),
+            },
             plain => {
                 let post_is_there = (post as usize) < self.replay.desk.profile.posts.len();
                 if self.dice.one_in(if post_is_there { 20 } else { 2 }) {
                     identifier = self.dice.pick(&[1 << 14, u32::MAX]);
                 }
-                return if plain == 2 {
+                return if plain == 3 {
                     format!("reject {post} {identifier}").into_bytes()
                 } else {
                     format!("cancel {identifier}").into_bytes()
@@ -164,7 +173,7 @@ impl Source {
     fn faulty_message(&mut self) -> Vec<u8> {
         let post = self.post();
         let (dice, profile) = (&mut self.dice, &self.replay.desk.profile);
-        let mut bits = match dice.below(12) {
+        let mut bits = match dice.below(16) {
             0 => fault::ss_type(dice, profile),
             1 | 2 => fault::pdu_type(dice, profile),
             3 => fault::range_ends(dice, profile),
@@ -173,6 +182,9 @@ impl Source {
             6 => fault::option(dice, profile),
             7 => fault::mask(dice, profile),
             8 => fault::content(dice, profile),
+            9 => fault::options(dice, profile),
+            10 | 11 => fault::about_waiting_call(dice, profile),
+            12 | 13 => bits_of(profile, &draw::about_waiting_call(dice, profile)),
             _ => bits_of(profile, &draw::message(dice, profile)),
         };
         if dice.one_in(3) {
@@ -190,12 +202,38 @@ impl Source {
     }
 }
 
-pub(super) fn set_up_line(caller: Identity, called: Identity, identifier: u32) -> Vec<u8> {
-    format!(
+/// A line without a cause where there is none, as scripts had it before request (iv).
+pub(super) fn set_up_line(
+    caller: Identity,
+    called: Identity,
+    identifier: u32,
+    cause: Option<u32>,
+) -> Vec<u8> {
+    let mut line = format!(
         "setup {} {} {} {} {identifier}",
         caller.ssi, caller.extension, called.ssi, called.extension
-    )
-    .into_bytes()
+    );
+    if let Some(cause) = cause {
+        line.push_str(&format!(" {cause}"));
+    }
+    line.into_bytes()
+}
+
+/// None a third of the time.
+pub(super) fn set_up_cause(dice: &mut Dice) -> Option<u32> {
+    if dice.one_in(3) {
+        None
+    } else {
+        Some(cause(dice))
+    }
+}
+
+/// A cause of 5 bits; 0, 31 and the standard's single bits often.
+pub(super) fn cause(dice: &mut Dice) -> u32 {
+    match dice.below(3) {
+        0 => dice.pick(&[0, 0, 0, 1, 2, 4, 8, 16, 31]),
+        _ => dice.number(5),
+    }
 }
 
 pub(super) fn message_line(profile: &Profile, post: u32, message: &Message) -> Vec<u8> {

@@ -1,6 +1,8 @@
 //! Waiting calls that are put straight into places of the desk: up to what a share allows, or
-//! so that the desk lent is damaged and every call gets 1 until they are taken out again.
+//! so that the desk lent is damaged and every call gets 1 until they are taken out again. Second
+//! posts and causes that calls are given, good and bad.
 
+use super::calls::cause;
 use super::Source;
 use crate::places::{held, owed, Call};
 use crate::profile::PLACES;
@@ -11,7 +13,7 @@ impl Source {
         let place = self.dice.below(PLACES as usize);
         let post = self.dice.below(self.replay.desk.profile.posts.len()) as u32;
         let identifier = self.dice.number(14);
-        match self.dice.below(9) {
+        match self.dice.below(12) {
             0 => {
                 let identifier = self.dice.pick(&[16_384, 32_768 + 5, 65_535]);
                 place_line(place, identifier, post)
@@ -30,18 +32,16 @@ impl Source {
                 let calls = self.dice.below(PLACES as usize);
                 self.put_calls(post, calls)
             }
-            _ => self.second(place),
+            6..=8 => self.second(place),
+            _ => self.cause(place),
         }
     }
 
     /// A second post for a call, its own among them, or one that isn't there; or for whatever
     /// the place holds, if anything.
     fn second(&mut self, any: usize) -> Vec<u8> {
-        let desk = &self.replay.desk;
-        let used: Vec<(usize, Call)> = (0..PLACES as usize)
-            .filter_map(|place| Some((place, desk.places[place]?)))
-            .collect();
-        let post = self.dice.below(desk.profile.posts.len()) as u32;
+        let used = self.places_used();
+        let post = self.dice.below(self.replay.desk.profile.posts.len()) as u32;
         if used.is_empty() || self.dice.one_in(5) {
             return match self.dice.below(3) {
                 0 => second_line(any, self.post_not_there()),
@@ -56,7 +56,29 @@ impl Source {
         }
     }
 
-    fn post_not_there(&mut self) -> u32 {
+    /// A cause for a call, of 5 bits or more; or for whatever the place holds, if anything.
+    fn cause(&mut self, any: usize) -> Vec<u8> {
+        let used = self.places_used();
+        let place = if used.is_empty() || self.dice.one_in(5) {
+            any
+        } else {
+            self.dice.pick(&used).0
+        };
+        let cause = match self.dice.below(4) {
+            0 => self.dice.pick(&[32, 33, 64, 255]),
+            _ => cause(&mut self.dice),
+        };
+        cause_line(place, cause)
+    }
+
+    pub(super) fn places_used(&self) -> Vec<(usize, Call)> {
+        let places = self.replay.desk.places.iter().enumerate();
+        places
+            .filter_map(|(place, call)| Some((place, (*call)?)))
+            .collect()
+    }
+
+    pub(super) fn post_not_there(&mut self) -> u32 {
         let count = self.replay.desk.profile.posts.len() as u32;
         self.dice.pick(&[count, 8, 255])
     }
@@ -104,4 +126,8 @@ pub(super) fn place_line(place: usize, identifier: u32, post: u32) -> Vec<u8> {
 
 pub(super) fn second_line(place: usize, post: u32) -> Vec<u8> {
     format!("second {place} {post}").into_bytes()
+}
+
+pub(super) fn cause_line(place: usize, cause: u32) -> Vec<u8> {
+    format!("cause {place} {cause}").into_bytes()
 }

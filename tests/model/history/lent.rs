@@ -1,6 +1,7 @@
 //! What the host lends beside the desk, set anew by lines of a history: records and output area.
 
-use super::damage::{place_line, second_line};
+use super::calls::cause;
+use super::damage::{cause_line, place_line, second_line};
 use super::Source;
 use crate::places::{places_keep_rules, Call};
 use crate::profile::Profile;
@@ -75,25 +76,30 @@ impl Source {
         Some(record_line(bad, &record))
     }
 
-    /// Names another second post where that is what damages the desk, or puts the call anew,
-    /// or frees up to eight used places.
+    /// Names another second post or another cause where that is what damages the desk, or puts
+    /// the call anew, or frees up to eight used places.
     fn repair_places(&mut self) -> Vec<u8> {
         let places = &self.replay.desk.places;
         let posts = self.replay.desk.profile.posts.len();
         for (place, call) in places.iter().enumerate() {
-            if let Some(Call {
+            let Call {
                 identifier,
                 post,
-                second: Some(second),
-            }) = *call
-            {
-                if second as usize >= posts {
-                    return match self.dice.below(3) {
-                        0 => second_line(place, self.dice.below(posts) as u32),
-                        1 => place_line(place, identifier, post),
-                        _ => format!("unplace {place}").into_bytes(),
-                    };
-                }
+                second,
+                cause: its_cause,
+            } = match *call {
+                Some(call) => call,
+                None => continue,
+            };
+            let bad_second = second.map_or(false, |second| second as usize >= posts);
+            let bad_cause = its_cause >= 1 << 5;
+            if bad_second || bad_cause {
+                return match self.dice.below(3) {
+                    0 if bad_second => second_line(place, self.dice.below(posts) as u32),
+                    0 => cause_line(place, cause(&mut self.dice)),
+                    1 => place_line(place, identifier, post),
+                    _ => format!("unplace {place}").into_bytes(),
+                };
             }
         }
         let used: Vec<usize> = (0..places.len())

@@ -1,7 +1,8 @@
 //! Calls of two posts as they come in a history: their parties, and who is asked about them.
 
-use super::calls::message_line;
+use super::calls::{cause, message_line};
 use super::Source;
+use crate::dice::Dice;
 use crate::message::Message;
 use crate::places::Call;
 use crate::profile::Profile;
@@ -39,20 +40,26 @@ impl Source {
         let Call {
             identifier, post, ..
         } = call;
-        let (ending, post) = match self.dice.below(12) {
+        let (ending, post) = match self.dice.below(13) {
             0..=5 => {
                 self.after_accept(post, second, identifier);
                 (0, post)
             }
             6 => (0, second),
             7 => (0, self.post()),
-            8 => (1 + self.dice.below(2), second),
+            8 => (self.dice.pick(&[1, 2, 4]), second),
             chosen => (chosen - 8, post),
         };
-        end_line(&self.replay.desk.profile, ending, post, identifier)
+        end_line(
+            &mut self.dice,
+            &self.replay.desk.profile,
+            ending,
+            post,
+            identifier,
+        )
     }
 
-    /// Often the first post accepts again, or the second one ends the call; not where other lines
+    /// Often the first post asks again, or the second one ends the call; not where other lines
     /// would come between.
     fn after_accept(&mut self, first: u32, second: u32, identifier: u32) {
         if !self.waiting.is_empty() {
@@ -60,23 +67,37 @@ impl Source {
         }
         let profile = &self.replay.desk.profile;
         if self.dice.one_in(3) {
-            self.waiting
-                .push_back(end_line(profile, 0, first, identifier));
+            let ending = self.dice.pick(&[0, 0, 0, 4]);
+            let line = end_line(&mut self.dice, profile, ending, first, identifier);
+            self.waiting.push_back(line);
         }
-        let ending = self.dice.below(8);
-        if ending < 4 {
-            self.waiting
-                .push_back(end_line(profile, ending, second, identifier));
+        let ending = self.dice.below(9);
+        if ending < ENDINGS {
+            let line = end_line(&mut self.dice, profile, ending, second, identifier);
+            self.waiting.push_back(line);
         }
     }
 }
 
-/// ACCEPT, DIVERT, reject or cancel.
-pub(super) fn end_line(profile: &Profile, ending: usize, post: u32, identifier: u32) -> Vec<u8> {
+/// How many there are for `end_line`.
+pub(super) const ENDINGS: usize = 5;
+
+/// ACCEPT, DIVERT, reject, cancel or REJECT.
+pub(super) fn end_line(
+    dice: &mut Dice,
+    profile: &Profile,
+    ending: usize,
+    post: u32,
+    identifier: u32,
+) -> Vec<u8> {
     match ending {
         0 => message_line(profile, post, &Message::Accept { identifier }),
         1 => message_line(profile, post, &Message::Divert { identifier }),
         2 => format!("reject {post} {identifier}").into_bytes(),
-        _ => format!("cancel {identifier}").into_bytes(),
+        3 => format!("cancel {identifier}").into_bytes(),
+        _ => {
+            let cause = cause(dice);
+            message_line(profile, post, &Message::Reject { identifier, cause })
+        }
     }
 }

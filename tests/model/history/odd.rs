@@ -5,7 +5,7 @@ use crate::odd::with_byte;
 use crate::profile::sample;
 
 /// Lines at the edges of the numbers, good and one too far.
-const EDGES: [&str; 40] = [
+const EDGES: [&str; 51] = [
     "record 127 0 0 0 0 0",
     "record 256 1 1 1 0 0",
     "record 0 2 1 1 0 0",
@@ -33,6 +33,17 @@ const EDGES: [&str; 40] = [
     "second 0 256",
     "second 0",
     "second 0 0 0",
+    "cause 31 0",
+    "cause 32 0",
+    "cause 0 31",
+    "cause 0 255",
+    "cause 0 256",
+    "cause 0",
+    "cause 0 0 0",
+    "setup 1 0 2 0 5 4294967295",
+    "setup 1 0 2 0 5 4294967296",
+    "setup 1 0 2 0",
+    "setup 1 0 2 0 5 0 0",
     "out 0",
     "out 300",
     "out 301",

@@ -1,11 +1,11 @@
 //! Scenes of a history: the desk is brought to the edge of a share, and then a call of two posts
 //! is asked. The lines are drawn ahead, on the places as they will be.
 
-use super::calls::set_up_line;
+use super::calls::{set_up_cause, set_up_line};
 use super::cast::Cast;
-use super::damage::{place_line, second_line};
+use super::damage::{cause_line, place_line, second_line};
 use super::lent::record_line;
-use super::moves::end_line;
+use super::moves::{end_line, ENDINGS};
 use super::{profiles, Source};
 use crate::dice::Dice;
 use crate::places::{
@@ -50,6 +50,8 @@ struct Asked {
     identifier: u32,
     first: u32,
     second: u32,
+    /// None where no line gives one, which is a cause of 0.
+    cause: Option<u32>,
     caller: Identity,
     called: Identity,
 }
@@ -72,6 +74,9 @@ impl Scene<'_> {
         if self.dice.one_in(8) {
             self.lines.push_back(b"out 299".to_vec());
             self.end(0, asked.first, &asked);
+            let ending = 1 + self.dice.below(ENDINGS - 1);
+            let post = self.dice.pick(&[asked.first, asked.second]);
+            self.end(ending, post, &asked);
             self.lines.push_back(b"out 300".to_vec());
         }
         if self.dice.one_in(5) {
@@ -117,6 +122,7 @@ impl Scene<'_> {
             identifier: self.new_identifier(),
             first,
             second,
+            cause: set_up_cause(self.dice),
             caller: self.cast.identity(self.dice),
             called: self.cast.identity(self.dice),
         };
@@ -124,11 +130,14 @@ impl Scene<'_> {
         if self.by_set_up {
             self.mark(0, asked.caller, first);
             self.mark(1, asked.called, second);
-            self.set_up(&asked);
+            self.set_up(&asked, asked.cause);
         } else {
             self.lines
                 .push_back(place_line(asked.place, asked.identifier, first));
             self.lines.push_back(second_line(asked.place, second));
+            if let Some(cause) = asked.cause {
+                self.lines.push_back(cause_line(asked.place, cause));
+            }
         }
         self.wait_at(&asked, first, Some(second));
         asked
@@ -199,6 +208,7 @@ impl Scene<'_> {
                 identifier,
                 post,
                 second: None,
+                cause: 0,
             });
         }
     }
@@ -258,14 +268,23 @@ impl Scene<'_> {
         self.lines.push_back(record_line(1, &record));
     }
 
-    fn set_up(&mut self, asked: &Asked) {
-        self.lines
-            .push_back(set_up_line(asked.caller, asked.called, asked.identifier));
+    fn set_up(&mut self, asked: &Asked, cause: Option<u32>) {
+        self.lines.push_back(set_up_line(
+            asked.caller,
+            asked.called,
+            asked.identifier,
+            cause,
+        ));
     }
 
     fn end(&mut self, ending: usize, post: u32, asked: &Asked) {
-        self.lines
-            .push_back(end_line(self.profile, ending, post, asked.identifier));
+        self.lines.push_back(end_line(
+            self.dice,
+            self.profile,
+            ending,
+            post,
+            asked.identifier,
+        ));
     }
 
     fn wait_at(&mut self, asked: &Asked, post: u32, second: Option<u32>) {
@@ -273,6 +292,7 @@ impl Scene<'_> {
             identifier: asked.identifier,
             post,
             second,
+            cause: asked.cause.unwrap_or(0),
         });
     }
 
@@ -281,7 +301,7 @@ impl Scene<'_> {
     fn after_move(&mut self, asked: &Asked) {
         self.wait_at(asked, asked.second, None);
         if self.dice.one_in(2) {
-            let ending = self.dice.pick(&[0, 0, 0, 1, 2]);
+            let ending = self.dice.pick(&[0, 0, 0, 1, 2, 4]);
             self.end(ending, asked.first, asked);
         }
         let mut post = asked.second;
@@ -296,12 +316,13 @@ impl Scene<'_> {
         if self.dice.one_in(3) {
             self.lines.push_back(b"dump".to_vec());
         }
-        let ending = self.dice.below(6);
-        if ending < 4 {
+        let ending = self.dice.below(7);
+        if ending < ENDINGS {
             self.end(ending, post, asked);
-            // Its place and its identifier are used again.
+            // Its place and its identifier are used again, mostly with another cause.
             if self.dice.one_in(2) {
-                self.set_up(asked);
+                let cause = set_up_cause(self.dice);
+                self.set_up(asked, cause);
             }
         }
     }
@@ -311,7 +332,7 @@ impl Scene<'_> {
         match self.dice.below(5) {
             0 => self.end(0, asked.first, asked),
             1 => {
-                let ending = 1 + self.dice.below(3);
+                let ending = 1 + self.dice.below(ENDINGS - 1);
                 self.end(ending, asked.first, asked);
             }
             2 => self.lines.push_back(b"dump".to_vec()),

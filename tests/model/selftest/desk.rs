@@ -67,22 +67,22 @@ fn places(report: &mut Report) -> io::Result<()> {
         (
             "case 11: post 0 holds 28",
             put(0, 28, 0),
-            "31 refused 18\n32 admitted 1 28 254000\n33 admitted 1 29 254000\n",
+            "31 refused 18\n32 admitted 1 28 254000 25600080\n33 admitted 1 29 254000 25600100\n",
         ),
         (
             "case 12: post 1 holds 8",
             put(0, 8, 1),
-            "11 admitted 0 8 254000\n12 refused 17\n13 refused 18\n",
+            "11 admitted 0 8 254000 25600080\n12 refused 17\n13 refused 18\n",
         ),
         (
             "post 0 holds 27, one short of what is owed",
             put(0, 27, 0),
-            "30 admitted 0 27 254000\n31 refused 17\n32 admitted 1 28 254000\n",
+            "30 admitted 0 27 254000 25600080\n31 refused 17\n32 admitted 1 28 254000 25600100\n",
         ),
         (
             "the lowest free place is taken",
             put(0, 3, 0) + "unplace 1\n",
-            "7 admitted 0 1 254000\n8 refused 17\n9 admitted 1 3 254000\n",
+            "7 admitted 0 1 254000 25600080\n8 refused 17\n9 admitted 1 3 254000 25600100\n",
         ),
     ];
     for (what, put, answers) in rows {
@@ -142,6 +142,32 @@ fn damaged_desks(report: &mut Report) -> io::Result<()> {
         (
             "second post of a call put anew",
             "place 0 5 0\nsecond 0 2\nplace 0 5 0\n".to_string(),
+            false,
+        ),
+        (
+            "cause over 5 bits",
+            "place 0 5 0\ncause 0 32\n".to_string(),
+            true,
+        ),
+        (
+            "a cause of the line's largest",
+            "place 31 5 0\ncause 31 255\n".to_string(),
+            true,
+        ),
+        (
+            "largest cause",
+            "place 0 5 0\ncause 0 31\n".to_string(),
+            false,
+        ),
+        ("cause of a free place", "cause 0 32\n".to_string(), false),
+        (
+            "cause of a place freed again",
+            "place 0 5 0\ncause 0 32\nunplace 0\n".to_string(),
+            false,
+        ),
+        (
+            "cause of a call put anew",
+            "place 0 5 0\ncause 0 32\nplace 0 5 0\n".to_string(),
             false,
         ),
         ("33 held and owed", put(0, 29, 0), true),

@@ -19,7 +19,7 @@ const SAMPLE: &[u8] = b"090000000102\
     02021E0408000000000000000000000000";
 
 /// Where the fields of some rows' values lie, each with the bytes that have to stand there.
-const FIELDS: [(usize, usize, &[u8]); 19] = [
+const FIELDS: [(usize, usize, &[u8]); 32] = [
     (4, 0, b"02"),
     (4, 1, b"03"),
     (4, 2, b"02FFFFFFFFFFFF"),
@@ -39,6 +39,19 @@ const FIELDS: [(usize, usize, &[u8]); 19] = [
     (13, 123, b"01000001000000"),
     (16, 118, b"003FFF0000"),
     (18, 221, b"00000000000000"),
+    (18, 228, b"00000000000000000000000000"),
+    (40, 0, b"0B00"),
+    (40, 2, b"010003E9000000"),
+    (40, 9, b"020003EC000005"),
+    (40, 118, b"0200050100"),
+    (40, 228, b"01010101010100000501020102"),
+    (41, 118, b"0000050000"),
+    (41, 228, b"00000000000100000000000003"),
+    (42, 228, b"010101010101FFFFFF0F0F0303"),
+    (44, 121, b"00"),
+    (44, 228, b"00010101010100000000000000"),
+    (47, 118, b"0200050000"),
+    (49, 118, b"0200000100010003E9000000"),
 ];
 
 pub fn check(report: &mut Report) -> io::Result<()> {
@@ -87,7 +100,7 @@ fn fields_of_values(report: &mut Report) -> io::Result<()> {
     for (row, place, hex) in FIELDS {
         let expected = read_hex(hex).unwrap_or_default();
         let bytes = value_bytes(&rows[row - 1].value);
-        good &= bytes.len() == 228 && bytes[place..place + expected.len()] == expected[..];
+        good &= bytes.len() == 241 && bytes[place..place + expected.len()] == expected[..];
     }
     report.check("value: fields of the table's rows at their bytes", good)
 }
@@ -103,9 +116,9 @@ fn values_to_and_from(report: &mut Report) -> io::Result<()> {
 
         let (mut message, mut bits) = ([0xAA; 256], 0);
         good &= cad_write(&profile, &bytes, &mut message, &mut bits) == 0;
-        let mut again = [0x55; 230];
+        let mut again = [0x55; 243];
         good &= cad_read(&profile, &message, bits, &mut again) == 0;
-        good &= again[..228] == bytes[..] && again[228..] == [0x55; 2];
+        good &= again[..241] == bytes[..] && again[241..] == [0x55; 2];
     }
     let what = format!("{RANDOM_VALUES} random values and profiles through their bytes");
     report.check(&what, good)
@@ -119,6 +132,11 @@ fn orders(report: &mut Report) -> io::Result<()> {
     flagged[107] = 2;
     let mut optioned = accepted.clone();
     optioned[121] = 2;
+    let no_flags = (228..234).all(|place| {
+        let mut marked = accepted.clone();
+        marked[place] = 2;
+        read_value(&marked).is_none()
+    });
     let longer = [&accepted[..], &[0]].concat();
 
     let read = |profile: &[u8], bits| cad_read(profile, &[0x25, 0xA0], bits, &mut []);
@@ -132,20 +150,22 @@ fn orders(report: &mut Report) -> io::Result<()> {
     let good = write(&[], &flagged) == 1
         && write(&profile, &flagged) == 22
         && write(&profile, &optioned) == 22
-        && write(&profile, &accepted[..227]) == 22
+        && write(&profile, &accepted[..240]) == 22
+        && write(&profile, &accepted[..228]) == 22
         && write(&profile, &longer) == 22
         && write(&profile, &accepted) == 14;
-    report.check("cad_write: 1, then 22, then 14", good)
+    report.check("cad_write: 1, then 22, then 14", good)?;
+    report.check("value: a mark of REQUEST is 0 or 1", no_flags)
 }
 
 fn areas(report: &mut Report) -> io::Result<()> {
     let profile = profile_bytes(&sample());
-    let mut short = [0x55; 227];
+    let mut short = [0x55; 240];
     let mut good = cad_read(&profile, &[0x25, 0xA0], 11, &mut short) == 14;
-    good &= short == [0x55; 227];
-    let mut long = [0x55; 228];
+    good &= short == [0x55; 240];
+    let mut long = [0x55; 241];
     good &= cad_read(&profile, &[0x25, 0xA0], 12, &mut long) == 13;
-    good &= long == [0x55; 228];
+    good &= long == [0x55; 241];
     report.check("cad_read: a refusal leaves the value area", good)?;
 
     let accepted = value_bytes(&rows()[14].value);

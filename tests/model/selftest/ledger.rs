@@ -4,6 +4,7 @@
 
 use super::Report;
 use crate::desk::{Answer, Desk, Lent};
+use crate::hex::hex_of;
 use crate::history::Source;
 use crate::message::{read, Message};
 use crate::places::{Call, Places, ALL_FREE};
@@ -19,7 +20,7 @@ const LINES_OF_HISTORY: usize = 20_000;
 /// So many of each at least, or the laws say little.
 const FEWEST: usize = 100;
 
-struct Ledger {
+pub(super) struct Ledger {
     places: Places,
     held: [u32; 256],
 }
@@ -32,7 +33,7 @@ struct Laws {
     reserve_open: bool,
     own_open: bool,
     end_and_admission: bool,
-    nothing_written: bool,
+    request_written: bool,
     moves: usize,
     by_ceiling: usize,
     by_owed: usize,
@@ -61,7 +62,10 @@ pub fn check(report: &mut Report) -> io::Result<()> {
             "a move is answered as an end and an admission are",
             laws.end_and_admission,
         ),
-        ("a move writes no byte", laws.nothing_written),
+        (
+            "a move writes REQUEST, with the call's cause, and no byte more",
+            laws.request_written,
+        ),
     ] {
         report.check(&format!("{all}: {law}"), good)?;
     }
@@ -83,11 +87,12 @@ fn accept_of(profile: &Profile, line: &Line) -> Option<(u32, u32)> {
     }
 }
 
-/// What an ACCEPT has to be answered; the posts are second posts.
+/// What an ACCEPT has to be answered; the posts are second posts, and a move has the call as it
+/// was.
 enum Accept {
     Refused(u32),
     Refused18(u32),
-    Moved(u32),
+    Moved(u32, Call),
     Proceed,
 }
 
@@ -96,11 +101,17 @@ impl Accept {
         match self {
             Accept::Refused(number) => format!("refused {number}"),
             Accept::Refused18(_) => "refused 18".to_string(),
-            Accept::Moved(post) => format!("moved {post}"),
+            Accept::Moved(post, call) => format!("moved {post} {}", request_hex(profile, call)),
             // ACCEPTED: the SS type, type 13, and five spare bits.
             Accept::Proceed => format!("proceed {:04X}", profile.ss_type << 10 | 13 << 5),
         }
     }
+}
+
+/// REQUEST without options, 31 bits: SS type 6, type 5, identifier 14, cause 5, an O-bit of 0.
+pub(super) fn request_hex(profile: &Profile, call: &Call) -> String {
+    let bits = profile.ss_type << 26 | 11 << 21 | call.identifier << 7 | call.cause << 2;
+    format!("{bits:08X}")
 }
 
 /// No post over its ceiling, and all held plus all owed at most 32: each post counts for its
@@ -117,6 +128,13 @@ fn fit(profile: &Profile, held: &[u32; 256]) -> bool {
 }
 
 impl Ledger {
+    pub(super) fn new() -> Self {
+        Ledger {
+            places: ALL_FREE,
+            held: [0; 256],
+        }
+    }
+
     fn take_out(&mut self, place: usize) {
         if let Some(call) = self.places[place].take() {
             self.held[call.post as usize] -= 1;
@@ -129,7 +147,7 @@ impl Ledger {
         self.held[call.post as usize] += 1;
     }
 
-    fn waiting(&self, identifier: u32) -> Option<(usize, Call)> {
+    pub(super) fn waiting(&self, identifier: u32) -> Option<(usize, Call)> {
         for place in 0..PLACES as usize {
             match self.places[place] {
                 Some(call) if call.identifier == identifier => return Some((place, call)),
@@ -139,7 +157,7 @@ impl Ledger {
         None
     }
 
-    fn is_sound(&self, profile: &Profile) -> bool {
+    pub(super) fn is_sound(&self, profile: &Profile) -> bool {
         let posts = profile.posts.len() as u32;
         for (place, call) in self.places.iter().enumerate() {
             if let Some(call) = call {
@@ -147,6 +165,7 @@ impl Ledger {
                 if call.identifier > 16_383
                     || call.post >= posts
                     || call.second.unwrap_or(0) >= posts
+                    || call.cause > 31
                     || first != place
                 {
                     return false;
@@ -178,7 +197,7 @@ impl Ledger {
                     held[post as usize] -= 1;
                     held[second as usize] += 1;
                     if fit(profile, &held) {
-                        Accept::Moved(second)
+                        Accept::Moved(second, call)
                     } else {
                         Accept::Refused18(second)
                     }
@@ -187,7 +206,13 @@ impl Ledger {
         }
     }
 
-    fn note(&mut self, profile: &Profile, records: &[Record], line: &Line, answer: &str) {
+    pub(super) fn note(
+        &mut self,
+        profile: &Profile,
+        records: &[Record],
+        line: &Line,
+        answer: &str,
+    ) {
         let words: Vec<&str> = answer.split(' ').collect();
         let number = |word: usize| words[word].parse::<u32>().expect("a number");
         match line {
@@ -202,10 +227,16 @@ impl Ledger {
                     call.second = Some(*post);
                 }
             }
+            Line::Cause { place, cause } => {
+                if let Some(call) = &mut self.places[*place] {
+                    call.cause = *cause;
+                }
+            }
             Line::SetUp {
                 caller,
                 called,
                 identifier,
+                cause,
             } if words[0] == "admitted" => {
                 let call = Call {
                     identifier: *identifier,
@@ -214,6 +245,7 @@ impl Ledger {
                         (Some(callers), Some(calleds)) if callers != calleds => Some(calleds),
                         _ => None,
                     },
+                    cause: *cause,
                 };
                 self.put(number(2) as usize, call);
             }
@@ -222,18 +254,20 @@ impl Ledger {
             }
             Line::Post { bits, bytes, .. } => match read(profile, bytes, *bits) {
                 Ok(Message::Accept { identifier }) if words[0] == "moved" => {
-                    if let Some((place, _)) = self.waiting(identifier) {
-                        let call = Call {
-                            identifier,
+                    if let Some((place, call)) = self.waiting(identifier) {
+                        let moved = Call {
                             post: number(1),
                             second: None,
+                            ..call
                         };
-                        self.put(place, call);
+                        self.put(place, moved);
                     }
                 }
-                Ok(Message::Accept { identifier } | Message::Divert { identifier }) => {
-                    self.end(identifier, words[0]);
-                }
+                Ok(
+                    Message::Accept { identifier }
+                    | Message::Divert { identifier }
+                    | Message::Reject { identifier, .. },
+                ) => self.end(identifier, words[0]),
                 _ => {}
             },
             _ => {}
@@ -272,7 +306,7 @@ impl Laws {
             reserve_open: true,
             own_open: true,
             end_and_admission: true,
-            nothing_written: true,
+            request_written: true,
             moves: 0,
             by_ceiling: 0,
             by_owed: 0,
@@ -282,10 +316,7 @@ impl Laws {
     fn follow(&mut self, seed: u64) {
         let mut source = Source::new(seed);
         let mut replay = Replay::new();
-        let mut ledger = Ledger {
-            places: ALL_FREE,
-            held: [0; 256],
-        };
+        let mut ledger = Ledger::new();
         for _ in 0..LINES_OF_HISTORY {
             let line = source.next_line();
             let before = replay.desk.clone();
@@ -299,7 +330,7 @@ impl Laws {
                 let long_enough = replay.output_bytes >= 300;
                 let wanted = ledger.accept(&before.profile, post, identifier, long_enough);
                 self.accepts_counted &= answer == wanted.words(&before.profile);
-                if let Accept::Moved(second) | Accept::Refused18(second) = wanted {
+                if let Accept::Moved(second, _) | Accept::Refused18(second) = wanted {
                     self.judge(&ledger, &before, post, second, &answer);
                     self.try_on_copies(&before, post, identifier, second, &answer);
                 }
@@ -344,12 +375,15 @@ impl Laws {
         let asked = before
             .clone()
             .message(lent, post, &bytes_of(&accept), accept.len());
-        let same = match asked {
-            Ok(Answer::Moved { post }) => answer == format!("moved {post}"),
-            Ok(_) => false,
-            Err(refusal) => answer == format!("refused {refusal}"),
+        let (same, written) = match asked {
+            Ok(Answer::Moved { post, bits: 31 }) => {
+                let hex = hex_of(&output[..4]);
+                (answer == format!("moved {post} {hex}"), 4)
+            }
+            Ok(_) => (false, 0),
+            Err(refusal) => (answer == format!("refused {refusal}"), 0),
         };
-        self.nothing_written &= same && output == [0xAA; 300];
+        self.request_written &= same && output[written..].iter().all(|byte| *byte == 0xAA);
 
         let mut copy = before.clone();
         let user = Record {
@@ -359,15 +393,20 @@ impl Laws {
             ..Record::default()
         };
         let party = |ssi| Identity { ssi, extension: 0 };
-        let ended = copy.cancel(identifier);
+        let lent = Lent {
+            records: &mut [],
+            output: &mut output,
+        };
+        let ended = copy.cancel(lent, identifier);
         let lent = Lent {
             records: &mut [user],
             output: &mut output,
         };
-        let admitted = copy.set_up(lent, party(0), party(1), identifier);
-        self.end_and_admission &= ended == Ok(Answer::Cancelled)
+        let admitted = copy.set_up(lent, party(0), party(1), identifier, 0);
+        let moved = answer.starts_with("moved");
+        self.end_and_admission &= ended == Ok(Answer::Cancelled { post, bits: 25 })
             && match admitted {
-                Ok(Answer::Admitted { post, .. }) => answer == format!("moved {post}"),
+                Ok(Answer::Admitted { post, .. }) => moved && post == second,
                 Ok(_) => false,
                 Err(refusal) => answer == format!("refused {refusal}"),
             };

@@ -20,15 +20,15 @@ setup 1004 0 1001 0 5
 dump
 ",
         "\
-4 admitted 0 1 254000
+4 admitted 0 1 254000 25600280
 5 dump 0:9:0 1:5:0>1 | 0:1001:0:0:1 1:1004:0:1:1
 6 refused 20
-7 moved 1
+7 moved 1 25600280
 8 dump 0:9:0 1:5:1 | 0:1001:0:0:1 1:1004:0:1:1
 9 refused 20
 10 proceed 25A0
 11 refused 19
-12 admitted 1 1 254000
+12 admitted 1 1 254000 25600280
 13 dump 0:9:0 1:5:1>0 | 0:1001:0:0:1 1:1004:0:1:1
 ",
     ),
@@ -52,13 +52,13 @@ post 0 25 25800080
 post 1 25 25800280
 ",
         "\
-5 admitted 0 0 254000
-6 admitted 0 1 254000
-7 admitted 0 2 254000
-8 admitted 0 3 254000
-9 admitted 1 4 254000
-10 admitted 1 5 254000
-12 admitted 1 6 254000
+5 admitted 0 0 254000 25600080
+6 admitted 0 1 254000 25600100
+7 admitted 0 2 254000 25600180
+8 admitted 0 3 254000 25600200
+9 admitted 1 4 254000 25600280
+10 admitted 1 5 254000 25600300
+12 admitted 1 6 254000 25600380
 13 dump 0:1:0 1:2:0 2:3:0 3:4:0 4:5:1 5:6:1>0 6:7:1>0 | \
 0:1001:0:0:1 1:1002:0:0:1 2:1004:0:1:0 3:1005:0:1:1 4:1001:0:1:1
 14 proceed 25A0
@@ -113,8 +113,8 @@ dump
 24 refused 18
 25 refused 18
 26 dump 0:100:1 1:101:1 2:102:1 3:103:1 4:104:1 5:105:1 6:106:1 7:107:1 8:5:0>1 |
-27 cancelled
-28 moved 1
+27 cancelled 1 25C03200
+28 moved 1 25600280
 29 refused 20
 30 proceed 25A0
 31 dump 1:101:1 2:102:1 3:103:1 4:104:1 5:105:1 6:106:1 7:107:1 |
@@ -154,16 +154,16 @@ dump
 13 refused 20
 14 diverted 260000
 15 refused 20
-16 rejected
-17 cancelled
-18 moved 1
-19 moved 1
-20 moved 1
+16 rejected 264000
+17 cancelled 0 25C00180
+18 moved 1 25600200
+19 moved 1 25600280
+20 moved 1 25600300
 21 refused 20
 22 diverted 260000
 23 refused 20
-24 rejected
-25 cancelled
+24 rejected 264000
+25 cancelled 1 25C00300
 26 dump |
 ",
     ),
@@ -189,14 +189,14 @@ setup 1001 0 1004 0 4
 dump
 ",
         "\
-3 admitted 0 0 254000
-5 admitted 0 1 254000
-6 admitted 0 2 254000
-7 admitted 0 3 254000
+3 admitted 0 0 254000 25600200
+5 admitted 0 1 254000 25600080
+6 admitted 0 2 254000 25600100
+7 admitted 0 3 254000 25600180
 8 proceed 25A0
-10 moved 1
-12 moved 1
-15 moved 1
+10 moved 1 25600080
+12 moved 1 25600100
+15 moved 1 25600180
 16 refused 15
 17 dump 1:1:1 2:2:1 3:3:1 | 1:1004:0:2:1
 ",
@@ -223,7 +223,7 @@ dump
         "\
 10 dump 0:100:1 1:101:1 2:102:1 3:103:1>1 4:104:1 5:105:1 6:106:1 7:107:1 |
 11 refused 20
-12 moved 1
+12 moved 1 25603380
 13 dump 0:100:1 1:101:1 2:102:1 3:103:1 4:104:1 5:105:1 6:106:1 7:107:1 |
 14 proceed 25A0
 15 dump 0:100:1 1:101:1 2:102:1 4:104:1 5:105:1 6:106:1 7:107:1 |
@@ -250,11 +250,11 @@ post 0 25 25800300
 dump
 ",
         "\
-4 admitted 0 0 254000
+4 admitted 0 0 254000 25600280
 6 dump 0:5:0 1:6:0 | 0:1001:0:0:1
 9 dump 0:5:0>1 1:6:0>1 | 0:1001:0:0:1
 12 dump 1:6:0 | 0:1001:0:0:1
-13 admitted 0 0 254000
+13 admitted 0 0 254000 25600280
 14 proceed 25A0
 15 proceed 25A0
 16 dump | 0:1001:0:0:1
@@ -278,10 +278,10 @@ dump
 ",
         "\
 3 refused 1
-6 moved 1
+6 moved 1 25600280
 8 dump 4:5:1>0 |
 9 refused 20
-10 moved 0
+10 moved 0 25600280
 11 proceed 25A0
 12 dump |
 ",

@@ -12,27 +12,41 @@ pub fn check(report: &mut Report) -> io::Result<()> {
         check_script(report, what, script, answers)?;
     }
     shares(report)?;
-    no_byte(report)
+    output_area(report)
 }
 
 /// Under the sample profile (g = 2 and 4, c = 30 and 8) the call in place 31 is accepted by its
 /// first post, beside so many calls more at post 0 and at post 1.
 fn shares(report: &mut Report) -> io::Result<()> {
     let rows = [
-        ("one below the ceiling", 0, 7, 0, 1, "moved 1"),
+        ("one below the ceiling", 0, 7, 0, 1, "moved 1 25600280"),
         ("at the ceiling", 0, 8, 0, 1, "refused 18"),
         ("free 4, owed 4", 28, 0, 1, 0, "refused 18"),
-        ("free 5, owed 4", 27, 0, 1, 0, "moved 0"),
+        ("free 5, owed 4", 27, 0, 1, 0, "moved 0 25600280"),
         ("only its own place free, owed 1", 28, 3, 1, 0, "refused 18"),
-        ("only its own place free, owed 0", 27, 4, 1, 0, "moved 0"),
-        ("from a post at its ceiling", 24, 7, 1, 0, "moved 0"),
+        (
+            "only its own place free, owed 0",
+            27,
+            4,
+            1,
+            0,
+            "moved 0 25600280",
+        ),
+        (
+            "from a post at its ceiling",
+            24,
+            7,
+            1,
+            0,
+            "moved 0 25600280",
+        ),
         (
             "none free but owed to the second post",
             27,
             0,
             0,
             1,
-            "moved 1",
+            "moved 1 25600280",
         ),
         (
             "none free but the last one owed to it",
@@ -40,7 +54,7 @@ fn shares(report: &mut Report) -> io::Result<()> {
             3,
             0,
             1,
-            "moved 1",
+            "moved 1 25600280",
         ),
         (
             "no other place free, at its reserved number",
@@ -48,10 +62,24 @@ fn shares(report: &mut Report) -> io::Result<()> {
             4,
             0,
             1,
-            "moved 1",
+            "moved 1 25600280",
         ),
-        ("to its own post, no other free", 28, 3, 1, 1, "moved 1"),
-        ("to its own post at the ceiling", 24, 7, 1, 1, "moved 1"),
+        (
+            "to its own post, no other free",
+            28,
+            3,
+            1,
+            1,
+            "moved 1 25600280",
+        ),
+        (
+            "to its own post at the ceiling",
+            24,
+            7,
+            1,
+            1,
+            "moved 1 25600280",
+        ),
     ];
     for (what, at_0, at_1, first, second, answer) in rows {
         let script = format!(
@@ -65,14 +93,15 @@ fn shares(report: &mut Report) -> io::Result<()> {
     Ok(())
 }
 
-/// A move writes nothing; the ACCEPT after it writes ACCEPTED and no byte more.
-fn no_byte(report: &mut Report) -> io::Result<()> {
+/// A move writes REQUEST, the ACCEPT after it ACCEPTED, and neither a byte more.
+fn output_area(report: &mut Report) -> io::Result<()> {
     let accept = [0x25, 0x80, 0x02, 0x80];
     let mut desk = Desk::open(sample()).expect("the sample profile keeps the rules");
     desk.places[7] = Some(Call {
         identifier: 5,
         post: 0,
         second: Some(1),
+        cause: 31,
     });
     let mut output = [0xAA_u8; 300];
     let ask = |desk: &mut Desk, post: u32, output: &mut [u8]| {
@@ -89,12 +118,16 @@ fn no_byte(report: &mut Report) -> io::Result<()> {
         identifier: 5,
         post: 1,
         second: None,
+        cause: 31,
     });
+    // 25600280 is REQUEST for call 5 with cause 0; 31 fills the five bits from bit 25 on.
+    let written = output[..4] == [0x25, 0x60, 0x02, 0xFC] && output[4..] == [0xAA; 296];
     report.check(
-        "desk: a move writes no byte and changes its own place alone",
-        moved == Ok(Answer::Moved { post: 1 }) && output == [0xAA; 300] && desk.places == places,
+        "desk: a move writes REQUEST, no byte more, and changes its own place alone",
+        moved == Ok(Answer::Moved { post: 1, bits: 31 }) && written && desk.places == places,
     )?;
 
+    output.fill(0xAA);
     let proceed = ask(&mut desk, 1, &mut output);
     let written = output[..2] == [0x25, 0xA0] && output[2..] == [0xAA; 298];
     report.check(

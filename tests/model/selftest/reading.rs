@@ -27,7 +27,7 @@ pub fn check(report: &mut Report) -> io::Result<()> {
 
 fn worked_cases(report: &mut Report) -> io::Result<()> {
     let profile = sample();
-    for case in worked::cases() {
+    for case in worked::cases().into_iter().chain(worked::request_cases()) {
         let bytes = read_hex(case.hex.as_bytes()).unwrap_or_default();
         let mut good = read(&profile, &bytes, case.length) == case.expected;
         if let Ok(message) = &case.expected {
@@ -36,7 +36,7 @@ fn worked_cases(report: &mut Report) -> io::Result<()> {
         }
         let what = format!(
             "case {}: {}, {} bits: {:?}",
-            case.number, case.hex, case.length, case.expected
+            case.name, case.hex, case.length, case.expected
         );
         report.check(&what, good)?;
     }

@@ -1,6 +1,6 @@
 //! Single script lines: of another shape, and at the edges of the shape.
 
-pub const OTHER_SHAPES: [&str; 66] = [
+pub const OTHER_SHAPES: [&str; 75] = [
     "",
     " ",
     "dump ",
@@ -26,7 +26,10 @@ pub const OTHER_SHAPES: [&str; 66] = [
     "post 0 00000000011 25A0",
     "post A 11 25A0",
     "setup 1 2 3 4",
-    "setup 1 2 3 4 5 6",
+    "setup 1 2 3 4 5 6 7",
+    "setup 1 2 3 4 5 ",
+    "setup 1 2 3 4 5  6",
+    "setup 1 2 3 4 5 4294967296",
     "setup 1 2 3 4 4294967296",
     "reject 0",
     "reject 0 1 2",
@@ -52,6 +55,12 @@ pub const OTHER_SHAPES: [&str; 66] = [
     "second 0  0",
     "second -1 0",
     "Second 0 0",
+    "cause",
+    "cause 0",
+    "cause 32 0",
+    "cause 0 256",
+    "cause 0 0 0",
+    "cause 0 -1",
     "record 256 1 1 1 0 0",
     "record 0 2 1 1 0 0",
     "record 0 1 1 1 256 0",
@@ -70,11 +79,16 @@ pub const OTHER_SHAPES: [&str; 66] = [
 ];
 
 /// Numbers at their largest, leading zeros within ten digits, no hex, as many posts as there are.
-pub const EDGES: [&str; 18] = [
+pub const EDGES: [&str; 23] = [
     "dump",
     "post 4294967295 4294967295",
     "post 0000000000 0000000011 25A0",
     "setup 4294967295 4294967295 4294967295 4294967295 4294967295",
+    "setup 1 2 3 4 5 6",
+    "setup 4294967295 4294967295 4294967295 4294967295 4294967295 4294967295",
+    "setup 0 0 0 0 0 0000000031",
+    "cause 31 255",
+    "cause 0000000000 0000000000",
     "reject 4294967295 4294967295",
     "cancel 0000000005",
     "out 0",

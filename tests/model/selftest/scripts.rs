@@ -125,8 +125,8 @@ setup 11 0 10 0 9
 22 refused 17
 23 free
 24 refused 18
-25 cancelled
-26 admitted 1 7 254000
+25 cancelled 1 25C00400
+26 admitted 1 7 254000 25600480
 ",
     ),
     (
@@ -140,39 +140,51 @@ setup 12 0 10 0 3
 dump
 ",
         "\
-3 admitted 1 0 254000
-4 admitted 0 1 254000
-5 admitted 1 2 254000
+3 admitted 1 0 254000 25600080
+4 admitted 0 1 254000 25600100
+5 admitted 1 2 254000 25600180
 6 dump 0:1:1>0 1:2:0>1 2:3:1 | 0:10:0:1:1 1:11:0:0:1
 ",
     ),
     (
-        "reject: 2, 16, 19, 20; cancel: 16, 19",
+        "reject: 2, 16, 14, 19, 20; cancel: 16, 14, 19",
         "\
+out 299
 reject 2 16384
 reject 0 16384
+reject 0 5
+cancel 16384
+cancel 5
+place 3 5 1
+reject 0 5
+cancel 5
+out 300
+unplace 3
 reject 0 5
 place 3 5 1
 reject 0 5
 reject 1 5
 reject 1 5
-cancel 16384
 cancel 5
 place 3 5 1
 cancel 5
 dump
 ",
         "\
-1 refused 2
-2 refused 16
-3 refused 19
-5 refused 20
-6 rejected
-7 refused 19
-8 refused 16
-9 refused 19
-11 cancelled
-12 dump |
+2 refused 2
+3 refused 16
+4 refused 14
+5 refused 16
+6 refused 14
+8 refused 14
+9 refused 14
+12 refused 19
+14 refused 20
+15 rejected 264000
+16 refused 19
+17 refused 19
+19 cancelled 1 25C00280
+20 dump |
 ",
     ),
     (
@@ -227,7 +239,7 @@ setup 1001 0 1001 77 1
 2 state no-record
 3 state active
 4 free
-5 admitted 0 0 254000
+5 admitted 0 0 254000 25600080
 ",
     ),
     (
@@ -318,13 +330,13 @@ out 300
 setup 10 0 1 0 5
 ",
         "\
-2 admitted 0 0 254000
+2 admitted 0 0 254000 25600280
 4 refused 1
 5 dump 0:5:0 | 0:10:0:0:1
 7 dump | 0:10:0:0:1
 8 refused 2
 9 refused 14
-11 admitted 0 0 FD4000
+11 admitted 0 0 FD4000 FD600280
 ",
     ),
     (
@@ -340,12 +352,12 @@ setup 10 0 1 0 7
 dump
 ",
         "\
-2 admitted 0 0 254000
-3 admitted 0 1 254000
+2 admitted 0 0 254000 25600280
+3 admitted 0 1 254000 25600300
 4 refused 17
 5 proceed 25A0
-6 admitted 0 0 254000
-7 admitted 0 2 254000
+6 admitted 0 0 254000 25600280
+7 admitted 0 2 254000 25600380
 8 dump 0:5:0 1:6:0 2:7:0 | 0:10:0:0:1
 ",
     ),

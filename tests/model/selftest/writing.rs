@@ -32,6 +32,22 @@ const PAPER: [(usize, u32, usize, &[u8]); 8] = [
     (1, 8, 68, b"245E8001F4A0007D80"),
 ];
 
+/// Row of the table, and the bit length and bytes that were worked out for request (iv). All of
+/// row 42's bits but header and spare ones are ones, except the second of each kind's two.
+const REQUESTS: [(usize, usize, &[u8]); 11] = [
+    (38, 31, b"25600280"),
+    (39, 31, b"25600288"),
+    (40, 150, b"2560028B4000FA70001F6000002C00001632B8"),
+    (41, 40, b"2560028207"),
+    (42, 174, b"257FFFFFBFFFFFFFFFFFF7FFFFFFFFFFFFFFFFFFFFFC"),
+    (45, 25, b"25C00280"),
+    (46, 25, b"25DFFF80"),
+    (47, 30, b"26200288"),
+    (48, 17, b"264200"),
+    (49, 44, b"2642D0003E90"),
+    (50, 150, b"2560028B4000FA70001F6000002C00001632B8"),
+];
+
 pub fn check(report: &mut Report) -> io::Result<()> {
     rows_of_the_paper(report)?;
     rows_refused(report)?;
@@ -41,24 +57,31 @@ pub fn check(report: &mut Report) -> io::Result<()> {
 }
 
 fn rows_of_the_paper(report: &mut Report) -> io::Result<()> {
-    let rows = rows();
     for (row, case, length, hex) in PAPER {
-        let bytes = read_hex(hex).unwrap_or_default();
-        let mut area = [0xAA; 48];
-        let written = write(&sample(), &rows[row - 1].value, &mut area);
-        let rest_stays = area[bytes.len()..].iter().all(|byte| *byte == 0xAA);
-        let good = written == Ok(length) && area[..bytes.len()] == bytes[..] && rest_stays;
         let what = format!("row {row}: the bytes of case {case}, {length} bits");
-        report.check(&what, good)?;
+        report.check(&what, written_so(row, length, hex))?;
+    }
+    for (row, length, hex) in REQUESTS {
+        let what = format!("row {row}: the bytes of request (iv), {length} bits");
+        report.check(&what, written_so(row, length, hex))?;
     }
     Ok(())
+}
+
+/// Whether the row's value is written as these bytes, and no byte more.
+fn written_so(row: usize, length: usize, hex: &[u8]) -> bool {
+    let bytes = read_hex(hex).unwrap_or_default();
+    let mut area = [0xAA; 48];
+    let written = write(&sample(), &rows()[row - 1].value, &mut area);
+    let rest_stays = area[bytes.len()..].iter().all(|byte| *byte == 0xAA);
+    written == Ok(length) && area[..bytes.len()] == bytes[..] && rest_stays
 }
 
 fn rows_refused(report: &mut Report) -> io::Result<()> {
     for (before, row) in rows().iter().enumerate() {
         let expected = match before + 1 {
-            20 | 22 | 23 => 14,
-            24..=37 => 22,
+            20 | 22 | 23 | 51 => 14,
+            24..=37 | 52..=64 => 22,
             _ => continue,
         };
         let mut area = vec![0xAA; row.area];
@@ -158,7 +181,7 @@ fn change(dice: &mut Dice, value: &mut Value) {
         0 => dice.below(3),
         _ => dice.below(15),
     }];
-    match dice.below(13) {
+    match dice.below(18) {
         0 => value.pdu = dice.number(5),
         1 => group.range = dice.pick(&[0, 1, 7, 15, 16, 255]),
         2 => address.kind = dice.pick(&[0, 1, 2, 3, 4, 255]),
@@ -171,7 +194,14 @@ fn change(dice: &mut Dice, value: &mut Value) {
         9 => value.reason = edge,
         10 => value.cause = edge,
         11 => value.identifier = edge,
-        _ => value.option = !value.option,
+        12 => value.option = !value.option,
+        13 => value.mni = edge,
+        14 => value.areas[dice.below(2)] = dice.pick(&[0, 1, 15, 16, 255]),
+        15 => value.services[dice.below(2)] = dice.pick(&[0, 1, 3, 4, 255]),
+        _ => {
+            let mark = &mut value.further[dice.below(6)];
+            *mark = !*mark;
+        }
     }
 }
 
@@ -179,14 +209,17 @@ fn change(dice: &mut Dice, value: &mut Value) {
 fn fits_every_rule(profile: &Profile, value: &Value) -> bool {
     let group_of_users = value.pdu == 2 || value.pdu == 3;
     let one_user = value.pdu == 8;
+    let request = value.pdu == 11;
     let group_of_dispatchers = value.pdu == 2 && value.option;
-    let with_cause = value.pdu == 10 || value.pdu == 16;
-    let one_dispatcher = with_cause && value.option;
+    let with_dispatcher = [10, 16, 18].contains(&value.pdu);
+    let with_cause = with_dispatcher || request || value.pdu == 17;
+    let one_dispatcher = with_dispatcher && value.option;
     let ack = value.pdu == 3;
-    let with_identifier = value.pdu == 12 || value.pdu == 15;
+    let with_identifier = [11, 12, 14, 15, 17].contains(&value.pdu);
 
-    [2, 3, 8, 10, 12, 13, 15, 16].contains(&value.pdu)
-        && group_rule(profile, &value.users, group_of_users, one_user)
+    (value.pdu == 2 || value.pdu == 3 || value.pdu == 8 || (10..=18).contains(&value.pdu))
+        && (request || group_rule(profile, &value.users, group_of_users, one_user))
+        && request_rule(value, request)
         && group_rule(
             profile,
             &value.dispatchers,
@@ -200,7 +233,33 @@ fn fits_every_rule(profile: &Profile, value: &Value) -> bool {
         && mask_rule(profile, value)
         && value.cause <= if with_cause { 31 } else { 0 }
         && value.identifier <= if with_identifier { 16_383 } else { 0 }
-        && (!value.option || value.pdu == 2 || with_cause)
+        && (!value.option || value.pdu == 2 || with_dispatcher || request)
+}
+
+/// The rule of REQUEST's options, which no other message has; its addresses stand among the users.
+fn request_rule(value: &Value, request: bool) -> bool {
+    let [called, mni, calling_area, called_area, calling_service, called_service] = value.further;
+    let fits = |there: bool, number: u32, most: u32| number <= if there { most } else { 0 };
+    let address = |there: bool, address: &Address| {
+        if there {
+            address_rule(address)
+        } else {
+            *address == Address::default()
+        }
+    };
+    let users = &value.users;
+    let addresses_good = users.range == 0
+        && address(value.option, &users.addresses[0])
+        && address(called, &users.addresses[1])
+        && users.addresses[2..].iter().all(|rest| address(false, rest));
+
+    (addresses_good || !request)
+        && (request || value.further == [false; 6])
+        && fits(mni, value.mni, 0xFF_FFFF)
+        && fits(calling_area, value.areas[0], 15)
+        && fits(called_area, value.areas[1], 15)
+        && fits(calling_service, value.services[0], 3)
+        && fits(called_service, value.services[1], 3)
 }
 
 /// The rule of a group that is there, of one address alone, or of nothing.
