@@ -1,7 +1,7 @@
 -- Each call's order, as document 01 lists it: its numbers, first to last, each with whether its ground holds. A number comes exactly
 -- when its ground holds and no earlier one of that call's order does (proofs/Exactly). Reading's own stand along the bits (`readingOrder`).
 use Prim.Native.Nat.{ℕ}
-use mathlib.Core.Bool.{Bool, true, false, not, cond, _||_}
+use mathlib.Core.Bool.{Bool, false, not, cond, _||_}
 use mathlib.Core.List.{List, [], _∷_, _++_}
 use lib.Dec.{eqb, ltb}
 use lib.ListN.{take}

@@ -7,8 +7,8 @@ use mathlib.Core.Bool.{Bool, true, false, not, cond}
 use mathlib.Core.List.{List, [], _∷_, _++_}
 use mathlib.Core.Logic.{_⊎_, inl, inr, ⊎-elim}
 use native.Mathlib.Omega.{arith}
-use lib.Dec.{eqb, ltb}
-use lib.ListN.{length, take}
+use lib.Dec.{eqb}
+use lib.ListN.{take}
 use borrow.Author.Tests.{eq-eqb, eqb-true, ne-eqb, ltb-true, lt-ltb}
 use Rattle.codec.specs.Codec.{both}
 use Rattle.codec.proofs.Good.{both-true, both-left, both-right, not-both}
@@ -27,9 +27,8 @@ use Rattle.records.specs.declared.Record.{Record}
 use Rattle.records.specs.declared.Sorted.{Sorted}
 use Rattle.sending.specs.Acks.{isThere, ackV, ackOf, acksOf}
 use Rattle.desk.specs.Desks.{deskWith}
-use Rattle.desk.specs.Grounds.{waits}
 use Rattle.desk.specs.Notices.{intercepted, requestWith, requestOf, cancelOf}
-use Rattle.desk.specs.Orders.{placesOf, answerOf}
+use Rattle.desk.specs.Orders.{placesOf}
 use Rattle.desk.specs.Outputs.{messagesFor, sentBy}
 use Rattle.desk.specs.Steps.{usersOf, spokenOf, acksFor, postOf, identifierOf}
 use Rattle.desk.specs.declared.Answer.{Answer}
@@ -44,7 +43,7 @@ use Rattle.history.specs.Radio as radio
 use Rattle.history.specs.Radio.{Entry, entryOf, logOf, Written, isRequestOf, requestsIn, Silent, AllSilent, Came, Asked, isWaitingSo, isWaitingAt}
 use Rattle.history.proofs.WaitingLaws.{hasSuch, without-count, some-such, waiting-same}
 use Rattle.history.proofs.RunLaws.{Along, along-open, along, spoken, afterwards-is, along-step, meant-same, moved-cause, first, step-profile}
-use Rattle.history.proofs.Sharing.{waiting, next, kept, waiting-is}
+use Rattle.history.proofs.Sharing.{waiting, next, kept}
 use Rattle.history.proofs.Moving.{count-none}
 use Rattle.history.proofs.AfterMoves.{fewer}
 

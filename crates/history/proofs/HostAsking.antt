@@ -6,7 +6,7 @@ use mathlib.Core.Bool.{true}
 use mathlib.Core.List as list
 use mathlib.Core.List.{List, [], _∷_}
 use Rattle.profile.specs.declared.Profile.{Profile}
-use Rattle.desk.specs.Desks.{deskWith, openOf}
+use Rattle.desk.specs.Desks.{openOf}
 use Rattle.desk.specs.Notices.{cancelOf}
 use Rattle.desk.specs.declared.Answer.the-variants as answer
 use Rattle.desk.specs.declared.Desk.{Desk}
@@ -17,7 +17,6 @@ use Rattle.history.specs.Hosts.{Made, Promised, AllPromised, deskLeft, c
 use Rattle.history.specs.Radio.{Entry, entryOf, logOf, Written, Asked, isWaitingSo, isWaitingAt}
 use Rattle.history.proofs.Asking.{waiting-asked, cancel-told}
 use Rattle.history.proofs.HostSharing.{waiting, opens, desk-is, waiting-is, left-is, told-is}
-use Rattle.history.proofs.Sharing as step
 
 -- what a host writes down of a call is what its step says
 heard : (d : Desk) (m : Made) → Promised d m → entryBy m ≡ entryOf d (callOf m)

@@ -3,7 +3,7 @@
 // `said` equals `saidOf` for every line. Of a line that comes in pieces the first 640 bytes are kept (`blocks`), more than a line of the
 // right shape has, and `said_kept` of these says what the whole line says, however long it is (proofs/KeepLaws).
 ghost use mathlib.Core.Path.{_≡_};
-ghost use Prim.Native.Nat.{_+_, _-_, _<_, _≤_, min};
+ghost use Prim.Native.Nat.{_+_, _-_, _<_, _≤_};
 ghost use lib.ListN.{length, take, drop};
 ghost use Rattle.profile.specs.Sample.{sample};
 ghost use Rattle.message.specs.Reading.{readOf};

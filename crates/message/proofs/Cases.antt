@@ -2,7 +2,7 @@
 -- before 6 and 7. Assumes nothing.
 use Prim.Native.Nat.{ℕ}
 use mathlib.Core.Path.{_≡_, refl}
-use mathlib.Core.Bool.{true, false}
+use mathlib.Core.Bool.{true}
 use mathlib.Core.List as list
 use mathlib.Core.List.{List, [], _∷_}
 use lib.ListN.{set}
@@ -14,7 +14,7 @@ use Rattle.profile.specs.Counting.{every, sum}
 use Rattle.profile.specs.Rules.{meaningOk, meaningIn, airOk, shareOk, shareIn, sharesOk, profileOk}
 use Rattle.profile.specs.Sample.{sample, sampleMeanings, sampleShare}
 use Rattle.message.specs.Elements as element
-use Rattle.message.specs.Addresses.{nobody, kindC, extensionC, addressC}
+use Rattle.message.specs.Addresses.{kindC, extensionC, addressC}
 use Rattle.message.specs.Groups.{addressesIn, allowedIn, nobodies, placesC, rangeOk, endsOk, addressesC, rangeC, groupC, noGroup, oneGroup, spanIn, spanOf}
 use Rattle.message.specs.Acks.{maskC, maskedC, resultC}
 use Rattle.message.specs.Numbers as place

@@ -6,7 +6,7 @@ use mathlib.Core.Bool.{Bool, true, false, not, cond}
 use mathlib.Core.List.{List, [], _∷_}
 use lib.Dec.{eqb}
 use borrow.Author.Tests.{eqb-true}
-use Rattle.codec.specs.Codec.{Codec, number, pure, seq}
+use Rattle.codec.specs.Codec.{number, pure, seq}
 use Rattle.codec.specs.Options.{Optional, optional}
 use Rattle.codec.proofs.Good.{Good, both-left, both-right}
 use Rattle.codec.proofs.Combinators.{good-number, good-pure, good-guard, good-seq, good-map, good-iso}

@@ -9,21 +9,18 @@ use mathlib.Core.Path.{_≡_, refl, sym, ap, _∙_}
 use mathlib.Core.Bool.{Bool, true, false, cond}
 use mathlib.Core.List.{List, [], _∷_, _++_}
 use mathlib.Core.Logic.{_⊎_, inl, inr, ⊎-elim}
-use native.Mathlib.Nat.{zero-add}
 use native.Mathlib.Omega.{arith}
 use lib.Dec.{eqb, leb, ltb}
-use lib.ListN.{length, getD, take, drop, set, length-append, length-take, length-drop, length-replicate}
-use lib.Seq.{sets, sets-eq, take-at, take-all, length-take-le}
+use lib.ListN.{length, getD, take, drop, set, length-drop}
+use lib.Seq.{take-all, length-take-le}
 use borrow.Author.Tests.{ne-eqb, lt-leb, ltb-true}
 use Rattle.bits.proofs.SetLaws.{lt-or}
 use Rattle.lines.specs.Shape.{isDigit, hexOf, noHex, hexAt}
 use Rattle.lines.proofs.ShapeLaws.{hex-long}
-use Rattle.script.specs.Shape.{startsWith, noNumber, numberIf, digitsThen, numberAt, noRow, noNumbers, numbersFrom, numbersAt}
+use Rattle.script.specs.Shape.{noNumber, numberIf, digitsThen, numberAt, noRow, noNumbers, numbersFrom, numbersAt}
 use Rattle.script.specs.Profiles.{pairsIn}
-use Rattle.script.specs.Lines.{when, recordTask, setUpTask, rejectTask, cancelTask, outTask, placeTask, unplaceTask, secondTask, causeTask, plainLine, messageLine, postLine, profileLine, taskOf, lineOf}
+use Rattle.script.specs.Lines.{when, recordTask, setUpTask, rejectTask, cancelTask, outTask, placeTask, unplaceTask, secondTask, causeTask, plainLine, postLine, profileLine, taskOf, lineOf}
 use Rattle.blocks.specs.Texts.{noText, textOf, keepOf}
-use Rattle.script.specs.declared.Line.{Line}
-use Rattle.script.specs.declared.Task.{Task}
 use Rattle.script.specs.declared.Task.the-variants as task
 use Rattle.script.specs.declared.shape.Number.{Number}
 use Rattle.script.specs.declared.shape.Numbers.{Numbers}

@@ -6,7 +6,6 @@ use lib.Dec.{eqb, leb}
 use lib.ListN.{length, getD}
 use Rattle.profile.specs.Rules.{noProfile}
 use Rattle.places.specs.Held.{noPlace}
-use Rattle.desk.specs.declared.Event.{Event}
 use Rattle.desk.specs.declared.Event.the-variants as event
 use Rattle.lines.specs.Shape.{noBytes, hexAt}
 use Rattle.script.specs.Shape.{startsWith, numbersAt}

@@ -4,7 +4,6 @@
 // is what the whole line asks for, however long it is (proofs/KeepLaws). The files: shape (keyword, numbers), tasks (the lines that
 // are numbers alone), profiles (the profile of a `profile` line).
 ghost use mathlib.Core.Path.{_≡_};
-ghost use Rattle.script.specs.Shape.{numbersAt};
 ghost use lib.ListN.{take};
 ghost use Rattle.script.specs.Lines.{plainLine, messageLine, postLine, profileLine, taskOf, lineOf};
 use blocks::Text;
