@@ -82,7 +82,7 @@ read-worked l n want i r e = e ∙ ap readingOf (agree read.gives read.wants (re
 
 -- what a step and the area afterwards show of a case
 abbrev pub shown : Stepped → List ℕ → desk.Outcome
-shown s m = (s .answer, (take (s .laid .count) (s .laid .lengths), (s .desk, (s .marks .at, m))))
+shown s m = (s .answer, (take (s .laid .count) (s .laid .lengths), (s .desk, (s .marks, m))))
 
 -- and so does `desk::step`
 pub step-worked : (c : desk.Case) → In c desk.cases → (s : Stepped) (m : List ℕ)

@@ -13,4 +13,4 @@ pub decides-send : Decides send.ended (λ M. send.spec)
 decides-send = record { says = send.Reads.Learnt; is = refl; one = λ κs a x y v w. same-both (λ l. (_, (_, (_, (l, _))))) }
 
 pub decides-send-acks : Decides send-acks.ended (λ M. send-acks.spec)
-decides-send-acks = record { says = send-acks.Reads.Learnt; is = refl; one = λ κs a x y v w. same-both (λ l. (_, (_, (_, (l, _))))) }
+decides-send-acks = record { says = send-acks.Reads.Learnt; is = refl; one = λ κs a x y v w. same-both (λ l. (_, (_, (_, (_, (l, _)))))) }

@@ -14,7 +14,6 @@ use Rattle.codec.proofs.Good.{both-true, both-left, both-right}
 use Rattle.profile.specs.Rules.{profileOk}
 use Rattle.message.specs.Values.{identifierIn}
 use Rattle.message.specs.Reading.{readOf, isReading}
-use Rattle.message.specs.declared.Group.{Group}
 use Rattle.message.specs.declared.Value.{Value}
 use Rattle.message.proofs.StopLaws.{read-known}
 use Rattle.places.specs.Held.{placeIn, admitsOf}
@@ -25,26 +24,27 @@ use Rattle.records.specs.declared.Party.{Party}
 use Rattle.records.specs.declared.Record.{Record}
 use Rattle.desk.specs.Desks.{deskOk}
 use Rattle.desk.specs.Grounds.{waits, waitsHere}
-use Rattle.desk.specs.Orders.{unless, postsOf, placesOf, namesDispatchers, activateAnswer, interrogateAnswer, endAnswer, moveAnswer, acceptAnswer, decideAnswer, sentAnswer, readAnswer, messageAnswer, identifierOk, setUpOk, admitAnswer, partyAnswer, setUpAnswer, rejectAnswer, postAt, cancelAnswer, eventAnswer, answerOf}
+use Rattle.desk.specs.Orders.{unless, postsOf, placesOf, namesDispatchers, markingAnswer, interrogateAnswer, endAnswer, moveAnswer, acceptAnswer, decideAnswer, sentAnswer, readAnswer, messageAnswer, identifierOk, setUpOk, admitAnswer, partyAnswer, setUpAnswer, rejectAnswer, postAt, cancelAnswer, eventAnswer, answerOf}
 use Rattle.desk.specs.Steps.{Spoken, plainStep, acksStep, stepBy, stepOf}
+use Rattle.desk.specs.declared.marking.Asked.{Asked}
 use Rattle.desk.specs.declared.Answer.{Answer}
 use Rattle.desk.specs.declared.Answer.the-variants as answer
 use Rattle.desk.specs.declared.Desk.{Desk}
 use Rattle.desk.specs.declared.Event.{Event}
 use Rattle.desk.specs.declared.Event.the-variants as event
 
-by-answer : (d : Desk) (rows : List Record) (post : ℕ) (users : Group) (spoken : Spoken) (a : Answer) → stepBy d rows post users spoken a .answer ≡ a
+by-answer : (d : Desk) (rows : List Record) (post : ℕ) (asked : Asked) (spoken : Spoken) (a : Answer) → stepBy d rows post asked spoken a .answer ≡ a
 unfolding stepBy plainStep acksStep
-by-answer d rows post users spoken (answer.Refused s) = refl
-by-answer d rows post users spoken answer.Acks = refl
-by-answer d rows post users spoken (answer.State k) = refl
-by-answer d rows post users spoken answer.Free = refl
-by-answer d rows post users spoken (answer.Admitted p i) = refl
-by-answer d rows post users spoken answer.Proceed = refl
-by-answer d rows post users spoken answer.Diverted = refl
-by-answer d rows post users spoken answer.Rejected = refl
-by-answer d rows post users spoken (answer.Cancelled p) = refl
-by-answer d rows post users spoken (answer.Moved p) = refl
+by-answer d rows post asked spoken (answer.Refused s) = refl
+by-answer d rows post asked spoken answer.Acks = refl
+by-answer d rows post asked spoken (answer.State k) = refl
+by-answer d rows post asked spoken answer.Free = refl
+by-answer d rows post asked spoken (answer.Admitted p i) = refl
+by-answer d rows post asked spoken answer.Proceed = refl
+by-answer d rows post asked spoken answer.Diverted = refl
+by-answer d rows post asked spoken answer.Rejected = refl
+by-answer d rows post asked spoken (answer.Cancelled p) = refl
+by-answer d rows post asked spoken (answer.Moved p) = refl
 
 -- the answer of the step is the one that the order gives
 pub step-answer : (d : Desk) (rows : List Record) (n : ℕ) (l area : List ℕ) (e : Event) → stepOf d rows n l area e .answer ≡ answerOf d rows n l (length area) e
@@ -53,9 +53,13 @@ step-answer d rows n l area e = by-answer d (take n rows) _ _ _ (answerOf d rows
 
 -- ---- a message that was read, by its type
 
+-- it is a request to change marks
+abbrev pub Marking : Value → Type 0
+Marking v = v .pdu ≡ 2
+
 module _ (d : Desk) (rows : List Record) (n room post : ℕ) (v : Value) (P : Answer → Type 0) where
   -- what holds of each type's answer holds of the answer
-  pub by-type : (v .pdu ≡ 2 → P (activateAnswer d rows n room v))
+  pub by-type : ((given : Bool) → Marking v → P (markingAnswer d rows n room given))
       → P (interrogateAnswer d rows n post v)
       → P (decideAnswer d room post (identifierIn v) (acceptAnswer d (placeOf (placesOf d) (identifierIn v) .place)))
       → P (decideAnswer d room post (identifierIn v) answer.Diverted)
@@ -63,8 +67,8 @@ module _ (d : Desk) (rows : List Record) (n room post : ℕ) (v : Value) (P : An
       → P (answer.Refused (refusal 8))
       → P (sentAnswer d rows n room post v)
   unfolding sentAnswer
-  by-type activate interrogate accept divert reject other =
-      arm 2 activate (arm 8 (λ _. interrogate) (arm 12 (λ _. accept) (arm 15 (λ _. divert) (arm 17 reject other))))
+  by-type marking interrogate accept divert reject other =
+      arm 2 (marking (namesDispatchers (d .profile .air) v)) (arm 8 (λ _. interrogate) (arm 12 (λ _. accept) (arm 15 (λ _. divert) (arm 17 reject other))))
     where
       arm : (t : ℕ) {x y : Answer} → (v .pdu ≡ t → P x) → P y → P (cond (eqb (v .pdu) t) x y)
       arm t {x} {y} p q = go (eqb (v .pdu) t) refl
@@ -147,12 +151,12 @@ module _ (ok : Answer → Bool) (refused : (s : Stop) → pastOne (s .number) �
     module _ (rows : List Record) (n : ℕ) (acks : ok answer.Acks ≡ true) (state : (k : ℕ) → ok (answer.State k) ≡ true) (proceed : ok answer.Proceed ≡ true)
         (diverted : ok answer.Diverted ≡ true) (rejected : ok answer.Rejected ≡ true) (moved : (post : ℕ) → ok (answer.Moved post) ≡ true) (passes : profileOk (d .profile) ≡ true) where
       sent-ok : (room post : ℕ) (v : Value) → ok (sentAnswer d rows n room post v) ≡ true
-      unfolding activateAnswer interrogateAnswer pastOne both refusal
+      unfolding markingAnswer interrogateAnswer pastOne both refusal
       sent-ok room post v =
           by-type d rows n room post v (λ a. ok a ≡ true)
-          (λ _.
+          (λ given _.
           unless-ok (ltb room 300) 14 _ refl
-          (unless-ok (not (recordsOk rows n (postsOf d))) 15 _ refl (unless-ok (namesDispatchers (d .profile .air) v) 21 answer.Acks refl acks)))
+          (unless-ok (not (recordsOk rows n (postsOf d))) 15 _ refl (unless-ok given 21 answer.Acks refl acks)))
           (unless-ok (not (recordsOk rows n (postsOf d))) 15 _ refl (state _))
           (decide-ok room post (identifierIn v) _ (accept-ok _ proceed moved))
           (decide-ok room post (identifierIn v) answer.Diverted diverted)

@@ -31,12 +31,13 @@ use Rattle.places.specs.declared.Place.{Place}
 use Rattle.records.specs.Identities.{identityOf, later, identityIn, identityAt, countOf, each, identitiesOf}
 use Rattle.records.specs.Records.{noRecord, rowOf, is, recordFrom, recordOf, recordOk, allOk, recordsOk, stateOf, restricts, partyOf, restrictedOf, isRestricted, postFor, secondOf}
 use Rattle.records.specs.Outcomes.{outcomeOf, outcomesOf, has, maskOf, someOf, sortedOf}
-use Rattle.records.specs.Marking.{acceptedOf, unmarked, noMarks, withMark, markAll, marksOf}
+use Rattle.records.specs.Marking.{acceptedOf, unmarked, nobodyMarked, noMarks, withMark, markAll, marksOf}
+use Rattle.records.specs.declared.Marks.{Marks}
 use Rattle.records.specs.declared.Record.{Record}
 use Rattle.sending.specs.Sending.{layFrom, layAll, noLaid, laidFrom, laidOf}
 use Rattle.sending.specs.Acks.{resultOf, reasonOf, severalIn, ackV, ackOf, acksOf}
 use Rattle.desk.specs.Desks.{deskOk}
-use Rattle.desk.specs.Orders.{namesDispatchers, activateAnswer, endAnswer, moveAnswer, acceptAnswer, decideAnswer, sentAnswer, messageAnswer, partyOk, setUpOk, admitAnswer, setUpAnswer, rejectAnswer, cancelAnswer, answerOf}
+use Rattle.desk.specs.Orders.{namesDispatchers, markingAnswer, endAnswer, moveAnswer, acceptAnswer, decideAnswer, sentAnswer, messageAnswer, partyOk, setUpOk, admitAnswer, setUpAnswer, rejectAnswer, cancelAnswer, answerOf}
 use Rattle.desk.specs.Steps.{deskAfter, plainStep, plainArea, acksFor, acksStep, acksArea, stepBy, areaBy, stepOf, areaAfter}
 use Rattle.desk.specs.declared.Answer.{Answer}
 use Rattle.desk.specs.declared.Answer.the-variants as answer
@@ -104,19 +105,23 @@ request-5 = 0x25 ∷ 0x60 ∷ 0x02 ∷ 0x80 ∷ []
 abbrev pub request-5-2 : List ℕ
 request-5-2 = 0x25 ∷ 0x60 ∷ 0x02 ∷ 0x88 ∷ []
 
--- the marks of the first records, and none beyond
-abbrev pub marked : List Bool → List Bool
-marked ms = ms ++ replicate (128 - length ms) false
+-- of the first records these are marked, and none beyond; and what the mark becomes
+abbrev pub marked : Bool → List Bool → Marks
+marked to ms = record { at = ms ++ replicate (128 - length ms) false; mark = to }
+
+-- none
+abbrev pub noneMarked : Marks
+noneMarked = marked false []
 
 -- ---- the cases
 
 -- a call on a desk with these records and this message, then what it must be answered, the messages' bit lengths, the desk afterwards,
 -- the marks of all records, and the output area
 pub data Case : Type 0 where
-  on : Desk → List Record → List ℕ → Event → Answer → List ℕ → Desk → List Bool → List ℕ → Case
+  on : Desk → List Record → List ℕ → Event → Answer → List ℕ → Desk → Marks → List ℕ → Case
 
 abbrev pub Outcome : Type 0
-Outcome = Answer × (List ℕ × (Desk × (List Bool × List ℕ)))
+Outcome = Answer × (List ℕ × (Desk × (Marks × List ℕ)))
 
 -- the step of a case, and the area after it
 abbrev pub stepFor : Case → Stepped
@@ -126,7 +131,7 @@ abbrev pub areaFor : Case → List ℕ
 areaFor (on d r l e a lengths after marks area) = areaAfter d (rows r) (length r) l (untouched 300) e
 
 abbrev pub gives : Case → Outcome
-gives c = (stepFor c .answer, (take (stepFor c .laid .count) (stepFor c .laid .lengths), (stepFor c .desk, (stepFor c .marks .at, areaFor c))))
+gives c = (stepFor c .answer, (take (stepFor c .laid .count) (stepFor c .laid .lengths), (stepFor c .desk, (stepFor c .marks, areaFor c))))
 
 abbrev pub wants : Case → Outcome
 wants (on d r l e a lengths after marks area) = (a, (lengths, (after, (marks, area))))
@@ -136,37 +141,37 @@ cases =
     -- 9: case 8 from post 0; 1,001 and 1,002 at post 0, 1,003 without record, 1,004 at post 1
     on (desk []) (user 1001 0 false ∷ user 1002 0 false ∷ user 1004 1 false ∷ [])
     (0x24 ∷ 0x5E ∷ 0x80 ∷ 0x01 ∷ 0xF4 ∷ 0xA0 ∷ 0x00 ∷ 0x7D ∷ 0x80 ∷ []) (event.Message 0 68)
-    answer.Acks (73 ∷ 80 ∷ 80 ∷ []) (desk []) (marked (true ∷ true ∷ []))
+    answer.Acks (73 ∷ 80 ∷ 80 ∷ []) (desk []) (marked true (true ∷ true ∷ []))
     ((0x24 ∷ 0x7E ∷ 0x80 ∷ 0x01 ∷ 0xF4 ∷ 0xA0 ∷ 0x00 ∷ 0x7D ∷ 0x9C ∷ 0x80 ∷ []) ++ untouched 90
     ++ (0x24 ∷ 0x7E ∷ 0x80 ∷ 0x01 ∷ 0xF4 ∷ 0xA0 ∷ 0x00 ∷ 0x7D ∷ 0x92 ∷ 0x01 ∷ []) ++ untouched 90
     ++ (0x24 ∷ 0x7E ∷ 0x80 ∷ 0x01 ∷ 0xF4 ∷ 0xA0 ∷ 0x00 ∷ 0x7D ∷ 0x91 ∷ 0x02 ∷ []) ++ untouched 90)
     -- 11: post 0 holds 28, post 1 none: a call for post 0 gets 18, one for post 1 is admitted
-    ∷ on (desk (calls 28 0 0)) restricted [] (setUp 1001 2000) (answer.Refused (refusal 18)) [] (desk (calls 28 0 0)) (marked []) (untouched 300)
-    ∷ on (desk (calls 28 0 0)) restricted [] (setUp 1004 2000) (answer.Admitted 1 28) (17 ∷ 31 ∷ []) (desk (calls 28 0 0 ++ calls 1 1 100)) (marked []) (intercepted ++ untouched 97 ++ request-100 ++ untouched 196)
+    ∷ on (desk (calls 28 0 0)) restricted [] (setUp 1001 2000) (answer.Refused (refusal 18)) [] (desk (calls 28 0 0)) noneMarked (untouched 300)
+    ∷ on (desk (calls 28 0 0)) restricted [] (setUp 1004 2000) (answer.Admitted 1 28) (17 ∷ 31 ∷ []) (desk (calls 28 0 0 ++ calls 1 1 100)) noneMarked (intercepted ++ untouched 97 ++ request-100 ++ untouched 196)
     -- 12: post 1 holds 8, post 0 none: 18 for post 1, by its ceiling
-    ∷ on (desk (calls 8 1 0)) restricted [] (setUp 1004 2000) (answer.Refused (refusal 18)) [] (desk (calls 8 1 0)) (marked []) (untouched 300)
+    ∷ on (desk (calls 8 1 0)) restricted [] (setUp 1004 2000) (answer.Refused (refusal 18)) [] (desk (calls 8 1 0)) noneMarked (untouched 300)
     -- document 02, (iii) and (iv): both are restricted, at different posts; post 0's ACCEPT moves the call, with REQUEST, its second gets 20,
     -- post 1's lets it proceed
-    ∷ on (desk []) restricted [] (setUp-5 2) (answer.Admitted 0 0) (17 ∷ 31 ∷ []) (desk (then-5 0 1 2 ∷ [])) (marked []) (intercepted ++ untouched 97 ++ request-5-2 ++ untouched 196)
-    ∷ on (desk (then-5 0 1 2 ∷ [])) [] accept-5 (event.Message 0 25) (answer.Moved 1) (31 ∷ []) (desk (at-5 1 2 ∷ [])) (marked []) (request-5-2 ++ untouched 296)
-    ∷ on (desk (at-5 1 2 ∷ [])) [] accept-5 (event.Message 0 25) (answer.Refused (refusal 20)) [] (desk (at-5 1 2 ∷ [])) (marked []) (untouched 300)
-    ∷ on (desk (at-5 1 2 ∷ [])) [] accept-5 (event.Message 1 25) answer.Proceed (11 ∷ []) (desk []) (marked []) ((0x25 ∷ 0xA0 ∷ []) ++ untouched 298)
+    ∷ on (desk []) restricted [] (setUp-5 2) (answer.Admitted 0 0) (17 ∷ 31 ∷ []) (desk (then-5 0 1 2 ∷ [])) noneMarked (intercepted ++ untouched 97 ++ request-5-2 ++ untouched 196)
+    ∷ on (desk (then-5 0 1 2 ∷ [])) [] accept-5 (event.Message 0 25) (answer.Moved 1) (31 ∷ []) (desk (at-5 1 2 ∷ [])) noneMarked (request-5-2 ++ untouched 296)
+    ∷ on (desk (at-5 1 2 ∷ [])) [] accept-5 (event.Message 0 25) (answer.Refused (refusal 20)) [] (desk (at-5 1 2 ∷ [])) noneMarked (untouched 300)
+    ∷ on (desk (at-5 1 2 ∷ [])) [] accept-5 (event.Message 1 25) answer.Proceed (11 ∷ []) (desk []) noneMarked ((0x25 ∷ 0xA0 ∷ []) ++ untouched 298)
     -- a second post that is the call's own, as only a lent desk has it: its ACCEPT moves
-    ∷ on (desk (then-5 1 1 0 ∷ [])) [] accept-5 (event.Message 1 25) (answer.Moved 1) (31 ∷ []) (desk (at-5 1 0 ∷ [])) (marked []) (request-5 ++ untouched 296)
+    ∷ on (desk (then-5 1 1 0 ∷ [])) [] accept-5 (event.Message 1 25) (answer.Moved 1) (31 ∷ []) (desk (at-5 1 0 ∷ [])) noneMarked (request-5 ++ untouched 296)
     -- 18 at a move, by the second post's ceiling: the call stays, and nothing is written
-    ∷ on (desk (then-5 0 1 2 ∷ calls 8 1 100)) [] accept-5 (event.Message 0 25) (answer.Refused (refusal 18)) [] (desk (then-5 0 1 2 ∷ calls 8 1 100)) (marked []) (untouched 300)
+    ∷ on (desk (then-5 0 1 2 ∷ calls 8 1 100)) [] accept-5 (event.Message 0 25) (answer.Refused (refusal 18)) [] (desk (then-5 0 1 2 ∷ calls 8 1 100)) noneMarked (untouched 300)
     -- REJECT with cause 2, and a reject, of a call whose own cause is 7; a cancel names the post
-    ∷ on (desk (at-5 1 7 ∷ [])) [] reject-5 (event.Message 1 30) answer.Rejected (17 ∷ []) (desk []) (marked []) ((0x26 ∷ 0x42 ∷ 0x00 ∷ []) ++ untouched 297)
-    ∷ on (desk (at-5 1 7 ∷ [])) [] [] (event.Reject 1 5) answer.Rejected (17 ∷ []) (desk []) (marked []) ((0x26 ∷ 0x40 ∷ 0x00 ∷ []) ++ untouched 297)
-    ∷ on (desk (at-5 1 7 ∷ [])) [] [] (event.Cancel 5) (answer.Cancelled 1) (25 ∷ []) (desk []) (marked []) ((0x25 ∷ 0xC0 ∷ 0x02 ∷ 0x80 ∷ []) ++ untouched 296)
+    ∷ on (desk (at-5 1 7 ∷ [])) [] reject-5 (event.Message 1 30) answer.Rejected (17 ∷ []) (desk []) noneMarked ((0x26 ∷ 0x42 ∷ 0x00 ∷ []) ++ untouched 297)
+    ∷ on (desk (at-5 1 7 ∷ [])) [] [] (event.Reject 1 5) answer.Rejected (17 ∷ []) (desk []) noneMarked ((0x26 ∷ 0x40 ∷ 0x00 ∷ []) ++ untouched 297)
+    ∷ on (desk (at-5 1 7 ∷ [])) [] [] (event.Cancel 5) (answer.Cancelled 1) (25 ∷ []) (desk []) noneMarked ((0x25 ∷ 0xC0 ∷ 0x02 ∷ 0x80 ∷ []) ++ untouched 296)
     -- 8: REQUEST, CANCEL and REJECTED from a post; 16: a cause of 6 bits; 1: a waiting call that has one
-    ∷ on (desk []) [] request-5 (event.Message 0 31) (answer.Refused (refusal 8)) [] (desk []) (marked []) (untouched 300)
-    ∷ on (desk []) [] (0x25 ∷ 0xC0 ∷ 0x02 ∷ 0x80 ∷ []) (event.Message 0 25) (answer.Refused (refusal 8)) [] (desk []) (marked []) (untouched 300)
-    ∷ on (desk []) [] (0x26 ∷ 0x40 ∷ 0x00 ∷ []) (event.Message 0 17) (answer.Refused (refusal 8)) [] (desk []) (marked []) (untouched 300)
-    ∷ on (desk []) restricted [] (setUp-5 32) (answer.Refused (refusal 16)) [] (desk []) (marked []) (untouched 300)
-    ∷ on (desk (at-5 1 32 ∷ [])) [] [] (event.Cancel 5) (answer.Refused (refusal 1)) [] (desk (at-5 1 32 ∷ [])) (marked []) (untouched 300)
+    ∷ on (desk []) [] request-5 (event.Message 0 31) (answer.Refused (refusal 8)) [] (desk []) noneMarked (untouched 300)
+    ∷ on (desk []) [] (0x25 ∷ 0xC0 ∷ 0x02 ∷ 0x80 ∷ []) (event.Message 0 25) (answer.Refused (refusal 8)) [] (desk []) noneMarked (untouched 300)
+    ∷ on (desk []) [] (0x26 ∷ 0x40 ∷ 0x00 ∷ []) (event.Message 0 17) (answer.Refused (refusal 8)) [] (desk []) noneMarked (untouched 300)
+    ∷ on (desk []) restricted [] (setUp-5 32) (answer.Refused (refusal 16)) [] (desk []) noneMarked (untouched 300)
+    ∷ on (desk (at-5 1 32 ∷ [])) [] [] (event.Cancel 5) (answer.Refused (refusal 1)) [] (desk (at-5 1 32 ∷ [])) noneMarked (untouched 300)
     ∷ []
 
 pub cases-right : list.map gives cases ≡ list.map wants cases
-unfolding bitAt fieldAt withDigit binary setBit putBits spare both number vecRead flag every sum meaningOk meaningIn airOk shareOk shareIn sharesOk profileOk sample sampleMeanings sampleShare kindC extensionC addressC addressesIn allowedIn nobodies placesC rangeOk endsOk addressesC rangeC groupC noGroup oneGroup spanIn spanOf maskC maskedC resultC elements elementOf widths widthOf blank ackV table rowIn row.rowOf partsC puts gets eachC optionsC putOptions getOptions firstParts bodyC isKnown isCarried headerC messageC wholeOf lengthOk readBits readOf bitsOf padded layOf placeIn noPlaces waitsAt heldOf usedOf freeOf owedOf owedAll owedOthers loadOf admitsOf secondOk callOk apart aloneAt underCeiling placesOk lowestFrom hasCall placeOf lowestFree takeOf clearOf moveOf identityOf later identityIn identityAt countOf each identitiesOf rowOf is recordFrom recordOf recordOk allOk recordsOk stateOf restricts partyOf restrictedOf isRestricted postFor secondOf outcomeOf outcomesOf has maskOf someOf sortedOf acceptedOf unmarked noMarks withMark markAll marksOf layFrom layAll noLaid laidFrom laidOf resultOf reasonOf severalIn ackOf acksOf deskOk namesDispatchers activateAnswer endAnswer moveAnswer acceptAnswer decideAnswer sentAnswer messageAnswer partyOk setUpOk admitAnswer setUpAnswer rejectAnswer cancelAnswer answerOf deskAfter plainStep plainArea acksFor acksStep acksArea stepBy areaBy stepOf areaAfter
+unfolding bitAt fieldAt withDigit binary setBit putBits spare both number vecRead flag every sum meaningOk meaningIn airOk shareOk shareIn sharesOk profileOk sample sampleMeanings sampleShare kindC extensionC addressC addressesIn allowedIn nobodies placesC rangeOk endsOk addressesC rangeC groupC noGroup oneGroup spanIn spanOf maskC maskedC resultC elements elementOf widths widthOf blank ackV table rowIn row.rowOf partsC puts gets eachC optionsC putOptions getOptions firstParts bodyC isKnown isCarried headerC messageC wholeOf lengthOk readBits readOf bitsOf padded layOf placeIn noPlaces waitsAt heldOf usedOf freeOf owedOf owedAll owedOthers loadOf admitsOf secondOk callOk apart aloneAt underCeiling placesOk lowestFrom hasCall placeOf lowestFree takeOf clearOf moveOf identityOf later identityIn identityAt countOf each identitiesOf rowOf is recordFrom recordOf recordOk allOk recordsOk stateOf restricts partyOf restrictedOf isRestricted postFor secondOf outcomeOf outcomesOf has maskOf someOf sortedOf acceptedOf unmarked nobodyMarked noMarks withMark markAll marksOf layFrom layAll noLaid laidFrom laidOf resultOf reasonOf severalIn ackOf acksOf deskOk namesDispatchers markingAnswer endAnswer moveAnswer acceptAnswer decideAnswer sentAnswer messageAnswer partyOk setUpOk admitAnswer setUpAnswer rejectAnswer cancelAnswer answerOf deskAfter plainStep plainArea acksFor acksStep acksArea stepBy areaBy stepOf areaAfter
 cases-right = refl

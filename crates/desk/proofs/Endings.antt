@@ -14,7 +14,7 @@ use Rattle.records.specs.Records.{recordsOk}
 use Rattle.records.specs.declared.Record.{Record}
 use Rattle.desk.specs.Desks.{deskOk}
 use Rattle.desk.specs.Grounds.{waits}
-use Rattle.desk.specs.Orders.{unless, postsOf, namesDispatchers, activateAnswer, interrogateAnswer, endAnswer, decideAnswer, sentAnswer, readAnswer, messageAnswer, identifierOk, rejectAnswer, cancelAnswer, eventAnswer, answerOf}
+use Rattle.desk.specs.Orders.{unless, postsOf, markingAnswer, interrogateAnswer, endAnswer, decideAnswer, sentAnswer, readAnswer, messageAnswer, identifierOk, rejectAnswer, cancelAnswer, eventAnswer, answerOf}
 use Rattle.desk.specs.Steps.{valueBy, identifierOf, stepOf}
 use Rattle.desk.specs.declared.Answer.{Answer}
 use Rattle.desk.specs.declared.Answer.the-variants as answer
@@ -62,11 +62,10 @@ module _ (d : Desk) where
 
   module _ (rows : List Record) (n room post : ℕ) where
     sent-not : (v : Value) → waits d (identifierIn v) ≡ false → isEnding (sentAnswer d rows n room post v) ≡ false
-    unfolding activateAnswer interrogateAnswer
+    unfolding markingAnswer interrogateAnswer
     sent-not v w =
         by-type d rows n room post v (λ a. isEnding a ≡ false)
-        (λ _.
-        unless-not (ltb room 300) 14 _ (unless-not (not (recordsOk rows n (postsOf d))) 15 _ (unless-not (namesDispatchers (d .profile .air) v) 21 answer.Acks refl)))
+        (λ given _. unless-not (ltb room 300) 14 _ (unless-not (not (recordsOk rows n (postsOf d))) 15 _ (unless-not given 21 answer.Acks refl)))
         (unless-not (not (recordsOk rows n (postsOf d))) 15 _ refl)
         (decide-not room post (identifierIn v) _ w)
         (decide-not room post (identifierIn v) answer.Diverted w)

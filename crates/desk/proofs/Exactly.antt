@@ -32,7 +32,7 @@ use Rattle.validity.specs.Validity.{validOf}
 use Rattle.desk.specs.Desks.{deskOk}
 use Rattle.desk.specs.Grounds.{notSent, waits, waitsHere, noPlaceFor, noPlaceThere, typeOrder, messageOrder, setUpOrder, rejectOrder, cancelOrder, orderOf}
 use Rattle.desk.specs.Numbers.{numberOf}
-use Rattle.desk.specs.Orders.{unless, postsOf, placesOf, namesDispatchers, activateAnswer, interrogateAnswer, endAnswer, moveAnswer, acceptAnswer, decideAnswer, sentAnswer, readAnswer, messageAnswer, identifierOk, setUpOk, admitAnswer, partyAnswer, setUpAnswer, rejectAnswer, postAt, cancelAnswer, answerOf}
+use Rattle.desk.specs.Orders.{unless, postsOf, placesOf, namesDispatchers, markingAnswer, interrogateAnswer, endAnswer, moveAnswer, acceptAnswer, decideAnswer, sentAnswer, readAnswer, messageAnswer, identifierOk, setUpOk, admitAnswer, partyAnswer, setUpAnswer, rejectAnswer, postAt, cancelAnswer, answerOf}
 use Rattle.desk.specs.declared.Answer.{Answer}
 use Rattle.desk.specs.declared.Answer.the-variants as answer
 use Rattle.desk.specs.declared.Desk.{Desk}
@@ -138,11 +138,9 @@ module _ (d : Desk) (rows : List Record) (n : ℕ) where
   -- ---- a post's message
 
   module _ (room post : ℕ) (v : Value) where
-    activate-first : numberOf (activateAnswer d rows n room v)
-        ≡ firstOf ((14, ltb room 300) ∷ (15, not (recordsOk rows n (postsOf d))) ∷ (21, namesDispatchers (d .profile .air) v) ∷ [])
-    unfolding activateAnswer
-    activate-first =
-        before (ltb room 300) 14 _ _ (before (not (recordsOk rows n (postsOf d))) 15 _ _ (last (namesDispatchers (d .profile .air) v) 21 answer.Acks refl))
+    marking-first : (given : Bool) → numberOf (markingAnswer d rows n room given) ≡ firstOf ((14, ltb room 300) ∷ (15, not (recordsOk rows n (postsOf d))) ∷ (21, given) ∷ [])
+    unfolding markingAnswer
+    marking-first given = before (ltb room 300) 14 _ _ (before (not (recordsOk rows n (postsOf d))) 15 _ _ (last given 21 answer.Acks refl))
 
     interrogate-first : numberOf (interrogateAnswer d rows n post v) ≡ firstOf ((15, not (recordsOk rows n (postsOf d))) ∷ [])
     unfolding interrogateAnswer
@@ -163,7 +161,7 @@ module _ (d : Desk) (rows : List Record) (n : ℕ) where
     unfolding sentAnswer refusal firstOf table
     sent-first h =
         carried-cases By (v .pdu) (
-          activate-first,
+          marking-first (namesDispatchers (d .profile .air) v),
           (
             refl,
             (
@@ -191,7 +189,7 @@ module _ (d : Desk) (rows : List Record) (n : ℕ) where
       where
         By : ℕ → Type 0
         By t =
-            numberOf (cond (eqb t 2) (activateAnswer d rows n room v) (cond (eqb t 8) (interrogateAnswer d rows n post v)
+            numberOf (cond (eqb t 2) (markingAnswer d rows n room (namesDispatchers (d .profile .air) v)) (cond (eqb t 8) (interrogateAnswer d rows n post v)
             (cond (eqb t 12) (decideAnswer d room post (identifierIn v) (acceptAnswer d place)) (cond (eqb t 15) (decideAnswer d room post (identifierIn v) answer.Diverted)
             (cond (eqb t 17) (decideAnswer d room post (identifierIn v) answer.Rejected) (answer.Refused (refusal 8)))))))
             ≡ firstOf ((8, eqb t 3 || (eqb t 10 || (eqb t 11 || (eqb t 13 || (eqb t 14 || (eqb t 16 || eqb t 18))))))

@@ -3,7 +3,7 @@ pub mod KeepLaws
 pub mod NoticeLaws
 pub mod EndLaws
 pub mod SetUpLaws
-pub mod ActivateLaws
+pub mod MarkingLaws
 pub mod PostLaws
 pub mod AnswerLaws
 pub mod Moves

@@ -15,9 +15,9 @@ use Rattle.codec.proofs.Good.{both-left, both-right, not-both}
 use Rattle.profile.specs.Rules.{profileOk}
 use Rattle.profile.specs.declared.Profile.{Profile}
 use Rattle.message.specs.Groups.{groupC}
+use Rattle.message.specs.Rows.{ackRow, rowOf}
 use Rattle.message.specs.Values.{identifierIn}
 use Rattle.message.specs.Reading.{readOf}
-use Rattle.message.specs.declared.Group.{Group}
 use Rattle.message.specs.declared.Value.{Value}
 use Rattle.reading.specs.Answers.{readingOf}
 use Rattle.validity.specs.Validity.{validOf}
@@ -35,15 +35,16 @@ use Rattle.sending.proofs.SentLaws.{Sends, AllSend}
 use Rattle.sending.proofs.AckLaws.{acks-send, acks-few, intercepted-sends, accepted-sends, diverted-sends}
 use Rattle.desk.specs.Desks.{deskOk}
 use Rattle.desk.specs.Grounds.{waits, waitsHere}
-use Rattle.desk.specs.Orders.{unless, postsOf, placesOf, namesDispatchers, activateAnswer, interrogateAnswer, endAnswer, moveAnswer, acceptAnswer, decideAnswer, sentAnswer, readAnswer, messageAnswer, identifierOk, setUpOk, admitAnswer, partyAnswer, setUpAnswer, rejectAnswer, postAt, cancelAnswer, eventAnswer, answerOf}
-use Rattle.desk.specs.Steps.{Spoken, named, saidIn, valueBy, usersOf, spokenOf, messagesBy, plainStep, plainArea, acksFor, acksStep, acksArea, isAcks, stepBy, areaBy, postOf, stepOf, areaAfter}
+use Rattle.desk.specs.Orders.{unless, postsOf, placesOf, markingAnswer, interrogateAnswer, endAnswer, moveAnswer, acceptAnswer, decideAnswer, sentAnswer, readAnswer, messageAnswer, identifierOk, setUpOk, admitAnswer, partyAnswer, setUpAnswer, rejectAnswer, postAt, cancelAnswer, eventAnswer, answerOf}
+use Rattle.desk.specs.Steps.{Spoken, named, askedIn, saidIn, valueBy, askedOf, spokenOf, messagesBy, plainStep, plainArea, acksFor, acksStep, acksArea, isAcks, stepBy, areaBy, postOf, stepOf, areaAfter}
 use Rattle.desk.specs.Outputs.{messagesFor, sentBy, Unfilled, ReadBack}
+use Rattle.desk.specs.declared.marking.Asked.{Asked}
 use Rattle.desk.specs.declared.Answer.{Answer}
 use Rattle.desk.specs.declared.Answer.the-variants as answer
 use Rattle.desk.specs.declared.Desk.{Desk}
 use Rattle.desk.specs.declared.Event.{Event}
 use Rattle.desk.specs.declared.Event.the-variants as event
-use Rattle.desk.proofs.ActivateLaws.{activate-users, request}
+use Rattle.desk.proofs.MarkingLaws.{asked-ack, marking-users, request}
 use Rattle.desk.proofs.AnswerLaws.{by-type}
 use Rattle.desk.proofs.EndLaws.{waits-first}
 use Rattle.desk.proofs.Moves.{not-false}
@@ -61,7 +62,7 @@ module _ (d : Desk) (rows : List Record) (n : ℕ) (l area : List ℕ) (e : Even
       a : Answer
       a = answerOf d rows n l (length area) e
 
-      go : (b : Bool) → cond b (acksStep d (take n rows) (postOf e) (usersOf (d .profile) l e)) (plainStep d (spokenOf (d .profile) (take n rows) l e) a) .laid ≡ laidOf (d .profile .air) (cond b (acksFor d (take n rows) (postOf e) (usersOf (d .profile) l e)) (messagesBy (placesOf d) (spokenOf (d .profile) (take n rows) l e) a))
+      go : (b : Bool) → cond b (acksStep d (take n rows) (postOf e) (askedOf (d .profile) l e)) (plainStep d (spokenOf (d .profile) (take n rows) l e) a) .laid ≡ laidOf (d .profile .air) (cond b (acksFor d (take n rows) (postOf e) (askedOf (d .profile) l e)) (messagesBy (placesOf d) (spokenOf (d .profile) (take n rows) l e) a))
       go true = refl
       go false = refl
 
@@ -72,7 +73,7 @@ module _ (d : Desk) (rows : List Record) (n : ℕ) (l area : List ℕ) (e : Even
       a : Answer
       a = answerOf d rows n l (length area) e
 
-      go : (b : Bool) → cond b (acksArea d (take n rows) (postOf e) (usersOf (d .profile) l e) area) (plainArea d (spokenOf (d .profile) (take n rows) l e) area a) ≡ layAll (d .profile .air) area (cond b (acksFor d (take n rows) (postOf e) (usersOf (d .profile) l e)) (messagesBy (placesOf d) (spokenOf (d .profile) (take n rows) l e) a))
+      go : (b : Bool) → cond b (acksArea d (take n rows) (postOf e) (askedOf (d .profile) l e) area) (plainArea d (spokenOf (d .profile) (take n rows) l e) area a) ≡ layAll (d .profile .air) area (cond b (acksFor d (take n rows) (postOf e) (askedOf (d .profile) l e)) (messagesBy (placesOf d) (spokenOf (d .profile) (take n rows) l e) a))
       go true = refl
       go false = refl
 
@@ -93,9 +94,9 @@ one-fits p room h v s = record { few = omega arith; sends = (s, tt); room-for = 
 room-is : (room : ℕ) → ltb room 300 ≡ false → 300 ≤ room
 room-is room e = ⊎-elim (λ h. not-both (sym (sym (lt-ltb room 300 h) ∙ e))) (λ h. h) (lt-or room 300)
 
-module _ (d : Desk) (rows : List Record) (post : ℕ) (users : Group) (spoken : Spoken) (room : ℕ) where
+module _ (d : Desk) (rows : List Record) (post : ℕ) (asked : Asked) (spoken : Spoken) (room : ℕ) where
   abbrev Fit : Answer → Type 0
-  Fit a = Fits (d .profile) room (messagesFor d rows post users spoken a)
+  Fit a = Fits (d .profile) room (messagesFor d rows post asked spoken a)
 
   unless-fits : (b : Bool) (c : ℕ) (a : Answer) → (b ≡ false → Fit a) → Fit (unless b c a)
   unless-fits true c a h = nothing-fits (d .profile) room
@@ -145,17 +146,18 @@ module _ (d : Desk) (rows : List Record) (post : ℕ) (users : Group) (spoken : 
     admitted-fits h i k at to =
         record { few = omega arith; sends = (intercepted-sends (d .profile) sound, (request-sends (d .profile) sound (spoken .identifier) (spoken .cause) i k, tt)); room-for = λ z. h }
 
-    acks-fits : 300 ≤ room → groupC (d .profile .air) false .ok users ≡ true → Fit answer.Acks
+    acks-fits : 300 ≤ room → rowOf (asked .ack) ≡ ackRow → groupC (d .profile .air) false .ok (asked .users) ≡ true → Fit answer.Acks
     unfolding acksFor
-    acks-fits h good =
-        let r = request d rows post users good in
-        record { few = acks-few (d .profile) sound users _ r; sends = acks-send (d .profile) sound users _ r; room-for = λ z. h }
+    acks-fits h ack good =
+        let r = request d rows post asked ack good in
+        record { few = acks-few (d .profile) sound _ _ _ r; sends = acks-send (d .profile) sound _ _ _ r; room-for = λ z. h }
 
-    activate-fits : (all : List Record) (n : ℕ) (v : Value) → groupC (d .profile .air) false .ok users ≡ true → Fit (activateAnswer d all n room v)
-    unfolding activateAnswer
-    activate-fits all n v good =
+    marking-fits : (all : List Record) (n : ℕ) (given : Bool) → rowOf (asked .ack) ≡ ackRow → groupC (d .profile .air) false .ok (asked .users) ≡ true
+        → Fit (markingAnswer d all n room given)
+    unfolding markingAnswer
+    marking-fits all n given ack good =
         unless-fits (ltb room 300) 14 _
-        (λ e. plain-fits (not (recordsOk all n (postsOf d))) 15 _ (plain-fits (namesDispatchers (d .profile .air) v) 21 answer.Acks (acks-fits (room-is room e) good)))
+        (λ e. plain-fits (not (recordsOk all n (postsOf d))) 15 _ (plain-fits given 21 answer.Acks (acks-fits (room-is room e) ack good)))
 
     party-fits : 300 ≤ room → spoken .identifier < 2 ^ 14 → spoken .cause < 2 ^ 5 → (p : Party) → Fit (partyAnswer d p)
     unfolding admitAnswer
@@ -192,32 +194,32 @@ module _ (d : Desk) (rows : List Record) (post : ℕ) (users : Group) (spoken : 
 
 -- a message that was read, by its type
 module _ (d : Desk) (rows : List Record) (n : ℕ) (room post : ℕ) (ok : deskOk d ≡ true) where
-  sent-fits : (v : Value) → validOf (d .profile .air) v ≡ true → Fit d (take n rows) post (v .users) (saidIn v) room (sentAnswer d rows n room post v)
+  sent-fits : (v : Value) → validOf (d .profile .air) v ≡ true → Fit d (take n rows) post (askedIn v) (saidIn v) room (sentAnswer d rows n room post v)
   unfolding interrogateAnswer
   sent-fits v good =
       by-type d rows n room post v Fitting
-      (λ z. activate-fits d (take n rows) post (v .users) (saidIn v) room ok rows n v (activate-users (d .profile .air) v good z))
-      (plain-fits d (take n rows) post (v .users) (saidIn v) room (not (recordsOk rows n (postsOf d))) 15 _ (nothing-fits (d .profile) room))
-      (decide-fits d (take n rows) post (v .users) (saidIn v) room post (identifierIn v) _ (accept-fits d (take n rows) post (v .users) (saidIn v) room ok))
-      (decide-fits d (take n rows) post (v .users) (saidIn v) room post (identifierIn v) answer.Diverted (λ h w. diverted-fits d (take n rows) post (v .users) (saidIn v) room ok h))
-      (λ z. decide-fits d (take n rows) post (v .users) (saidIn v) room post (identifierIn v) answer.Rejected
-      (λ h w. rejected-fits d (take n rows) post (v .users) (saidIn v) room ok h (reject-cause (d .profile .air) v good z)))
+      (λ given z. marking-fits d (take n rows) post (askedIn v) (saidIn v) room ok rows n given (asked-ack v) (marking-users (d .profile .air) v good z))
+      (plain-fits d (take n rows) post (askedIn v) (saidIn v) room (not (recordsOk rows n (postsOf d))) 15 _ (nothing-fits (d .profile) room))
+      (decide-fits d (take n rows) post (askedIn v) (saidIn v) room post (identifierIn v) _ (accept-fits d (take n rows) post (askedIn v) (saidIn v) room ok))
+      (decide-fits d (take n rows) post (askedIn v) (saidIn v) room post (identifierIn v) answer.Diverted (λ h w. diverted-fits d (take n rows) post (askedIn v) (saidIn v) room ok h))
+      (λ z. decide-fits d (take n rows) post (askedIn v) (saidIn v) room post (identifierIn v) answer.Rejected
+      (λ h w. rejected-fits d (take n rows) post (askedIn v) (saidIn v) room ok h (reject-cause (d .profile .air) v good z)))
       (nothing-fits (d .profile) room)
     where
       Fitting : Answer → Type 0
-      Fitting a = Fit d (take n rows) post (v .users) (saidIn v) room a
+      Fitting a = Fit d (take n rows) post (askedIn v) (saidIn v) room a
 
   message-fits : (l : List ℕ) (bits : ℕ)
-      → Fit d (take n rows) post (valueBy (readOf (d .profile) l bits) .users) (saidIn (valueBy (readOf (d .profile) l bits))) room (messageAnswer d rows n l room post bits)
+      → Fit d (take n rows) post (askedIn (valueBy (readOf (d .profile) l bits))) (saidIn (valueBy (readOf (d .profile) l bits))) room (messageAnswer d rows n l room post bits)
   unfolding messageAnswer readingOf
   message-fits l bits = plain-fits d (take n rows) post _ _ room (not (ltb post (postsOf d))) 2 _ (go (readOf (d .profile) l bits) refl)
     where
-      go : (r : Read Value) → readOf (d .profile) l bits ≡ r → Fit d (take n rows) post (valueBy r .users) (saidIn (valueBy r)) room (readAnswer r (λ v. sentAnswer d rows n room post v))
+      go : (r : Read Value) → readOf (d .profile) l bits ≡ r → Fit d (take n rows) post (askedIn (valueBy r)) (saidIn (valueBy r)) room (readAnswer r (λ v. sentAnswer d rows n room post v))
       go (got v q) e = sent-fits v (read-valid (d .profile) l bits (readingOf (got v q)) (ap readingOf (sym e)) refl)
       go (no s) e = nothing-fits (d .profile) room
 
 module _ (d : Desk) (rows : List Record) (n : ℕ) (l : List ℕ) (room : ℕ) where
-  event-fits : deskOk d ≡ true → (e : Event) → Fit d (take n rows) (postOf e) (usersOf (d .profile) l e) (spokenOf (d .profile) (take n rows) l e) room (eventAnswer d rows n l room e)
+  event-fits : deskOk d ≡ true → (e : Event) → Fit d (take n rows) (postOf e) (askedOf (d .profile) l e) (spokenOf (d .profile) (take n rows) l e) room (eventAnswer d rows n l room e)
   event-fits ok (event.Message post bits) = message-fits d rows n room post ok l bits
   event-fits ok (event.SetUp caller called identifier cause) =
       setup-fits d (take n rows) 0 _ (spokenOf (d .profile) (take n rows) l (event.SetUp caller called identifier cause)) room ok rows n caller called
@@ -230,7 +232,7 @@ module _ (d : Desk) (rows : List Record) (n : ℕ) (l : List ℕ) (room : ℕ) w
   sent-fit e = go (deskOk d) refl
     where
       vs : Answer → List Value
-      vs a = messagesFor d (take n rows) (postOf e) (usersOf (d .profile) l e) (spokenOf (d .profile) (take n rows) l e) a
+      vs a = messagesFor d (take n rows) (postOf e) (askedOf (d .profile) l e) (spokenOf (d .profile) (take n rows) l e) a
 
       go : (b : Bool) → deskOk d ≡ b
           → Fits (d .profile) room (vs (unless (not b) 1 (eventAnswer d rows n l room e))) × (0 < length (vs (unless (not b) 1 (eventAnswer d rows n l room e))) → profileOk (d .profile) ≡ true)

@@ -13,7 +13,6 @@ use Rattle.codec.proofs.Good.{both-left, not-both}
 use Rattle.profile.specs.Rules.{profileOk}
 use Rattle.message.specs.Groups.{firstOf}
 use Rattle.message.specs.Reading.{readOf}
-use Rattle.message.specs.declared.Group.{Group}
 use Rattle.message.specs.declared.Value.{Value}
 use Rattle.reading.specs.Answers.{readingOf}
 use Rattle.reading.specs.declared.Reading.{Reading}
@@ -27,29 +26,30 @@ use Rattle.places.specs.Held.{placeIn, admitsOf}
 use Rattle.places.specs.Spots.{placeOf}
 use Rattle.desk.specs.Desks.{deskOk}
 use Rattle.desk.specs.Orders.{postsOf, placesOf, unless, interrogateAnswer, endAnswer, decideAnswer, sentAnswer, readAnswer, messageAnswer, identifierOk, setUpOk, admitAnswer, partyAnswer, setUpAnswer, rejectAnswer, cancelAnswer}
-use Rattle.desk.specs.Steps.{Spoken, saidIn, valueBy, isAcks, plainStep, plainArea, acksStep, acksArea, stepBy, areaBy, keeps}
+use Rattle.desk.specs.Steps.{Spoken, askedIn, saidIn, valueBy, isAcks, plainStep, plainArea, acksStep, acksArea, stepBy, areaBy, keeps}
+use Rattle.desk.specs.declared.marking.Asked.{Asked}
 use Rattle.desk.specs.declared.Answer.{Answer}
 use Rattle.desk.specs.declared.Answer.the-variants as answer
 use Rattle.desk.specs.declared.Desk.{Desk}
 use Rattle.desk.specs.declared.Stepped.{Stepped}
 use Rattle.desk.proofs.KeepLaws.{refused-plain, state-plain}
 
-module _ (d : Desk) (rows : List Record) (post : ℕ) (users : Group) (spoken : Spoken) (area m : List ℕ) (a : Answer) (r : Stepped) where
-  pub plain-by : isAcks a ≡ false → (r ≡ plainStep d spoken a) × (m ≡ plainArea d spoken area a) → (r ≡ stepBy d rows post users spoken a) × (m ≡ areaBy d rows post users spoken area a)
+module _ (d : Desk) (rows : List Record) (post : ℕ) (asked : Asked) (spoken : Spoken) (area m : List ℕ) (a : Answer) (r : Stepped) where
+  pub plain-by : isAcks a ≡ false → (r ≡ plainStep d spoken a) × (m ≡ plainArea d spoken area a) → (r ≡ stepBy d rows post asked spoken a) × (m ≡ areaBy d rows post asked spoken area a)
   unfolding stepBy areaBy
   plain-by e z = rw e z
 
-  pub acks-by : a ≡ answer.Acks → (r ≡ acksStep d rows post users) × (m ≡ acksArea d rows post users area)
-      → (r ≡ stepBy d rows post users spoken a) × (m ≡ areaBy d rows post users spoken area a)
+  pub acks-by : a ≡ answer.Acks → (r ≡ acksStep d rows post asked) × (m ≡ acksArea d rows post asked area)
+      → (r ≡ stepBy d rows post asked spoken a) × (m ≡ areaBy d rows post asked spoken area a)
   unfolding stepBy areaBy
   acks-by e z = rw e z
 
 -- a refusal, of whatever call
-pub refused-by : (d : Desk) (rows : List Record) (post : ℕ) (users : Group) (spoken : Spoken) (area : List ℕ) (a : Answer) (s t : Stop) (r : Stepped)
+pub refused-by : (d : Desk) (rows : List Record) (post : ℕ) (asked : Asked) (spoken : Spoken) (area : List ℕ) (a : Answer) (s t : Stop) (r : Stepped)
     → r ≡ keeps d (answer.Refused s) → s ≡ t → a ≡ answer.Refused t
-    → (r ≡ stepBy d rows post users spoken a) × (area ≡ areaBy d rows post users spoken area a)
-refused-by d rows post users spoken area a s t r e z q =
-    plain-by d rows post users spoken area area a r (ap isAcks q) (refused-plain d spoken area a s t r e z q)
+    → (r ≡ stepBy d rows post asked spoken a) × (area ≡ areaBy d rows post asked spoken area a)
+refused-by d rows post asked spoken area a s t r e z q =
+    plain-by d rows post asked spoken area area a r (ap isAcks q) (refused-plain d spoken area a s t r e z q)
 
 -- ---- answers that are no ACKs
 
@@ -111,18 +111,18 @@ module _ (d : Desk) (rows : List Record) (n : ℕ) (l : List ℕ) (room post bit
 
     -- what was read is answered by its type
     pub message-sent : r .found ≡ true → (area m : List ℕ) (s : Stepped)
-        → (s ≡ stepBy d (take n rows) post (r .value .users) (saidIn (r .value)) (sentAnswer d rows n room post (r .value)))
-        × (m ≡ areaBy d (take n rows) post (r .value .users) (saidIn (r .value)) area (sentAnswer d rows n room post (r .value)))
-        → (s ≡ stepBy d (take n rows) post (valueBy (readOf (d .profile) l bits) .users) (saidIn (valueBy (readOf (d .profile) l bits))) (messageAnswer d rows n l room post bits))
-        × (m ≡ areaBy d (take n rows) post (valueBy (readOf (d .profile) l bits) .users) (saidIn (valueBy (readOf (d .profile) l bits))) area (messageAnswer d rows n l room post bits))
+        → (s ≡ stepBy d (take n rows) post (askedIn (r .value)) (saidIn (r .value)) (sentAnswer d rows n room post (r .value)))
+        × (m ≡ areaBy d (take n rows) post (askedIn (r .value)) (saidIn (r .value)) area (sentAnswer d rows n room post (r .value)))
+        → (s ≡ stepBy d (take n rows) post (askedIn (valueBy (readOf (d .profile) l bits))) (saidIn (valueBy (readOf (d .profile) l bits))) (messageAnswer d rows n l room post bits))
+        × (m ≡ areaBy d (take n rows) post (askedIn (valueBy (readOf (d .profile) l bits))) (saidIn (valueBy (readOf (d .profile) l bits))) area (messageAnswer d rows n l room post bits))
     unfolding messageAnswer readingOf
     message-sent f area m s = rw (lt-ltb post (postsOf d) h) (go (readOf (d .profile) l bits) z)
       where
         go : (x : Read Value) → r ≡ readingOf x
-            → (s ≡ stepBy d (take n rows) post (r .value .users) (saidIn (r .value)) (sentAnswer d rows n room post (r .value)))
-            × (m ≡ areaBy d (take n rows) post (r .value .users) (saidIn (r .value)) area (sentAnswer d rows n room post (r .value)))
-            → (s ≡ stepBy d (take n rows) post (valueBy x .users) (saidIn (valueBy x)) (readAnswer x (λ v. sentAnswer d rows n room post v)))
-            × (m ≡ areaBy d (take n rows) post (valueBy x .users) (saidIn (valueBy x)) area (readAnswer x (λ v. sentAnswer d rows n room post v)))
+            → (s ≡ stepBy d (take n rows) post (askedIn (r .value)) (saidIn (r .value)) (sentAnswer d rows n room post (r .value)))
+            × (m ≡ areaBy d (take n rows) post (askedIn (r .value)) (saidIn (r .value)) area (sentAnswer d rows n room post (r .value)))
+            → (s ≡ stepBy d (take n rows) post (askedIn (valueBy x)) (saidIn (valueBy x)) (readAnswer x (λ v. sentAnswer d rows n room post v)))
+            × (m ≡ areaBy d (take n rows) post (askedIn (valueBy x)) (saidIn (valueBy x)) area (readAnswer x (λ v. sentAnswer d rows n room post v)))
         go (got v q) e p = rw (ap (λ (y : Reading). y .value) e) at p
         go (no t) e p = not-both (sym (ap (λ (y : Reading). y .found) e) ∙ f)
 

@@ -13,7 +13,7 @@ use Rattle.sending.specs.Sending.{noLaid}
 use Rattle.desk.specs.Grounds.{orderOf}
 use Rattle.desk.specs.Numbers.{numberOf}
 use Rattle.desk.specs.Orders.{answerOf}
-use Rattle.desk.specs.Steps.{keeps, postOf, usersOf, spokenOf, stepOf, areaAfter}
+use Rattle.desk.specs.Steps.{keeps, postOf, askedOf, spokenOf, stepOf, areaAfter}
 use Rattle.desk.specs.declared.Answer.{Answer}
 use Rattle.desk.specs.declared.Answer.the-variants as answer
 use Rattle.desk.specs.declared.Desk.{Desk}
@@ -54,7 +54,7 @@ module _ (d : Desk) (rows : List Record) (n : ℕ) (l area : List ℕ) (e : Even
   unfolding stepOf areaAfter keeps
   refused-keeps s h =
       let z : answerOf d rows n l (length area) e ≡ answer.Refused s = sym (step-answer d rows n l area e) ∙ h in
-      let k = refused-by d (take n rows) (postOf e) (usersOf (d .profile) l e) (spokenOf (d .profile) (take n rows) l e) area (answerOf d rows n l (length area) e) s s (keeps d (answer.Refused s)) refl refl z in
+      let k = refused-by d (take n rows) (postOf e) (askedOf (d .profile) l e) (spokenOf (d .profile) (take n rows) l e) area (answerOf d rows n l (length area) e) s s (keeps d (answer.Refused s)) refl refl z in
       record {
         desk = ap (λ (x : Stepped). x .desk) (sym (k .0));
         marks = ap (λ (x : Stepped). x .marks) (sym (k .0));

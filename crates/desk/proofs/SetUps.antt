@@ -7,7 +7,6 @@ use lib.Dec.{ltb}
 use lib.ListN.{length, take}
 use Rattle.codec.specs.Codec.{both, Ground, noneOf}
 use Rattle.codec.proofs.Good.{both-left, both-right, not-both}
-use Rattle.message.specs.declared.Group.{Group}
 use Rattle.places.specs.Held.{admitsOf}
 use Rattle.places.specs.Spots.{spotAt, placeOf, lowestFree, takeOf}
 use Rattle.places.proofs.SpotLaws.{FreeFirst, lowest-free-exactly, spot-found}
@@ -21,6 +20,7 @@ use Rattle.desk.specs.Desks.{deskOk}
 use Rattle.desk.specs.Grounds.{waits, partyFor, setUpGrounds, isNew, isFreeCall}
 use Rattle.desk.specs.Orders.{unless, postsOf, placesOf, setUpOk, admitAnswer, partyAnswer, setUpAnswer, answerOf}
 use Rattle.desk.specs.Steps.{Spoken, spokenOf, callFor, effectBy, effectOf, deskAfter, plainStep, acksStep, stepBy, stepOf}
+use Rattle.desk.specs.declared.marking.Asked.{Asked}
 use Rattle.desk.specs.declared.Answer.{Answer}
 use Rattle.desk.specs.declared.Answer.the-variants as answer
 use Rattle.desk.specs.declared.Desk.{Desk}
@@ -31,19 +31,19 @@ use Rattle.desk.proofs.SetUpLaws.{setup-identifier, setup-cause}
 
 -- ---- the desk after any call: what the answer says of the waiting calls, and nothing else
 
-by-desk : (d : Desk) (rows : List Record) (post : ℕ) (users : Group) (spoken : Spoken) (a : Answer)
-    → stepBy d rows post users spoken a .desk ≡ deskAfter d (effectBy spoken a)
+by-desk : (d : Desk) (rows : List Record) (post : ℕ) (asked : Asked) (spoken : Spoken) (a : Answer)
+    → stepBy d rows post asked spoken a .desk ≡ deskAfter d (effectBy spoken a)
 unfolding stepBy plainStep acksStep deskAfter
-by-desk d rows post users spoken (answer.Refused s) = refl
-by-desk d rows post users spoken answer.Acks = refl
-by-desk d rows post users spoken (answer.State k) = refl
-by-desk d rows post users spoken answer.Free = refl
-by-desk d rows post users spoken (answer.Admitted p i) = refl
-by-desk d rows post users spoken answer.Proceed = refl
-by-desk d rows post users spoken answer.Diverted = refl
-by-desk d rows post users spoken answer.Rejected = refl
-by-desk d rows post users spoken (answer.Cancelled p) = refl
-by-desk d rows post users spoken (answer.Moved p) = refl
+by-desk d rows post asked spoken (answer.Refused s) = refl
+by-desk d rows post asked spoken answer.Acks = refl
+by-desk d rows post asked spoken (answer.State k) = refl
+by-desk d rows post asked spoken answer.Free = refl
+by-desk d rows post asked spoken (answer.Admitted p i) = refl
+by-desk d rows post asked spoken answer.Proceed = refl
+by-desk d rows post asked spoken answer.Diverted = refl
+by-desk d rows post asked spoken answer.Rejected = refl
+by-desk d rows post asked spoken (answer.Cancelled p) = refl
+by-desk d rows post asked spoken (answer.Moved p) = refl
 
 order-desk : (d : Desk) (rows : List Record) (n : ℕ) (l area : List ℕ) (e : Event)
     → stepOf d rows n l area e .desk ≡ deskAfter d (effectBy (spokenOf (d .profile) (take n rows) l e) (answerOf d rows n l (length area) e))

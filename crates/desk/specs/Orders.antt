@@ -53,10 +53,10 @@ someoneBy kind.FirstLast = true
 unfoldable pub namesDispatchers : Air → Value → Bool
 namesDispatchers air v = both (givenAt 0 v) (someoneBy (meaningIn (air .meanings) (v .dispatchers .range) .kind))
 
--- ACTIVATE: 14, 15, 21
-unfoldable pub activateAnswer : Desk → List Record → ℕ → ℕ → Value → Answer
-activateAnswer d rows n room v =
-    unless (ltb room 300) 14 (unless (not (recordsOk rows n (postsOf d))) 15 (unless (namesDispatchers (d .profile .air) v) 21 answer.Acks))
+-- a request to change marks: 14, 15, and 21 where dispatcher addresses are given
+unfoldable pub markingAnswer : Desk → List Record → ℕ → ℕ → Bool → Answer
+markingAnswer d rows n room given =
+    unless (ltb room 300) 14 (unless (not (recordsOk rows n (postsOf d))) 15 (unless given 21 answer.Acks))
 
 -- INTERROGATE: 15; it uses neither 14 nor the output area
 unfoldable pub interrogateAnswer : Desk → List Record → ℕ → ℕ → Value → Answer
@@ -85,7 +85,7 @@ decideAnswer d room post identifier ended = unless (ltb room 300) 14 (endAnswer 
 -- by the type; 8 for those that posts don't send
 unfoldable pub sentAnswer : Desk → List Record → ℕ → ℕ → ℕ → Value → Answer
 sentAnswer d rows n room post v =
-    cond (eqb (v .pdu) 2) (activateAnswer d rows n room v)
+    cond (eqb (v .pdu) 2) (markingAnswer d rows n room (namesDispatchers (d .profile .air) v))
     (cond (eqb (v .pdu) 8) (interrogateAnswer d rows n post v)
     (cond (eqb (v .pdu) 12) (decideAnswer d room post (identifierIn v) (acceptAnswer d (placeOf (placesOf d) (identifierIn v) .place)))
     (cond (eqb (v .pdu) 15) (decideAnswer d room post (identifierIn v) answer.Diverted)

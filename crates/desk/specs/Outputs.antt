@@ -9,25 +9,25 @@ use lib.ListN.{getD, take, drop}
 use Rattle.codec.specs.Codec.{got}
 use Rattle.profile.specs.declared.Profile.{Profile}
 use Rattle.message.specs.Reading.{readOf}
-use Rattle.message.specs.declared.Group.{Group}
 use Rattle.message.specs.declared.Value.{Value}
 use Rattle.writing.specs.Writing.{bytesFor}
 use Rattle.records.specs.declared.Record.{Record}
 use Rattle.sending.specs.declared.Laid.{Laid}
 use Rattle.desk.specs.Orders.{placesOf, answerOf}
-use Rattle.desk.specs.Steps.{Spoken, usersOf, spokenOf, messagesBy, acksFor, isAcks, postOf}
+use Rattle.desk.specs.Steps.{Spoken, askedOf, spokenOf, messagesBy, acksFor, isAcks, postOf}
+use Rattle.desk.specs.declared.marking.Asked.{Asked}
 use Rattle.desk.specs.declared.Answer.{Answer}
 use Rattle.desk.specs.declared.Desk.{Desk}
 use Rattle.desk.specs.declared.Event.{Event}
 
 -- what goes with an answer: the ACKs, or what any other answer sends
-abbrev pub messagesFor : Desk → List Record → ℕ → Group → Spoken → Answer → List Value
-messagesFor d rows post users s a = cond (isAcks a) (acksFor d rows post users) (messagesBy (placesOf d) s a)
+abbrev pub messagesFor : Desk → List Record → ℕ → Asked → Spoken → Answer → List Value
+messagesFor d rows post asked s a = cond (isAcks a) (acksFor d rows post asked) (messagesBy (placesOf d) s a)
 
 -- what a call sends, where the output area has so many bytes
 unfoldable pub sentBy : Desk → List Record → ℕ → List ℕ → ℕ → Event → List Value
 sentBy d rows n l room e =
-    messagesFor d (take n rows) (postOf e) (usersOf (d .profile) l e) (spokenOf (d .profile) (take n rows) l e) (answerOf d rows n l room e)
+    messagesFor d (take n rows) (postOf e) (askedOf (d .profile) l e) (spokenOf (d .profile) (take n rows) l e) (answerOf d rows n l room e)
 
 -- message k has so many bits
 abbrev pub bitsIn : Laid → ℕ → ℕ

@@ -6,11 +6,9 @@ use lib.ListN.{take, length}
 use Rattle.codec.specs.Codec.{Read, got, no}
 use Rattle.codec.specs.Stops.{refusal}
 use Rattle.profile.specs.declared.Profile.{Profile}
-use Rattle.message.specs.Groups.{noGroup}
 use Rattle.message.specs.Numbers as place
 use Rattle.message.specs.Values.{noValue, identifierIn, numberAt}
 use Rattle.message.specs.Reading.{readOf}
-use Rattle.message.specs.declared.Group.{Group}
 use Rattle.message.specs.declared.Value.{Value}
 use Rattle.places.specs.Held.{placeIn, admitsOf}
 use Rattle.places.specs.Spots.{placeOf, lowestFree, takeOf, clearOf, movedOn, moveOf}
@@ -27,6 +25,7 @@ use Rattle.sending.specs.declared.Laid.{Laid}
 use Rattle.sending.specs.Acks.{acksOf}
 use Rattle.desk.specs.Notices.{intercepted, accepted, diverted, requestOf, rejectedWith, cancelOf}
 use Rattle.desk.specs.Orders.{placesOf, answerOf}
+use Rattle.desk.specs.declared.marking.Asked.{Asked}
 use Rattle.desk.specs.declared.Answer.{Answer}
 use Rattle.desk.specs.declared.Answer.the-variants as answer
 use Rattle.desk.specs.declared.Desk.{Desk}
@@ -48,12 +47,17 @@ abbrev pub valueBy : Read Value → Value
 valueBy (got v n) = v
 valueBy (no s) = noValue
 
--- the users that it names
-abbrev pub usersOf : Profile → List ℕ → Event → Group
-usersOf p l (event.Message post bits) = valueBy (readOf p l bits) .users
-usersOf p l (event.SetUp caller called identifier cause) = noGroup
-usersOf p l (event.Reject post identifier) = noGroup
-usersOf p l (event.Cancel identifier) = noGroup
+-- what it asks, where it is a request to change marks: of these users, answered by ACKs of this type, that their mark becomes this. ACTIVATE
+-- sets the mark and gets ACTIVATE ACKs
+abbrev pub askedIn : Value → Asked
+askedIn v = record { users = v .users; ack = 3; mark = true }
+
+-- what an event asks
+abbrev pub askedOf : Profile → List ℕ → Event → Asked
+askedOf p l (event.Message post bits) = askedIn (valueBy (readOf p l bits))
+askedOf p l (event.SetUp caller called identifier cause) = askedIn noValue
+askedOf p l (event.Reject post identifier) = askedIn noValue
+askedOf p l (event.Cancel identifier) = askedIn noValue
 
 -- the call that an event speaks of
 abbrev pub identifierOf : Profile → List ℕ → Event → ℕ
@@ -124,7 +128,7 @@ placesAfter places (ends identifier) = clearOf places (placeOf places identifier
 unfoldable pub deskAfter : Desk → Effect → Desk
 deskAfter d x = record { profile = d .profile; places = record { place = placesAfter (placesOf d) x } }
 
--- ---- every answer but that of an ACTIVATE
+-- ---- every answer but ACKs
 
 -- the messages that go with it: an admitted call's INTERCEPTED and REQUEST, a moved one's REQUEST, as its place has it; REJECTED with the
 -- cause that was said; CANCEL
@@ -146,22 +150,22 @@ plainStep d s a = record { answer = a; laid = laidOf (d .profile .air) (messages
 unfoldable pub plainArea : Desk → Spoken → List ℕ → Answer → List ℕ
 plainArea d s area a = layAll (d .profile .air) area (messagesBy (placesOf d) s a)
 
--- ---- an ACTIVATE that is carried out: its ACKs, and the marks of the accepted ones
+-- ---- a request to change marks that is carried out: its ACKs, and the marks of the accepted ones
 
-unfoldable pub acksFor : Desk → List Record → ℕ → Group → List Value
-acksFor d rows post users = acksOf (d .profile .air) users (sortedOf (outcomesOf (d .profile .air) users rows post))
+unfoldable pub acksFor : Desk → List Record → ℕ → Asked → List Value
+acksFor d rows post asked = acksOf (d .profile .air) (asked .ack) (asked .users) (sortedOf (outcomesOf (d .profile .air) (asked .users) rows post))
 
-unfoldable pub acksStep : Desk → List Record → ℕ → Group → Stepped
-acksStep d rows post users =
+unfoldable pub acksStep : Desk → List Record → ℕ → Asked → Stepped
+acksStep d rows post asked =
     record {
       answer = answer.Acks;
-      laid = laidOf (d .profile .air) (acksFor d rows post users);
+      laid = laidOf (d .profile .air) (acksFor d rows post asked);
       desk = d;
-      marks = marksOf rows post (identitiesOf (d .profile .air) users);
+      marks = marksOf (asked .mark) rows post (identitiesOf (d .profile .air) (asked .users));
     }
 
-unfoldable pub acksArea : Desk → List Record → ℕ → Group → List ℕ → List ℕ
-acksArea d rows post users area = layAll (d .profile .air) area (acksFor d rows post users)
+unfoldable pub acksArea : Desk → List Record → ℕ → Asked → List ℕ → List ℕ
+acksArea d rows post asked area = layAll (d .profile .air) area (acksFor d rows post asked)
 
 -- ---- what follows from an answer
 
@@ -177,12 +181,12 @@ isAcks answer.Rejected = false
 isAcks (answer.Cancelled post) = false
 isAcks (answer.Moved post) = false
 
--- to a call from a post, of these users, that speaks of this call
-unfoldable pub stepBy : Desk → List Record → ℕ → Group → Spoken → Answer → Stepped
-stepBy d rows post users s a = cond (isAcks a) (acksStep d rows post users) (plainStep d s a)
+-- to a call from a post that asks this, or speaks of this call
+unfoldable pub stepBy : Desk → List Record → ℕ → Asked → Spoken → Answer → Stepped
+stepBy d rows post asked s a = cond (isAcks a) (acksStep d rows post asked) (plainStep d s a)
 
-unfoldable pub areaBy : Desk → List Record → ℕ → Group → Spoken → List ℕ → Answer → List ℕ
-areaBy d rows post users s area a = cond (isAcks a) (acksArea d rows post users area) (plainArea d s area a)
+unfoldable pub areaBy : Desk → List Record → ℕ → Asked → Spoken → List ℕ → Answer → List ℕ
+areaBy d rows post asked s area a = cond (isAcks a) (acksArea d rows post asked area) (plainArea d s area a)
 
 -- ---- every call
 
@@ -194,11 +198,11 @@ postOf (event.Cancel identifier) = 0
 
 unfoldable pub stepOf : Desk → List Record → ℕ → List ℕ → List ℕ → Event → Stepped
 stepOf d rows n l area e =
-    stepBy d (take n rows) (postOf e) (usersOf (d .profile) l e) (spokenOf (d .profile) (take n rows) l e) (answerOf d rows n l (length area) e)
+    stepBy d (take n rows) (postOf e) (askedOf (d .profile) l e) (spokenOf (d .profile) (take n rows) l e) (answerOf d rows n l (length area) e)
 
 unfoldable pub areaAfter : Desk → List Record → ℕ → List ℕ → List ℕ → Event → List ℕ
 areaAfter d rows n l area e =
-    areaBy d (take n rows) (postOf e) (usersOf (d .profile) l e) (spokenOf (d .profile) (take n rows) l e) area (answerOf d rows n l (length area) e)
+    areaBy d (take n rows) (postOf e) (askedOf (d .profile) l e) (spokenOf (d .profile) (take n rows) l e) area (answerOf d rows n l (length area) e)
 
 -- ---- the same, as the code has it
 

@@ -3,7 +3,7 @@
 // `step` takes the desk, the records and an event, and answers the step: the answer, the messages laid in the output area, the desk
 // afterwards and the records whose mark is set. It equals `stepOf`, and the area afterwards `areaAfter`, for every input (specs/Orders
 // has each call's order of refusals, specs/Steps what follows from an answer). The files: ending (how a waiting call ends), setup,
-// posted (a post's message by its type), activate.
+// posted (a post's message by its type), marking (ACTIVATE).
 ghost use mathlib.Core.Path.{_≡_};
 ghost use Rattle.places.specs.Held.{noPlaces};
 ghost use Rattle.desk.specs.Desks.{openOf, deskOk};
@@ -16,9 +16,9 @@ use records::Marks;
 use records::Record;
 use sending::Laid;
 
-mod activate;
 mod ending;
 mod kept;
+mod marking;
 mod notice;
 mod posted;
 mod setup;

@@ -6,13 +6,13 @@ ghost use Rattle.message.specs.Reading.{readOf};
 ghost use Rattle.validity.specs.Validity.{validOf};
 ghost use Rattle.desk.specs.Desks.{deskOk};
 ghost use Rattle.desk.specs.Orders.{interrogateAnswer, sentAnswer, messageAnswer};
-ghost use Rattle.desk.specs.Steps.{valueBy, saidIn, plainStep, stepBy, areaBy};
+ghost use Rattle.desk.specs.Steps.{valueBy, askedIn, saidIn, plainStep, stepBy, areaBy};
 use crate::Answer;
 use crate::Desk;
 use crate::Stepped;
-use crate::activate;
 use crate::ending;
 use crate::kept;
+use crate::marking;
 use message::Value;
 use records::Record;
 
@@ -26,8 +26,8 @@ pub(crate) fn post_message(
     bits: u64,
 ) -> Stepped
     requires { ⌜ deskOk desk ≡ true ⌝ }
-    ensures { λ r. ⌜ (r ≡ stepBy desk (take count rows) post (valueBy (readOf (desk .profile) (now (message .entry)) bits) .users) (saidIn (valueBy (readOf (desk .profile) (now (message .entry)) bits))) (messageAnswer desk rows count (now (message .entry)) (length (now (out .entry))) post bits))
-        × (now (out .exit) ≡ areaBy desk (take count rows) post (valueBy (readOf (desk .profile) (now (message .entry)) bits) .users) (saidIn (valueBy (readOf (desk .profile) (now (message .entry)) bits))) (now (out .entry)) (messageAnswer desk rows count (now (message .entry)) (length (now (out .entry))) post bits)) ⌝ }
+    ensures { λ r. ⌜ (r ≡ stepBy desk (take count rows) post (askedIn (valueBy (readOf (desk .profile) (now (message .entry)) bits))) (saidIn (valueBy (readOf (desk .profile) (now (message .entry)) bits))) (messageAnswer desk rows count (now (message .entry)) (length (now (out .entry))) post bits))
+        × (now (out .exit) ≡ areaBy desk (take count rows) post (askedIn (valueBy (readOf (desk .profile) (now (message .entry)) bits))) (saidIn (valueBy (readOf (desk .profile) (now (message .entry)) bits))) (now (out .entry)) (messageAnswer desk rows count (now (message .entry)) (length (now (out .entry))) post bits)) ⌝ }
 {
     let profile = desk.profile;
     let shares = profile.shares;
@@ -53,12 +53,15 @@ fn sent(
     value: Value,
 ) -> Stepped
     requires { ⌜ (deskOk desk ≡ true) × (validOf (desk .profile .air) value ≡ true) ⌝ }
-    ensures { λ r. ⌜ (r ≡ stepBy desk (take count rows) post (value .users) (saidIn value) (sentAnswer desk rows count (length (now (out .entry))) post value))
-        × (now (out .exit) ≡ areaBy desk (take count rows) post (value .users) (saidIn value) (now (out .entry)) (sentAnswer desk rows count (length (now (out .entry))) post value)) ⌝ }
+    ensures { λ r. ⌜ (r ≡ stepBy desk (take count rows) post (askedIn value) (saidIn value) (sentAnswer desk rows count (length (now (out .entry))) post value))
+        × (now (out .exit) ≡ areaBy desk (take count rows) post (askedIn value) (saidIn value) (now (out .entry)) (sentAnswer desk rows count (length (now (out .entry))) post value)) ⌝ }
 {
     let pdu = value.pdu;
     if pdu == 2 {
-        return activate::activate(desk, rows, count, post, value, out);
+        let profile = desk.profile;
+        let air = profile.air;
+        let given = marking::names_dispatchers(air, value);
+        return marking::change(desk, rows, count, post, value, given, out);
     }
     if pdu == 8 {
         return interrogate(desk, rows, count, post, value);

@@ -15,8 +15,10 @@ use Rattle.codec.proofs.Good.{both-true, both-left, both-right, not-both}
 use Rattle.profile.specs.Counting.{one}
 use Rattle.profile.specs.Rules.{profileOk}
 use Rattle.profile.specs.declared.Profile.{Profile}
+use Rattle.message.specs.Rows.{ackRow, table, rowIn, rowOf}
 use Rattle.message.specs.Values.{blank}
 use Rattle.message.specs.declared.Group.{Group}
+use Rattle.message.specs.declared.Row.{Row}
 use Rattle.message.specs.declared.Value.{Value}
 use Rattle.places.specs.Held.{placeIn}
 use Rattle.places.specs.Spots.{placeOf, movedOn}
@@ -30,12 +32,14 @@ use Rattle.desk.specs.Desks.{deskWith}
 use Rattle.desk.specs.Notices.{intercepted, requestWith, requestOf, cancelOf}
 use Rattle.desk.specs.Orders.{placesOf}
 use Rattle.desk.specs.Outputs.{messagesFor, sentBy}
-use Rattle.desk.specs.Steps.{usersOf, spokenOf, acksFor, postOf, identifierOf}
+use Rattle.desk.specs.Steps.{askedOf, spokenOf, acksFor, postOf, identifierOf}
 use Rattle.desk.specs.declared.Answer.{Answer}
 use Rattle.desk.specs.declared.Answer.the-variants as answer
 use Rattle.desk.specs.declared.Desk.{Desk}
+use Rattle.desk.specs.declared.marking.Asked as request
 use Rattle.desk.proofs.AnswerLaws.{step-answer}
 use Rattle.desk.proofs.Cancels.{cancelled-so}
+use Rattle.desk.proofs.MarkingLaws.{event-ack}
 use Rattle.desk.proofs.Outputs.{sent-count, sent-read}
 use Rattle.desk.proofs.SetUps.{admitted-so}
 use Rattle.history.specs.Histories.{Call, stepFor, runOf, Waiting, without, causeOf, meantBy, answered, afterwards, waitingAfter, countBy, isWaiting}
@@ -63,18 +67,30 @@ count-less t u h (x ∷ w) = go (t x) refl (u x) refl (count-less t u h w)
 
 -- ---- what one call writes
 
--- no ACK is a REQUEST
-ack-not : (which : ℕ) (users : Group) (b : Bool) (m r w : ℕ) → isRequestOf which (ackV users b m r w) ≡ false
-unfolding ackV blank both
-ack-not which users b m r w = refl
+-- no type of an ACK is REQUEST's, which has options
+ack-type : (t : ℕ) → rowOf t ≡ ackRow → eqb t 11 ≡ false
+unfolding rowOf rowIn table
+ack-type t e = go (eqb t 11) refl
+  where
+    options-of : rowOf 11 ≡ ackRow → ⊥
+    options-of z = let n : _≡_ {A = ℕ} 7 0 = ap (λ (r : Row). r .options) z in omega (arith, n)
 
-acks-silent : (which : ℕ) (d : Desk) (rows : List Record) (post : ℕ) (users : Group) → requestsIn which (acksFor d rows post users) ≡ 0
+    go : (b : Bool) → eqb t 11 ≡ b → b ≡ false
+    go true z = absurd (options-of (ap rowOf (sym (eqb-true t 11 z)) ∙ e))
+    go false z = refl
+
+-- so no ACK is one
+ack-not : (which t : ℕ) (users : Group) (b : Bool) (m r w : ℕ) → rowOf t ≡ ackRow → isRequestOf which (ackV t users b m r w) ≡ false
+unfolding ackV blank both
+ack-not which t users b m r w e = rw (ack-type t e) refl
+
+acks-silent : (which : ℕ) (d : Desk) (rows : List Record) (post : ℕ) (asked : request.Asked) → rowOf (asked .ack) ≡ ackRow → requestsIn which (acksFor d rows post asked) ≡ 0
 unfolding acksFor acksOf ackOf requestsIn
-acks-silent which d rows post users =
-    either (isThere s 0) _ (ack-not which _ _ _ _ _) _ (either (isThere s 1) _ (ack-not which _ _ _ _ _) _ (last (isThere s 2) _ (ack-not which _ _ _ _ _)))
+acks-silent which d rows post asked e =
+    either (isThere s 0) _ (ack-not which _ _ _ _ _ _ e) _ (either (isThere s 1) _ (ack-not which _ _ _ _ _ _ e) _ (last (isThere s 2) _ (ack-not which _ _ _ _ _ _ e)))
   where
     s : Sorted
-    s = sortedOf (outcomesOf (d .profile .air) users rows post)
+    s = sortedOf (outcomesOf (d .profile .air) (asked .users) rows post)
 
     either : (b : Bool) (v : Value) → isRequestOf which v ≡ false → (vs : List Value) → requestsIn which vs ≡ 0 → requestsIn which (cond b (v ∷ []) [] ++ vs) ≡ 0
     either true v e vs z = let k : one (isRequestOf which v) ≡ 0 = ap one e in omega (arith, k, z)
@@ -88,7 +104,7 @@ module _ (d : Desk) (c : Call) where
   -- the messages that go with an answer
   abbrev messages : Answer → List Value
   messages x =
-      messagesFor d (take (c .count) (c .rows)) (postOf (c .event)) (usersOf (d .profile) (c .message) (c .event))
+      messagesFor d (take (c .count) (c .rows)) (postOf (c .event)) (askedOf (d .profile) (c .message) (c .event))
       (spokenOf (d .profile) (take (c .count) (c .rows)) (c .message) (c .event)) x
 
   pub written-by : (x : Answer) → stepFor d c .answer ≡ x → Written (d .profile) (entryOf d c) (messages x)
@@ -210,7 +226,7 @@ module _ (d : Desk) (w : List Waiting) (a : Along d w) (c : Call) (which at caus
       → 0 < countBy so (answered (record { identifier = meant; second = spoken d w a c .second; cause = spoken d w a c .cause }) x w) → Either
   unfolding requestsIn blank both
   by-answer (answer.Refused s) z h = quiet (answer.Refused s) z refl h
-  by-answer answer.Acks z h = quiet answer.Acks z (acks-silent which d (take (c .count) (c .rows)) (postOf (c .event)) (usersOf (d .profile) (c .message) (c .event))) h
+  by-answer answer.Acks z h = quiet answer.Acks z (acks-silent which d (take (c .count) (c .rows)) (postOf (c .event)) (askedOf (d .profile) (c .message) (c .event)) (event-ack (d .profile) (c .message) (c .event))) h
   by-answer (answer.State k) z h = quiet (answer.State k) z refl h
   by-answer answer.Free z h = quiet answer.Free z refl h
   by-answer (answer.Admitted post place) z h = begun post place z h

@@ -1,8 +1,8 @@
--- What is proved of a step, of `call` on what is lent: bytes that no message fills stay, each message is read back, and which records are
--- marked, by the identities that an ACTIVATE names. Assumes nothing.
+-- What is proved of a step, of `call` on what is lent: bytes that no message fills stay, each message is read back, and whose mark becomes
+-- what, by the identities that a request names. Assumes nothing.
 use Prim.Native.Nat.{ℕ, _<_}
-use mathlib.Core.Path.{_≡_, sym, ap, _∙_, subst}
-use mathlib.Core.Bool.{Bool, true, cond}
+use mathlib.Core.Path.{_≡_, refl, sym, ap, _∙_, subst}
+use mathlib.Core.Bool.{Bool, true, false, cond}
 use mathlib.Core.List.{List}
 use lib.Dec.{ltb}
 use lib.ListN.{length, getD, take}
@@ -13,11 +13,12 @@ use Rattle.records.specs.Records.{rowOf}
 use Rattle.records.specs.declared.Record.{Record}
 use Rattle.sending.specs.declared.Laid.{Laid}
 use Rattle.desk.specs.Outputs.{sentBy, Unfilled, ReadBack}
-use Rattle.desk.specs.Steps.{usersOf, isAcks, postOf}
+use Rattle.desk.specs.Steps.{askedOf, isAcks, postOf}
 use Rattle.desk.specs.declared.Answer.{Answer}
 use Rattle.desk.specs.declared.Desk.{Desk}
 use Rattle.desk.specs.declared.Event.{Event}
-use Rattle.desk.proofs.Marked.{marked-exactly}
+use Rattle.desk.specs.declared.marking.Asked.{Asked}
+use Rattle.desk.proofs.Marked.{marked-exactly, marked-to}
 use Rattle.desk.proofs.Outputs.{unfilled-stays, sent-read}
 use Rattle.host.specs.Lending.{loadedOf, markAs, stepOn, Called}
 use Rattle.host.specs.declared.Told.{Told}
@@ -39,16 +40,33 @@ module _ (d : Desk) (rows : List Record) (l area : List ℕ) (e : Event) (t : To
       subst (λ (x : Laid). ReadBack (d .profile) x area₁ 0 (sentBy d (loadedOf rows) (length rows) l (length area) e)) (sym laid-is)
       (subst (λ (m : List ℕ). ReadBack (d .profile) (stepOn d rows l area e .laid) m 0 (sentBy d (loadedOf rows) (length rows) l (length area) e)) (sym (c .output)) (sent-read d (loadedOf rows) (length rows) l area e))
 
-  -- record i is the one at entry, with its mark set exactly if the call is an ACTIVATE that was carried out and i, one of the first 128, is
-  -- the accepted record of one of the identities that it names
-  pub call-marks : (i : ℕ) → i < length rows
-      → rowOf rows₁ i ≡ cond (both (isAcks (t .answer)) (both (ltb i 128) (wanted (take 128 rows) (postOf e) (identitiesOf (d .profile .air) (usersOf (d .profile) l e)) i))) (markAs true (rowOf rows i)) (rowOf rows i)
+  -- the identities that it names, and the records of theirs that are accepted, among the first 128
+  abbrev asked : Asked
+  asked = askedOf (d .profile) l e
+
+  abbrev accepted : ℕ → Bool
+  accepted i = both (ltb i 128) (wanted (take 128 rows) (postOf e) (identitiesOf (d .profile .air) (asked .users)) i)
+
+  -- record i is the one at entry, with its mark as the call asks exactly if the call is a request that was carried out and i is the accepted
+  -- record of one of the identities that it names
+  pub call-marks : (i : ℕ) → i < length rows → rowOf rows₁ i ≡ cond (both (isAcks (t .answer)) (accepted i)) (markAs (asked .mark) (rowOf rows i)) (rowOf rows i)
+  unfolding both
   call-marks i h =
       marked-at d rows l area e t d₁ rows₁ area₁ c i h
-      ∙ ap (λ (b : Bool). cond b (markAs true (rowOf rows i)) (rowOf rows i))
+      ∙ ap (λ (b : Bool). cond b (markAs (stepOn d rows l area e .marks .mark) (rowOf rows i)) (rowOf rows i))
       (marked-exactly d (loadedOf rows) (length rows) l area e i
-      ∙ ap (λ (a : Answer). named a (take (length rows) (loadedOf rows))) (sym (ap (λ (x : Told). x .answer) (c .told)))
+      ∙ ap (λ (a : Answer). named a (take (length rows) (loadedOf rows))) (sym answer-is)
       ∙ ap (λ (rs : List Record). named (t .answer) rs) (loaded-lent rows))
+      ∙ go (isAcks (t .answer)) refl
     where
+      answer-is : t .answer ≡ stepOn d rows l area e .answer
+      answer-is = ap (λ (x : Told). x .answer) (c .told)
+
       named : Answer → List Record → Bool
-      named a rs = both (isAcks a) (both (ltb i 128) (wanted rs (postOf e) (identitiesOf (d .profile .air) (usersOf (d .profile) l e)) i))
+      named a rs = both (isAcks a) (both (ltb i 128) (wanted rs (postOf e) (identitiesOf (d .profile .air) (asked .users)) i))
+
+      go : (b : Bool) → isAcks (t .answer) ≡ b
+          → cond (both b (accepted i)) (markAs (stepOn d rows l area e .marks .mark) (rowOf rows i)) (rowOf rows i) ≡ cond (both b (accepted i)) (markAs (asked .mark) (rowOf rows i)) (rowOf rows i)
+      go true z =
+          ap (λ (m : Bool). cond (accepted i) (markAs m (rowOf rows i)) (rowOf rows i)) (marked-to d (loadedOf rows) (length rows) l area e (sym (ap isAcks answer-is) ∙ z))
+      go false z = refl

@@ -1,4 +1,4 @@
--- What the contract of `call` says of what is lent: a refusal leaves all of it, marks are set at the records that the step says and at no other,
+-- What the contract of `call` says of what is lent: a refusal leaves all of it, marks change at the records that the step says and at no other,
 -- and the outcome is decided. Assumes nothing.
 use Prim.Native.Nat.{ℕ, zero, suc, _<_}
 use mathlib.Core.Path.{_≡_, refl, sym, ap, _∙_}
@@ -7,7 +7,7 @@ use mathlib.Core.List.{List, [], _∷_}
 use native.Mathlib.Omega.{arith}
 use lib.ListN.{length, getD, take, replicate}
 use Rattle.codec.specs.declared.Stop.{Stop}
-use Rattle.records.specs.Marking.{unmarked, noMarks}
+use Rattle.records.specs.Marking.{unmarked, nobodyMarked, noMarks}
 use Rattle.records.specs.Records.{noRecord, rowOf}
 use Rattle.records.specs.declared.Marks.{Marks}
 use Rattle.records.specs.declared.Record.{Record}
@@ -17,28 +17,28 @@ use Rattle.desk.specs.declared.Answer.the-variants as answer
 use Rattle.desk.specs.declared.Desk.{Desk}
 use Rattle.desk.specs.declared.Event.{Event}
 use Rattle.desk.proofs.Refusals.{refused-keeps}
-use Rattle.host.specs.Lending.{firstOf, loadedOf, markAs, markedBy, stepOn, Called}
+use Rattle.host.specs.Lending.{firstOf, loadedOf, markAs, markedAs, markedBy, stepOn, Called}
 use Rattle.host.specs.declared.Told.{Told}
 
 -- ---- marks
 
--- record i, once the marks are set
-pub marked-row : (rows : List Record) (ms : List Bool) (i : ℕ) → i < length rows → rowOf (markedBy rows ms) i ≡ cond (getD ms i false) (markAs true (rowOf rows i)) (rowOf rows i)
-unfolding markedBy rowOf
-marked-row [] ms i h = absurd (omega arith)
-marked-row (r ∷ rows) [] i h = refl
-marked-row (r ∷ rows) (m ∷ ms) zero h = refl
-marked-row (r ∷ rows) (m ∷ ms) (suc i) h = marked-row rows ms i (omega arith)
+-- record i, once the marks are as they are said
+pub marked-row : (to : Bool) (rows : List Record) (ms : List Bool) (i : ℕ) → i < length rows → rowOf (markedAs to rows ms) i ≡ cond (getD ms i false) (markAs to (rowOf rows i)) (rowOf rows i)
+unfolding markedAs rowOf
+marked-row to [] ms i h = absurd (omega arith)
+marked-row to (r ∷ rows) [] i h = refl
+marked-row to (r ∷ rows) (m ∷ ms) zero h = refl
+marked-row to (r ∷ rows) (m ∷ ms) (suc i) h = marked-row to rows ms i (omega arith)
 
-nobody-marked : (rows : List Record) (n : ℕ) → markedBy rows (replicate n false) ≡ rows
-unfolding markedBy
-nobody-marked [] n = refl
-nobody-marked (r ∷ rows) zero = refl
-nobody-marked (r ∷ rows) (suc n) = ap (λ (l : List Record). r ∷ l) (nobody-marked rows n)
+nobody-marked : (to : Bool) (rows : List Record) (n : ℕ) → markedAs to rows (replicate n false) ≡ rows
+unfolding markedAs
+nobody-marked to [] n = refl
+nobody-marked to (r ∷ rows) zero = refl
+nobody-marked to (r ∷ rows) (suc n) = ap (λ (l : List Record). r ∷ l) (nobody-marked to rows n)
 
-unmarked-stay : (rows : List Record) → markedBy rows (noMarks .at) ≡ rows
-unfolding noMarks unmarked
-unmarked-stay rows = nobody-marked rows 128
+unmarked-stay : (rows : List Record) → markedBy rows noMarks ≡ rows
+unfolding noMarks nobodyMarked unmarked
+unmarked-stay rows = nobody-marked false rows 128
 
 -- ---- loading
 
@@ -71,14 +71,15 @@ module _ (d : Desk) (rows : List Record) (l area : List ℕ) (e : Event) where
         let k = refused-keeps d (loadedOf rows) (length rows) l area e s (sym (ap (λ (x : Told). x .answer) (c .told)) ∙ h) in
         record {
           desk = c .desk ∙ k .desk;
-          records = c .records ∙ ap (λ (ms : Marks). markedBy rows (ms .at)) (k .marks) ∙ unmarked-stay rows;
+          records = c .records ∙ ap (λ (ms : Marks). markedBy rows ms) (k .marks) ∙ unmarked-stay rows;
           output = c .output ∙ k .area;
           laid = ap (λ (x : Told). x .laid) (c .told) ∙ k .laid;
         }
 
-    -- record i is the one at entry, with its mark set exactly if the step says i; past 128 it says none
-    pub marked-at : (i : ℕ) → i < length rows → rowOf rows₁ i ≡ cond (getD (stepOn d rows l area e .marks .at) i false) (markAs true (rowOf rows i)) (rowOf rows i)
-    marked-at i h = ap (λ (rs : List Record). rowOf rs i) (c .records) ∙ marked-row rows (stepOn d rows l area e .marks .at) i h
+    -- record i is the one at entry, with its mark as the step says exactly if the step says i; past 128 it says none
+    pub marked-at : (i : ℕ) → i < length rows
+        → rowOf rows₁ i ≡ cond (getD (stepOn d rows l area e .marks .at) i false) (markAs (stepOn d rows l area e .marks .mark) (rowOf rows i)) (rowOf rows i)
+    marked-at i h = ap (λ (rs : List Record). rowOf rs i) (c .records) ∙ marked-row (stepOn d rows l area e .marks .mark) rows (stepOn d rows l area e .marks .at) i h
 
     -- any other outcome that the contract allows is the same
     pub decides-call : (t′ : Told) (d′ : Desk) (rows′ : List Record) (area′ : List ℕ) → Called d rows l area e t′ d′ rows′ area′ → (t ≡ t′) × ((d₁ ≡ d′) × ((rows₁ ≡ rows′) × (area₁ ≡ area′)))

@@ -8,7 +8,7 @@ use native.Mathlib.Omega.{arith}
 use lib.ListN.{length, set, getD, take, replicate}
 use Rattle.records.specs.Records.{noRecord, rowOf}
 use Rattle.records.specs.declared.Record.{Record}
-use Rattle.host.specs.Lending.{firstOf, loadedOf, markAs, markedBy}
+use Rattle.host.specs.Lending.{firstOf, loadedOf, markAs, markedAs}
 
 take-all : (rows : List Record) → take (length rows) rows ≡ rows
 take-all [] = refl
@@ -48,52 +48,53 @@ module _ (rows : List Record) where
 
 -- ---- marking
 
-marked-none : (rows : List Record) → rows ≡ markedBy rows []
-unfolding markedBy
-marked-none [] = refl
-marked-none (r ∷ rows) = refl
+marked-none : (to : Bool) (rows : List Record) → rows ≡ markedAs to rows []
+unfolding markedAs
+marked-none to [] = refl
+marked-none to (r ∷ rows) = refl
 
-marked-yes : (rows : List Record) (ms : List Bool) (i : ℕ) → getD ms i false ≡ true
-    → set (markedBy rows (take i ms)) i (markAs true (rowOf (markedBy rows (take i ms)) i)) ≡ markedBy rows (take (suc i) ms)
-unfolding markedBy rowOf
-marked-yes [] ms i h = refl
-marked-yes (r ∷ rows) [] i h = absurd (false-true h)
+marked-yes : (to : Bool) (rows : List Record) (ms : List Bool) (i : ℕ) → getD ms i false ≡ true
+    → set (markedAs to rows (take i ms)) i (markAs to (rowOf (markedAs to rows (take i ms)) i)) ≡ markedAs to rows (take (suc i) ms)
+unfolding markedAs rowOf
+marked-yes to [] ms i h = refl
+marked-yes to (r ∷ rows) [] i h = absurd (false-true h)
   where
     false-true : false ≡ true → ⊥
     false-true z = let n : _≡_ {A = ℕ} 0 1 = ap (λ (b : Bool). cond b 1 0) z in omega arith
-marked-yes (r ∷ rows) (m ∷ ms) zero h = rw (h, ← marked-none rows)
-marked-yes (r ∷ rows) (m ∷ ms) (suc i) h = ap (λ (l : List Record). cond m (markAs true r) r ∷ l) (marked-yes rows ms i h)
+marked-yes to (r ∷ rows) (m ∷ ms) zero h = rw (h, ← marked-none to rows)
+marked-yes to (r ∷ rows) (m ∷ ms) (suc i) h = ap (λ (l : List Record). cond m (markAs to r) r ∷ l) (marked-yes to rows ms i h)
 
 take-nothing : (i : ℕ) → take {A = Bool} i [] ≡ []
 take-nothing zero = refl
 take-nothing (suc i) = refl
 
-marked-no : (rows : List Record) (ms : List Bool) (i : ℕ) → getD ms i false ≡ false → markedBy rows (take i ms) ≡ markedBy rows (take (suc i) ms)
-unfolding markedBy
-marked-no [] ms i h = refl
-marked-no (r ∷ rows) [] i h = rw take-nothing
-marked-no (r ∷ rows) (m ∷ ms) zero h = rw (h, ← marked-none rows)
-marked-no (r ∷ rows) (m ∷ ms) (suc i) h = ap (λ (l : List Record). cond m (markAs true r) r ∷ l) (marked-no rows ms i h)
+marked-no : (to : Bool) (rows : List Record) (ms : List Bool) (i : ℕ) → getD ms i false ≡ false → markedAs to rows (take i ms) ≡ markedAs to rows (take (suc i) ms)
+unfolding markedAs
+marked-no to [] ms i h = refl
+marked-no to (r ∷ rows) [] i h = rw take-nothing
+marked-no to (r ∷ rows) (m ∷ ms) zero h = rw (h, ← marked-none to rows)
+marked-no to (r ∷ rows) (m ∷ ms) (suc i) h = ap (λ (l : List Record). cond m (markAs to r) r ∷ l) (marked-no to rows ms i h)
 
 take-all-marks : (ms : List Bool) → take (length ms) ms ≡ ms
 take-all-marks [] = refl
 take-all-marks (m ∷ ms) = ap (λ (l : List Bool). m ∷ l) (take-all-marks ms)
 
-pub length-marked : (rows : List Record) (ms : List Bool) → length (markedBy rows ms) ≡ length rows
-unfolding markedBy
-length-marked [] ms = refl
-length-marked (r ∷ rows) [] = refl
-length-marked (r ∷ rows) (m ∷ ms) = ap suc (length-marked rows ms)
+module _ (to : Bool) where
+  pub length-marked : (rows : List Record) (ms : List Bool) → length (markedAs to rows ms) ≡ length rows
+  unfolding markedAs
+  length-marked [] ms = refl
+  length-marked (r ∷ rows) [] = refl
+  length-marked (r ∷ rows) (m ∷ ms) = ap suc (length-marked rows ms)
 
-module _ (rows : List Record) (ms : List Bool) where
-  pub mark-none : rows ≡ markedBy rows (take 0 ms)
-  mark-none = marked-none rows
+  module _ (rows : List Record) (ms : List Bool) where
+    pub mark-none : rows ≡ markedAs to rows (take 0 ms)
+    mark-none = marked-none to rows
 
-  pub mark-yes : (i : ℕ) → getD ms i false ≡ true → set (markedBy rows (take i ms)) i (markAs true (rowOf (markedBy rows (take i ms)) i)) ≡ markedBy rows (take (i + 1) ms)
-  mark-yes i h = rw (add-one, marked-yes rows ms i h)
+    pub mark-yes : (i : ℕ) → getD ms i false ≡ true → set (markedAs to rows (take i ms)) i (markAs to (rowOf (markedAs to rows (take i ms)) i)) ≡ markedAs to rows (take (i + 1) ms)
+    mark-yes i h = rw (add-one, marked-yes to rows ms i h)
 
-  pub mark-no : (i : ℕ) → getD ms i false ≡ false → markedBy rows (take i ms) ≡ markedBy rows (take (i + 1) ms)
-  mark-no i h = rw (add-one, marked-no rows ms i h)
+    pub mark-no : (i : ℕ) → getD ms i false ≡ false → markedAs to rows (take i ms) ≡ markedAs to rows (take (i + 1) ms)
+    mark-no i h = rw (add-one, marked-no to rows ms i h)
 
-  pub mark-all : (i : ℕ) → i ≡ 128 → length ms ≡ 128 → markedBy rows (take i ms) ≡ markedBy rows ms
-  mark-all i e n = ap (λ (k : ℕ). markedBy rows (take k ms)) (e ∙ sym n) ∙ ap (markedBy rows) (take-all-marks ms)
+    pub mark-all : (i : ℕ) → i ≡ 128 → length ms ≡ 128 → markedAs to rows (take i ms) ≡ markedAs to rows ms
+    mark-all i e n = ap (λ (k : ℕ). markedAs to rows (take k ms)) (e ∙ sym n) ∙ ap (markedAs to rows) (take-all-marks ms)

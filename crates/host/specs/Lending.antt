@@ -1,10 +1,11 @@
 -- What is lent for one call, and what a call leaves of it. The step itself is desk's `stepOf`.
 use Prim.Native.Nat.{ℕ, zero, suc}
 use mathlib.Core.Path.{_≡_}
-use mathlib.Core.Bool.{Bool, true, cond}
+use mathlib.Core.Bool.{Bool, cond}
 use mathlib.Core.List.{List, [], _∷_}
 use lib.ListN.{length, set}
 use Rattle.records.specs.Records.{noRecord, rowOf}
+use Rattle.records.specs.declared.Marks.{Marks}
 use Rattle.records.specs.declared.Record.{Record}
 use Rattle.desk.specs.Steps.{stepOf, areaAfter}
 use Rattle.desk.specs.declared.Desk.{Desk}
@@ -33,11 +34,14 @@ markAs m r = record { in_use = r .in_use; ssi = r .ssi; extension = r .extension
 abbrev pub setMark : List Record → ℕ → Bool → List Record
 setMark rows i m = set rows i (markAs m (rowOf rows i))
 
--- the marks that are said are set; a record past the last of them stays
-unfoldable pub markedBy : List Record → List Bool → List Record
-markedBy [] ms = []
-markedBy (r ∷ rows) [] = r ∷ rows
-markedBy (r ∷ rows) (m ∷ ms) = cond m (markAs true r) r ∷ markedBy rows ms
+-- the marks that are said become this; a record past the last of them stays
+unfoldable pub markedAs : Bool → List Record → List Bool → List Record
+markedAs to [] ms = []
+markedAs to (r ∷ rows) [] = r ∷ rows
+markedAs to (r ∷ rows) (m ∷ ms) = cond m (markAs to r) r ∷ markedAs to rows ms
+
+abbrev pub markedBy : List Record → Marks → List Record
+markedBy rows ms = markedAs (ms .mark) rows (ms .at)
 
 -- ---- the call
 
@@ -53,5 +57,5 @@ stepOn d rows l area e = stepOf d (loadedOf rows) (length rows) l area e
 pub record Called (d : Desk) (rows : List Record) (l area : List ℕ) (e : Event) (t : Told) (d₁ : Desk) (rows₁ : List Record) (area₁ : List ℕ) : Type 0 where
   pub told : t ≡ toldOf (stepOn d rows l area e)
   pub desk : d₁ ≡ stepOn d rows l area e .desk
-  pub records : rows₁ ≡ markedBy rows (stepOn d rows l area e .marks .at)
+  pub records : rows₁ ≡ markedBy rows (stepOn d rows l area e .marks)
   pub output : area₁ ≡ areaAfter d (loadedOf rows) (length rows) l area e

@@ -85,17 +85,25 @@ fn told_of(s: Stepped) -> Told
     }
 }
 
-// The records whose mark is said are marked.
+// The mark of each record that is said becomes what is said.
 fn set_marks(records: &mut [Record], marks: Marks)
-    ensures { λ _. ⌜ now (records .exit) ≡ markedBy (now (records .entry)) (marks .at) ⌝ }
+    ensures { λ _. ⌜ now (records .exit) ≡ markedBy (now (records .entry)) marks ⌝ }
 {
+    let mark = mark_of(marks);
     let mut i = 0;
     while i < Profile::RECORDS {
         if says(marks, i) {
-            set_mark(records, i, true);
+            set_mark(records, i, mark);
         }
         i += 1;
     }
+}
+
+// What it becomes: taken out by a function of its own, as the parts of a step.
+fn mark_of(marks: Marks) -> bool
+    ensures { λ r. ⌜ r ≡ marks .mark ⌝ }
+{
+    marks.mark
 }
 
 // The mark of record i is said.

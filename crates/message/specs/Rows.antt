@@ -68,13 +68,17 @@ ofRequest =
     part.User 0 ∷ part.User 1 ∷ part.Number place.mni ∷ part.Number place.callingArea ∷ part.Number place.calledArea
     ∷ part.Number place.callingService ∷ part.Number place.calledService ∷ []
 
+-- what every ACK has: the request's users, a mask, a result
+abbrev pub ackRow : Row
+ackRow = row (users ∷ masked ∷ result ∷ []) []
+
 -- document 01's table and those of document 02, by PDU type
 unfoldable pub table : List (ℕ × Row)
 table =
     -- ACTIVATE
     (2, row (users ∷ []) (dispatchers ∷ []))
     -- ACTIVATE ACK
-    ∷ (3, row (users ∷ masked ∷ result ∷ []) [])
+    ∷ (3, ackRow)
     -- INTERROGATE
     ∷ (8, row (user ∷ []) [])
     -- INTERCEPTED

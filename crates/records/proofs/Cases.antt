@@ -19,7 +19,7 @@ use Rattle.records.specs.declared.Identity.{Identity}
 use Rattle.records.specs.Identities.{identityOf, later, identityIn, identityAt, countOf, each, identitiesOf}
 use Rattle.records.specs.Records.{noRecord, rowOf, is, recordFrom, recordOf, recordOk, allOk, recordsOk, stateOf, restricts, partyOf, restrictedOf}
 use Rattle.records.specs.Outcomes.{outcomeOf, outcomesOf, has, maskOf, someOf, sortedOf}
-use Rattle.records.specs.Marking.{acceptedOf, unmarked, noMarks, withMark, markAll, marksOf}
+use Rattle.records.specs.Marking.{acceptedOf, unmarked, nobodyMarked, withMark, markAll, marksOf}
 
 -- the last argument is what it must be
 pub data Case : Type 0 where
@@ -39,7 +39,7 @@ pub data Case : Type 0 where
 abbrev pub gives : Case → List ℕ
 gives (outcomes air rows post g w) = outcomesOf air g rows post
 gives (masks air rows post g w) = list.map one (sortedOf (outcomesOf air g rows post) .some) ++ sortedOf (outcomesOf air g rows post) .mask
-gives (marks air rows post g w) = list.map one (take 4 (marksOf rows post (identitiesOf air g) .at))
+gives (marks air rows post g w) = list.map one (take 4 (marksOf true rows post (identitiesOf air g) .at))
 gives (many air g w) = length (identitiesOf air g) ∷ []
 gives (state air rows post a w) = stateOf rows post (identityOf air a) ∷ []
 gives (party rows a b w) = one (restrictedOf rows (a ∷ b ∷ []) .found) ∷ restrictedOf rows (a ∷ b ∷ []) .post ∷ []
@@ -195,5 +195,5 @@ cases =
     ∷ []
 
 pub cases-right : list.map gives cases ≡ list.map wants cases
-unfolding fieldAt both meaningIn sample sampleMeanings nobodies spanIn spanOf identityOf later identityIn identityAt countOf each identitiesOf rowOf is recordFrom recordOf recordOk allOk recordsOk stateOf restricts partyOf restrictedOf outcomeOf outcomesOf has maskOf someOf sortedOf acceptedOf unmarked noMarks withMark markAll marksOf
+unfolding fieldAt both meaningIn sample sampleMeanings nobodies spanIn spanOf identityOf later identityIn identityAt countOf each identitiesOf rowOf is recordFrom recordOf recordOk allOk recordsOk stateOf restricts partyOf restrictedOf outcomeOf outcomesOf has maskOf someOf sortedOf acceptedOf unmarked nobodyMarked withMark markAll marksOf
 cases-right = refl

@@ -1,6 +1,6 @@
 -- The walk over the identities that marks records, and what it leaves. Assumes nothing.
 use Prim.Native.Nat.{ℕ, _+_, _<_, _≤_}
-use mathlib.Core.Path.{_≡_, refl, sym, _∙_}
+use mathlib.Core.Path.{_≡_, refl, sym, ap, _∙_}
 use mathlib.Core.Bool.{Bool, true, false, _||_, or-true, or-false, or-assoc}
 use mathlib.Core.List.{List, [], _∷_}
 use mathlib.Core.Logic.{⊎-elim}
@@ -19,7 +19,7 @@ use Rattle.records.specs.declared.search.Found.{Found}
 use Rattle.records.specs.declared.search.Found.the-variants as found
 use Rattle.records.specs.Identities.{noIdentity, identityAt, countOf, identitiesOf}
 use Rattle.records.specs.Records.{rowOf, recordOf}
-use Rattle.records.specs.Marking.{acceptedOf, unmarked, noMarks, withBy, withMark, markAll, marksOf, isAt, wanted}
+use Rattle.records.specs.Marking.{acceptedOf, unmarked, nobodyMarked, withBy, withMark, markAll, marksOf, isAt, wanted}
 use Rattle.records.proofs.IdentityLaws.{length-identities, identities-at}
 
 -- ---- the accepted record of an identity
@@ -40,26 +40,26 @@ module _ (f : Found) (rows : List Record) (id : Identity) (v : f ≡ recordOf ro
 
 -- ---- one more mark
 
-pub no-place : (at : List Bool) (i : ℕ) → length at ≤ i → at ≡ set at i true
-no-place at i h = sym (set-out at i true h)
+pub no-place : (at : List Bool) (i : ℕ) (to : Bool) → length at ≤ i → _≡_ {A = Marks} (record { at = at; mark = to }) (record { at = set at i true; mark = to })
+no-place at i to h = ap (λ (l : List Bool). record { at = l; mark = to }) (sym (set-out at i true h))
 
 pub with-none : (ms : Marks) (f : Found) → f ≡ found.Nobody → ms ≡ withMark ms f
 unfolding withMark
 with-none ms f e = rw e
 
-pub with-at : (ms r : Marks) (f : Found) (i : ℕ) → f ≡ found.At i → r .at ≡ set (ms .at) i true → r ≡ withMark ms f
+pub with-at : (ms r : Marks) (f : Found) (i : ℕ) → f ≡ found.At i → r ≡ record { at = set (ms .at) i true; mark = ms .mark } → r ≡ withMark ms f
 unfolding withMark
-with-at ms r f i e h = rw (e, ← h)
+with-at ms r f i e h = rw e h
 
 -- ---- the walk: what is left at identity i
 
 unfoldable pub marksLeft : Air → Group → List Record → ℕ → Marks → ℕ → Marks
 marksLeft air g rows post ms i = markAll rows post ms (drop i (identitiesOf air g))
 
-pub marks-start : (air : Air) (g : Group) (rows : List Record) (post : ℕ) (ms : Marks) → ms ≡ noMarks
-    → marksOf rows post (identitiesOf air g) ≡ marksLeft air g rows post ms 0
+pub marks-start : (air : Air) (g : Group) (rows : List Record) (post : ℕ) (to : Bool) (ms : Marks) → ms ≡ nobodyMarked to
+    → marksOf to rows post (identitiesOf air g) ≡ marksLeft air g rows post ms 0
 unfolding marksOf marksLeft
-marks-start air g rows post ms e = rw e
+marks-start air g rows post to ms e = rw e
 
 module _ (x : Marks) (air : Air) (g : Group) (rows : List Record) (post : ℕ) (ms : Marks) (i : ℕ) (v : x ≡ marksLeft air g rows post ms i) (n : ℕ) (m : n ≡ countOf air g) where
   pub marks-more : (id : Identity) (f : Found) (next : Marks) → i < n → id ≡ identityAt air g i → f ≡ acceptedOf rows post id → next ≡ withMark ms f
@@ -97,6 +97,17 @@ all-at rows post ms (id ∷ ids) j h =
     all-at rows post (withMark ms (acceptedOf rows post id)) ids j (rw (one-length (ms .at) (acceptedOf rows post id)) h)
     ∙ rw (one-at (ms .at) (acceptedOf rows post id) j h) (or-assoc (getD (ms .at) j false) (isAt j (acceptedOf rows post id)) (wanted rows post ids j))
 
-pub marks-at : (rows : List Record) (post : ℕ) (ids : List Identity) (j : ℕ) → j < 128 → getD (marksOf rows post ids .at) j false ≡ wanted rows post ids j
-unfolding marksOf noMarks unmarked
-marks-at rows post ids j h = all-at rows post noMarks ids j (rw (length-replicate 128 false) h) ∙ rw (getD-replicate 128 j false false h) refl
+pub marks-at : (to : Bool) (rows : List Record) (post : ℕ) (ids : List Identity) (j : ℕ) → j < 128 → getD (marksOf to rows post ids .at) j false ≡ wanted rows post ids j
+unfolding marksOf nobodyMarked unmarked
+marks-at to rows post ids j h = all-at rows post (nobodyMarked to) ids j (rw (length-replicate 128 false) h) ∙ rw (getD-replicate 128 j false false h) refl
+
+-- ---- marks-to: and it becomes what was said
+
+all-to : (rows : List Record) (post : ℕ) (ms : Marks) (ids : List Identity) → markAll rows post ms ids .mark ≡ ms .mark
+unfolding markAll withMark
+all-to rows post ms [] = refl
+all-to rows post ms (id ∷ ids) = all-to rows post (withMark ms (acceptedOf rows post id)) ids
+
+pub marks-to : (to : Bool) (rows : List Record) (post : ℕ) (ids : List Identity) → marksOf to rows post ids .mark ≡ to
+unfolding marksOf nobodyMarked
+marks-to to rows post ids = all-to rows post (nobodyMarked to) ids

@@ -1,4 +1,4 @@
--- Which records ACTIVATE marks: those of the accepted identities. What a mark becomes is not said here.
+-- Whose mark ACTIVATE or DEACTIVATE changes: the records of the accepted identities. What the mark becomes, `to`, is handed on.
 use Prim.Native.Nat.{ℕ}
 use mathlib.Core.Bool.{Bool, true, false, cond, _||_}
 use mathlib.Core.List.{List, [], _∷_}
@@ -23,8 +23,12 @@ acceptedOf rows post id = acceptedBy rows post (recordOf rows id)
 unfoldable pub unmarked : List Bool
 unmarked = replicate 128 false
 
+unfoldable pub nobodyMarked : Bool → Marks
+nobodyMarked to = record { at = unmarked; mark = to }
+
+-- what a call says that changes no mark
 unfoldable pub noMarks : Marks
-noMarks = record { at = unmarked }
+noMarks = nobodyMarked false
 
 abbrev pub withBy : List Bool → Found → List Bool
 withBy at found.Nobody = at
@@ -32,14 +36,14 @@ withBy at (found.At i) = set at i true
 
 -- one more record
 unfoldable pub withMark : Marks → Found → Marks
-withMark ms f = record { at = withBy (ms .at) f }
+withMark ms f = record { at = withBy (ms .at) f; mark = ms .mark }
 
 unfoldable pub markAll : List Record → ℕ → Marks → List Identity → Marks
 markAll rows post ms [] = ms
 markAll rows post ms (id ∷ ids) = markAll rows post (withMark ms (acceptedOf rows post id)) ids
 
-unfoldable pub marksOf : List Record → ℕ → List Identity → Marks
-marksOf rows post ids = markAll rows post noMarks ids
+unfoldable pub marksOf : Bool → List Record → ℕ → List Identity → Marks
+marksOf to rows post ids = markAll rows post (nobodyMarked to) ids
 
 -- ---- record by record
 

@@ -1,5 +1,5 @@
 // The user records, by value (document 01, "User records and waiting calls"): the record of an identity, and what a call learns from
-// the records. ACTIVATE gets the masks of its outcomes and which records to mark, INTERROGATE a state, set-up the restricted party's post.
+// the records. ACTIVATE and DEACTIVATE get the masks of their outcomes and which records to mark, INTERROGATE a state, set-up the restricted party's post.
 //
 // `rows` has room for 128 records; the first `count` are lent, and the others are never looked at. Every function takes every input,
 // also records that refusal 15 would name. The files go from small to large: identities, search, outcome, mark.
@@ -47,9 +47,10 @@ pub struct Sorted {
     pub mask: [u64; 3],
 }
 
-// Which records are marked.
+// Which records' mark is changed, and what it becomes.
 pub struct Marks {
     pub at: [bool; 128],
+    pub mark: bool,
 }
 
 // The ground of refusal 15 does not hold: at most 128 are lent, and each in use has a post below `posts` and numbers of 24 bits.
@@ -94,7 +95,7 @@ pub fn second(rows: [Record; 128], count: usize, caller: Identity, called: Ident
     other
 }
 
-// The outcomes of the group's identities for ACTIVATE from a post, sorted.
+// The outcomes of the group's identities for ACTIVATE or DEACTIVATE from a post, sorted.
 pub fn sorted_of(air: Air, group: Group, rows: [Record; 128], count: usize, post: u8) -> Sorted
     ensures { λ r. ⌜ r ≡ sortedOf (outcomesOf air group (take count rows) post) ⌝ }
 {
@@ -104,12 +105,19 @@ pub fn sorted_of(air: Air, group: Group, rows: [Record; 128], count: usize, post
     outcome::sort(list, n)
 }
 
-// The records that ACTIVATE from a post marks: those of the accepted identities.
-pub fn marks_of(air: Air, group: Group, rows: [Record; 128], count: usize, post: u8) -> Marks
-    ensures { λ r. ⌜ r ≡ marksOf (take count rows) post (identitiesOf air group) ⌝ }
+// The records whose mark becomes `to` by ACTIVATE or DEACTIVATE from a post: those of the accepted identities.
+pub fn marks_of(
+    air: Air,
+    group: Group,
+    rows: [Record; 128],
+    count: usize,
+    post: u8,
+    to: bool,
+) -> Marks
+    ensures { λ r. ⌜ r ≡ marksOf to (take count rows) post (identitiesOf air group) ⌝ }
 {
     let n = identities::count_of(air, group);
-    let mut marks = no_marks();
+    let mut marks = mark::nobody_marked(to);
     let mut i: usize = 0;
     while i < n {
         let id = identities::identity_at(air, group, i);
@@ -119,9 +127,9 @@ pub fn marks_of(air: Air, group: Group, rows: [Record; 128], count: usize, post:
     marks
 }
 
-// None is marked.
+// None is changed.
 pub fn no_marks() -> Marks
     ensures { λ r. ⌜ r ≡ noMarks ⌝ }
 {
-    Marks { at: [false; 128] }
+    mark::nobody_marked(false)
 }

@@ -1,8 +1,8 @@
-// Which records ACTIVATE marks.
+// Whose mark ACTIVATE or DEACTIVATE changes.
 ghost use mathlib.Core.Path.{_≡_};
 ghost use mathlib.Core.Bool.{true};
 ghost use lib.ListN.{take, set};
-ghost use Rattle.records.specs.Marking.{acceptedOf, withMark};
+ghost use Rattle.records.specs.Marking.{acceptedOf, nobodyMarked, withMark};
 use crate::Identity;
 use crate::Marks;
 use crate::Record;
@@ -26,7 +26,16 @@ pub(crate) fn accepted(rows: [Record; 128], count: usize, post: u8, id: Identity
     }
 }
 
-// One more record is marked, if there is one.
+pub(crate) fn nobody_marked(to: bool) -> Marks
+    ensures { λ r. ⌜ r ≡ nobodyMarked to ⌝ }
+{
+    Marks {
+        at: [false; 128],
+        mark: to,
+    }
+}
+
+// One more record, if there is one.
 pub(crate) fn with_mark(marks: Marks, found: Found) -> Marks
     ensures { λ r. ⌜ r ≡ withMark marks found ⌝ }
 {
@@ -34,19 +43,19 @@ pub(crate) fn with_mark(marks: Marks, found: Found) -> Marks
         Found::Nobody => marks,
         Found::At(i) => {
             let at = marks.at;
-            set_mark(at, i)
+            set_mark(at, i, marks.mark)
         }
     }
 }
 
 // A number past the last record changes nothing.
-fn set_mark(at: [bool; 128], i: usize) -> Marks
-    ensures { λ r. ⌜ r .at ≡ set at i true ⌝ }
+fn set_mark(at: [bool; 128], i: usize, to: bool) -> Marks
+    ensures { λ r. ⌜ r ≡ record { at = set at i true; mark = to } ⌝ }
 {
     if i < Profile::RECORDS {
         let mut next = at;
         next[i] = true;
-        return Marks { at: next };
+        return Marks { at: next, mark: to };
     }
-    Marks { at: at }
+    Marks { at: at, mark: to }
 }

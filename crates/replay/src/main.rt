@@ -393,24 +393,25 @@ fn after(state: State, stepped: Stepped) -> State {
 
 fn with_marks(rows: [Record; 128], marks: Marks) -> Rows {
     let at = marks.at;
+    let mark = marks.mark;
     let mut row = rows;
     let mut i: usize = 0;
     while i < 128 {
         let r = row[i];
-        row[i] = marked_if(r, at[i]);
+        row[i] = marked_if(r, at[i], mark);
         i += 1;
     }
     Rows { row: row }
 }
 
-fn marked_if(r: Record, mark: bool) -> Record {
-    if mark {
+fn marked_if(r: Record, said: bool, mark: bool) -> Record {
+    if said {
         return Record {
             in_use: r.in_use,
             ssi: r.ssi,
             extension: r.extension,
             post: r.post,
-            active: true,
+            active: mark,
         };
     }
     r

@@ -1,13 +1,13 @@
 -- What the desk sends can be sent: its ACKs, of a valid request, and the messages that say nothing but their type. Assumes nothing.
 use Prim.Native.Nat.{ℕ, zero, suc, _+_, _≤_, _<_, min}
-use mathlib.Core.Path.{_≡_, refl, sym, subst}
+use mathlib.Core.Path.{_≡_, refl, sym, ap, _∙_, subst}
 use mathlib.Core.Bool.{Bool, true, false, cond}
 use mathlib.Core.List.{List, [], _∷_, _++_}
 use native.Mathlib.Omega.{arith}
 use lib.ListN.{length, length-append}
 use Rattle.bits.proofs.PutLaws.{length-binary}
 use borrow.Author.Tests.{lt-ltb, ne-eqb, leb-true}
-use Rattle.codec.specs.Codec.{both, number}
+use Rattle.codec.specs.Codec.{Codec, both, number}
 use Rattle.codec.specs.Options.{flag}
 use Rattle.codec.proofs.Good.{both-true, both-left, both-right}
 use Rattle.profile.specs.Rules.{airOk, profileOk}
@@ -16,16 +16,17 @@ use Rattle.message.specs.Numbers.{elements, elementOf, widths, widthOf}
 use Rattle.message.specs.Groups.{groupC, spanOf, noGroup, nobodies}
 use Rattle.message.specs.Acks.{maskC, maskedC, resultC}
 use Rattle.message.specs.Values.{blank, sameBools, sameNumbers, sameAddress, sameAddresses, sameGroup, sameValue}
-use Rattle.message.specs.Rows.{table, rowIn, rowOf, partsC, puts, gets, putOptions, getOptions, eachC, optionsC, firstParts, partsOf, optionsOf}
+use Rattle.message.specs.Rows.{ackRow, table, rowIn, rowOf, partsC, puts, gets, putOptions, getOptions, eachC, optionsC, firstParts, partsOf, optionsOf}
 use Rattle.message.specs.Messages.{holdsJust, bodyC, isCarried, headerC, messageC}
 use Rattle.message.proofs.GroupLaws.{few-identities}
 use Rattle.message.proofs.ValueLaws.{value-self}
 use Rattle.message.specs.declared.Group.{Group}
+use Rattle.message.specs.declared.Row.{Row}
 use Rattle.message.specs.declared.Value.{Value}
 use Rattle.validity.specs.Validity.{validOf}
 use Rattle.validity.proofs.ValidLaws.{carried-ok}
 use Rattle.writing.specs.Writing.{bitsOf}
-use Rattle.writing.proofs.LengthLaws.{ack-bytes-most}
+use Rattle.writing.proofs.LengthLaws.{ack-body, ack-bytes-most}
 use Rattle.records.specs.declared.Sorted.{Sorted}
 use Rattle.sending.specs.Acks.{isThere, maskAt, resultOf, reasonOf, severalIn, ackV, ackOf, acksOf}
 use Rattle.sending.proofs.SentLaws.{Sends, AllSend}
@@ -51,9 +52,10 @@ module _ (p : Profile) (passes : profileOk p ≡ true) where
 
 -- ---- the ACKs
 
-carried-3 : isCarried 3 ≡ true
-unfolding isCarried rowOf rowIn table
-carried-3 = refl
+-- a type whose row is an ACK's is carried
+ack-carried : (t : ℕ) → rowOf t ≡ ackRow → isCarried t ≡ true
+unfolding isCarried
+ack-carried t e = ap (λ (r : Row). r .carried) e
 
 -- the result and the reason of a class
 result-valid : (p : Profile) → profileOk p ≡ true → (class : ℕ) → resultC .ok (resultOf class, reasonOf (p .air) class) ≡ true
@@ -70,63 +72,68 @@ unfolding maskedC flag number both
 masked-valid n true m e = e
 masked-valid n false m e = refl
 
-ack-pdu-is : (users : Group) (b : Bool) (m r w : ℕ) → ackV users b m r w .pdu ≡ 3
+-- of type t, whatever it is: the type of a value is the one that it was made of
+ack-pdu-is : (t : ℕ) (users : Group) (b : Bool) (m r w : ℕ) → ackV t users b m r w .pdu ≡ t
 unfolding ackV blank
-ack-pdu-is users b m r w = refl
+ack-pdu-is t users b m r w = refl
 
 -- an ACK holds its three parts and nothing else
-ack-holds : (users : Group) (b : Bool) (m r w : ℕ) → holdsJust 3 (partsOf (rowOf 3)) (optionsOf (rowOf 3)) (ackV users b m r w) ≡ true
-unfolding ackV rowOf rowIn table firstParts gets puts getOptions putOptions blank
-ack-holds users b m r w = value-self (ackV users b m r w)
+ack-holds : (t : ℕ) (users : Group) (b : Bool) (m r w : ℕ) → holdsJust t (partsOf ackRow) (optionsOf ackRow) (ackV t users b m r w) ≡ true
+unfolding ackV firstParts gets puts getOptions putOptions blank
+ack-holds t users b m r w = value-self (ackV t users b m r w)
 
-ack-valid : (p : Profile) → profileOk p ≡ true → (users : Group) → groupC (p .air) false .ok users ≡ true → (b : Bool) (m : ℕ) → maskC (spanOf (p .air) users) .ok m ≡ true
-    → (class : ℕ) → validOf (p .air) (ackV users b (cond b m 0) (resultOf class) (reasonOf (p .air) class)) ≡ true
-unfolding validOf messageC bodyC ackV rowOf rowIn table firstParts gets getOptions partsC optionsC blank
-ack-valid p passes users g b m e class =
-    let few : min (spanOf (p .air) users) 64 ≡ spanOf (p .air) users = omega (arith, few-identities (p .air) false users g) in
-    both-true true _ refl
-    (both-true _ _ (carried-ok (p .air .ss) 3 (omega (arith, ss-most p passes)) carried-3)
-    (both-true _ _ (ack-holds users b (cond b m 0) (resultOf class) (reasonOf (p .air) class))
-    (both-true _ _
-    (both-true _ _ g (both-true _ _ (subst (λ (n : ℕ). maskedC n .ok (b, cond b m 0) ≡ true) (sym few) (masked-valid (spanOf (p .air) users) b m e)) (both-true _ _ (result-valid p passes class) refl)))
-    refl)))
+module _ (p : Profile) (passes : profileOk p ≡ true) (t : ℕ) (is : rowOf t ≡ ackRow) where
+  ack-valid : (users : Group) → groupC (p .air) false .ok users ≡ true → (b : Bool) (m : ℕ) → maskC (spanOf (p .air) users) .ok m ≡ true
+      → (class : ℕ) → validOf (p .air) (ackV t users b (cond b m 0) (resultOf class) (reasonOf (p .air) class)) ≡ true
+  unfolding validOf messageC ackV firstParts gets getOptions partsC optionsC blank
+  ack-valid users g b m e class =
+      let few : min (spanOf (p .air) users) 64 ≡ spanOf (p .air) users = omega (arith, few-identities (p .air) false users g) in
+      let v = ackV t users b (cond b m 0) (resultOf class) (reasonOf (p .air) class) in
+      both-true true _ refl
+      (both-true _ _ (carried-ok (p .air .ss) t (omega (arith, ss-most p passes)) (ack-carried t is))
+      (subst (λ (c : Codec Value). c .ok v ≡ true) (sym (ack-body (p .air) t is))
+      (both-true _ _ (ack-holds t users b (cond b m 0) (resultOf class) (reasonOf (p .air) class))
+      (both-true _ _
+      (both-true _ _ g (both-true _ _ (subst (λ (n : ℕ). maskedC n .ok (b, cond b m 0) ≡ true) (sym few) (masked-valid (spanOf (p .air) users) b m e)) (both-true _ _ (result-valid p passes class) refl)))
+      refl))))
 
 -- ---- what is sent of a request
 
--- a group that was read, and masks of its identities
-pub record Request (p : Profile) (users : Group) (s : Sorted) : Type 0 where
+-- the type of an ACK, a group that was read, and masks of its identities
+pub record Request (p : Profile) (t : ℕ) (users : Group) (s : Sorted) : Type 0 where
+  pub ack : rowOf t ≡ ackRow
   pub valid : groupC (p .air) false .ok users ≡ true
   pub masks : (class : ℕ) → class < 3 → maskC (spanOf (p .air) users) .ok (maskAt s class) ≡ true
 
-module _ (p : Profile) (passes : profileOk p ≡ true) (users : Group) (s : Sorted) (r : Request p users s) where
-  ack-sends : (class : ℕ) → class < 3 → Sends p (ackOf (p .air) users s class)
+module _ (p : Profile) (passes : profileOk p ≡ true) (t : ℕ) (users : Group) (s : Sorted) (r : Request p t users s) where
+  ack-sends : (class : ℕ) → class < 3 → Sends p (ackOf (p .air) t users s class)
   unfolding ackOf
   ack-sends class h =
-      let ok = ack-valid p passes users (r .valid) (severalIn (s .some)) (maskAt s class) (r .masks class h) class in
-      record { valid = ok; short = omega (arith, ack-bytes-most (p .air) _ ok (ack-pdu-is _ _ _ _ _)) }
+      let ok = ack-valid p passes t (r .ack) users (r .valid) (severalIn (s .some)) (maskAt s class) (r .masks class h) class in
+      record { valid = ok; short = omega (arith, ack-bytes-most (p .air) _ ok (ap rowOf (ack-pdu-is t _ _ _ _ _) ∙ r .ack)) }
 
-  ack-if-sends : (class : ℕ) → class < 3 → (b : Bool) (vs : List Value) → AllSend p vs → AllSend p (cond b (ackOf (p .air) users s class ∷ []) [] ++ vs)
+  ack-if-sends : (class : ℕ) → class < 3 → (b : Bool) (vs : List Value) → AllSend p vs → AllSend p (cond b (ackOf (p .air) t users s class ∷ []) [] ++ vs)
   ack-if-sends class h true vs all = (ack-sends class h, all)
   ack-if-sends class h false vs all = all
 
-  ack-if-few : (class : ℕ) (b : Bool) (vs : List Value) (n : ℕ) → length vs ≤ n → length (cond b (ackOf (p .air) users s class ∷ []) [] ++ vs) ≤ n + 1
+  ack-if-few : (class : ℕ) (b : Bool) (vs : List Value) (n : ℕ) → length vs ≤ n → length (cond b (ackOf (p .air) t users s class ∷ []) [] ++ vs) ≤ n + 1
   ack-if-few class true vs n h = omega arith
   ack-if-few class false vs n h = omega arith
 
-  last-sends : (b : Bool) → AllSend p (cond b (ackOf (p .air) users s 2 ∷ []) [])
+  last-sends : (b : Bool) → AllSend p (cond b (ackOf (p .air) t users s 2 ∷ []) [])
   last-sends true = (ack-sends 2 (omega arith), tt)
   last-sends false = tt
 
-  last-few : (b : Bool) → length (cond b (ackOf (p .air) users s 2 ∷ []) []) ≤ 1
+  last-few : (b : Bool) → length (cond b (ackOf (p .air) t users s 2 ∷ []) []) ≤ 1
   last-few true = omega arith
   last-few false = omega arith
 
-  pub acks-send : AllSend p (acksOf (p .air) users s)
+  pub acks-send : AllSend p (acksOf (p .air) t users s)
   unfolding acksOf
   acks-send = ack-if-sends 0 (omega arith) (isThere s 0) _ (ack-if-sends 1 (omega arith) (isThere s 1) _ (last-sends (isThere s 2)))
 
   -- at most three
-  pub acks-few : length (acksOf (p .air) users s) ≤ 3
+  pub acks-few : length (acksOf (p .air) t users s) ≤ 3
   unfolding acksOf
   acks-few = ack-if-few 0 (isThere s 0) _ 2 (ack-if-few 1 (isThere s 1) _ 1 (last-few (isThere s 2)))
 

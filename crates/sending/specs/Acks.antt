@@ -1,4 +1,4 @@
--- The ACTIVATE ACKs of a request: one for each different outcome, in the order accepted, U, N. Each repeats the request's users. With one
+-- The ACKs of a request, of the type that answers it: one for each different outcome, in the order accepted, U, N. Each repeats the request's users. With one
 -- outcome the mask is absent; with several each mask has a one just at the identities with that outcome.
 use Prim.Native.Nat.{ℕ, _+_}
 use mathlib.Core.Bool.{Bool, false, cond}
@@ -32,15 +32,15 @@ reasonOf air class = cond (eqb class 0) 0 (cond (eqb class 1) (air .unknown) (ai
 unfoldable pub severalIn : List Bool → Bool
 severalIn some = ltb 1 (one (getD some 0 false) + one (getD some 1 false) + one (getD some 2 false))
 
--- an ACTIVATE ACK with these contents
-unfoldable pub ackV : Group → Bool → ℕ → ℕ → ℕ → Value
-ackV users masked mask result reason = put part.Result (result, reason) (withMask masked mask (withUsers users (blank 3)))
+-- an ACK of type t with these contents
+unfoldable pub ackV : ℕ → Group → Bool → ℕ → ℕ → ℕ → Value
+ackV t users masked mask result reason = put part.Result (result, reason) (withMask masked mask (withUsers users (blank t)))
 
-unfoldable pub ackOf : Air → Group → Sorted → ℕ → Value
-ackOf air users s class = ackV users (severalIn (s .some)) (cond (severalIn (s .some)) (maskAt s class) 0) (resultOf class) (reasonOf air class)
+unfoldable pub ackOf : Air → ℕ → Group → Sorted → ℕ → Value
+ackOf air t users s class = ackV t users (severalIn (s .some)) (cond (severalIn (s .some)) (maskAt s class) 0) (resultOf class) (reasonOf air class)
 
-abbrev pub ackIf : Air → Group → Sorted → ℕ → List Value
-ackIf air users s class = cond (isThere s class) (ackOf air users s class ∷ []) []
+abbrev pub ackIf : Air → ℕ → Group → Sorted → ℕ → List Value
+ackIf air t users s class = cond (isThere s class) (ackOf air t users s class ∷ []) []
 
-unfoldable pub acksOf : Air → Group → Sorted → List Value
-acksOf air users s = ackIf air users s 0 ++ (ackIf air users s 1 ++ ackIf air users s 2)
+unfoldable pub acksOf : Air → ℕ → Group → Sorted → List Value
+acksOf air t users s = ackIf air t users s 0 ++ (ackIf air t users s 1 ++ ackIf air t users s 2)

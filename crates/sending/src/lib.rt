@@ -1,4 +1,4 @@
-// The messages that one call of the desk writes, each 100 bytes after the one before, and the ACTIVATE ACKs among them.
+// The messages that one call of the desk writes, each 100 bytes after the one before, and the ACKs of a request among them.
 //
 // Every function is total. `send` writes the next message, where there is room for it; the laws say that of what the desk sends nothing
 // is ever left out, and that the area is then the one that document 01 describes (`layAll`).
@@ -47,14 +47,14 @@ pub fn send(profile: Profile, laid: Laid, value: Value, out: &mut [u8]) -> Laid
     laid
 }
 
-// The ACKs of a request: its users, sorted by outcome.
-pub fn send_acks(profile: Profile, users: Group, sorted: Sorted, out: &mut [u8]) -> Laid
-    ensures { λ r. ⌜ (r ≡ allLaid profile noLaid (now (out .entry)) (acksOf (profile .air) users sorted))
-        × (now (out .exit) ≡ allArea profile noLaid (now (out .entry)) (acksOf (profile .air) users sorted)) ⌝ }
+// The ACKs of a request: the type that answers it, and its users, sorted by outcome.
+pub fn send_acks(profile: Profile, ack: u8, users: Group, sorted: Sorted, out: &mut [u8]) -> Laid
+    ensures { λ r. ⌜ (r ≡ allLaid profile noLaid (now (out .entry)) (acksOf (profile .air) ack users sorted))
+        × (now (out .exit) ≡ allArea profile noLaid (now (out .entry)) (acksOf (profile .air) ack users sorted)) ⌝ }
 {
-    let a = send_ack(profile, users, sorted, 0, no_laid(), out);
-    let b = send_ack(profile, users, sorted, 1, a, out);
-    send_ack(profile, users, sorted, 2, b, out)
+    let a = send_ack(profile, ack, users, sorted, 0, no_laid(), out);
+    let b = send_ack(profile, ack, users, sorted, 1, a, out);
+    send_ack(profile, ack, users, sorted, 2, b, out)
 }
 
 fn more(count: u8, lengths: [u16; 3], bits: usize) -> Laid
@@ -73,30 +73,32 @@ fn more(count: u8, lengths: [u16; 3], bits: usize) -> Laid
 // The ACK of one outcome, if an identity has it.
 fn send_ack(
     profile: Profile,
+    ack: u8,
     users: Group,
     sorted: Sorted,
     class: u8,
     laid: Laid,
     out: &mut [u8],
 ) -> Laid
-    ensures { λ r. ⌜ (r ≡ allLaid profile laid (now (out .entry)) (ackIf (profile .air) users sorted class))
-        × (now (out .exit) ≡ allArea profile laid (now (out .entry)) (ackIf (profile .air) users sorted class)) ⌝ }
+    ensures { λ r. ⌜ (r ≡ allLaid profile laid (now (out .entry)) (ackIf (profile .air) ack users sorted class))
+        × (now (out .exit) ≡ allArea profile laid (now (out .entry)) (ackIf (profile .air) ack users sorted class)) ⌝ }
 {
     let some = sorted.some;
     if is_there(some, class) {
         let air = profile.air;
-        return send(profile, laid, ack_of(air, users, sorted, class), out);
+        return send(profile, laid, ack_of(air, ack, users, sorted, class), out);
     }
     laid
 }
 
-fn ack_of(air: Air, users: Group, sorted: Sorted, class: u8) -> Value
-    ensures { λ r. ⌜ r ≡ ackOf air users sorted class ⌝ }
+fn ack_of(air: Air, ack: u8, users: Group, sorted: Sorted, class: u8) -> Value
+    ensures { λ r. ⌜ r ≡ ackOf air ack users sorted class ⌝ }
 {
     let some = sorted.some;
     let mask = sorted.mask;
     if is_several(some) {
         return ack_with(
+            ack,
             users,
             true,
             mask_at(mask, class),
@@ -104,13 +106,20 @@ fn ack_of(air: Air, users: Group, sorted: Sorted, class: u8) -> Value
             reason_of(air, class),
         );
     }
-    ack_with(users, false, 0, result_of(class), reason_of(air, class))
+    ack_with(
+        ack,
+        users,
+        false,
+        0,
+        result_of(class),
+        reason_of(air, class),
+    )
 }
 
-fn ack_with(users: Group, masked: bool, mask: u64, result: u8, reason: u8) -> Value
-    ensures { λ r. ⌜ r ≡ ackV users masked mask result reason ⌝ }
+fn ack_with(ack: u8, users: Group, masked: bool, mask: u64, result: u8, reason: u8) -> Value
+    ensures { λ r. ⌜ r ≡ ackV ack users masked mask result reason ⌝ }
 {
-    let request = message::with_users(message::blank(3), users);
+    let request = message::with_users(message::blank(ack), users);
     message::with_result(
         message::with_mask(request, masked, mask),
         result as u32,

@@ -1,6 +1,6 @@
 -- How long a valid message is. Assumes nothing.
 use Prim.Native.Nat.{ℕ, suc, _+_, _*_, _-_, _/_, _^_, _≤_, min}
-use mathlib.Core.Path.{_≡_, refl, sym, ap, _∙_}
+use mathlib.Core.Path.{_≡_, refl, ap, _∙_, subst}
 use mathlib.Core.Bool.{Bool, true, false, not, cond}
 use mathlib.Core.List.{List, [], _∷_, _++_}
 use native.Mathlib.Omega.{arith}
@@ -9,7 +9,7 @@ use lib.ListN.{length, length-append, length-take, take}
 use borrow.Author.Tests.{leb-true}
 use Rattle.bits.specs.Puts.{binary}
 use Rattle.bits.proofs.PutLaws.{length-binary}
-use Rattle.codec.specs.Codec.{both, number, pure, guard, choose, vecBits}
+use Rattle.codec.specs.Codec.{Codec, both, number, pure, guard, choose, vecBits}
 use Rattle.codec.specs.Options.{Optional, absent, there, flag, optional}
 use Rattle.codec.proofs.Good.{both-left, both-right}
 use Rattle.profile.specs.Rules.{meaningIn}
@@ -24,8 +24,8 @@ use Rattle.message.specs.Acks.{maskC, maskedC, resultC}
 use Rattle.message.specs.Numbers as place
 use Rattle.message.specs.Numbers.{widths, widthOf}
 use Rattle.message.specs.Values.{blank, numberAt}
-use Rattle.message.specs.Rows.{noRow, table, rowIn, rowOf, Holds, partC, put, Tuple, partsC, puts, gets, Options, putOption, getOptions, someOf, noneOf, eachC, optionsC, firstParts, partsOf, optionsOf}
-use Rattle.message.specs.Messages.{holdsJust, bodyC, headerC, messageC}
+use Rattle.message.specs.Rows.{noRow, users, masked, result, ackRow, table, rowIn, rowOf, Holds, partC, put, Tuple, partsC, puts, gets, Options, putOption, getOptions, someOf, noneOf, eachC, optionsC, firstParts, partsOf, optionsOf}
+use Rattle.message.specs.Messages.{holdsJust, messageOf, bodyC, headerC, messageC}
 use Rattle.message.specs.declared.Part.{Part}
 use Rattle.message.specs.declared.Part.the-variants as part
 use Rattle.message.specs.declared.Row.{Row}
@@ -223,23 +223,25 @@ body-most air t v e =
       options-most air w qs (getOptions 0 qs v) (both-right (partsC air (blank t) ps .ok (gets ps v)) _ ok),
     )
 
--- ---- an ACTIVATE ACK: a long list of users has a short mask
+-- ---- a message that begins with users has good ones
 
-ack-ok : (air : Air) (v : Value) → validOf air v ≡ true → v .pdu ≡ 3 → bodyC air 3 .ok v ≡ true
-ack-ok air v ok e = ap (λ (t : ℕ). bodyC air t .ok v) (sym e) ∙ valid-body air v ok
+pub begins-users : (air : Air) (t : ℕ) (ps qs : List Part) (v : Value) → messageOf t (users ∷ ps) qs air .ok v ≡ true → groupC air false .ok (v .users) ≡ true
+unfolding partsC gets
+begins-users air t ps qs v e = both-left _ _ (both-left _ _ (both-right _ _ e))
 
--- its users are good
-ack-users : (air : Air) (v : Value) → bodyC air 3 .ok v ≡ true → groupC air false .ok (v .users) ≡ true
-unfolding bodyC rowOf rowIn table firstParts partsC gets
-ack-users air v e = both-left _ _ (both-left _ _ (both-right _ _ e))
+-- ---- an ACK, of whatever type: a long list of users has a short mask
 
--- and at most 64 identities
-pub valid-span : (air : Air) (v : Value) → validOf air v ≡ true → v .pdu ≡ 3 → spanOf air (v .users) ≤ 64
-valid-span air v ok e = few-identities air false (v .users) (ack-users air v (ack-ok air v ok e))
+abbrev pub ackC : Air → ℕ → Codec Value
+ackC air t = messageOf t (users ∷ masked ∷ result ∷ []) [] air
 
-pub ack-most : (air : Air) (v : Value) → bodyC air 3 .ok v ≡ true → length (bodyC air 3 .bits v) ≤ 778
-unfolding bodyC rowOf rowIn table firstParts partsC gets optionsC
-ack-most air v e =
+-- a type whose row is an ACK's has an ACK's body
+pub ack-body : (air : Air) (t : ℕ) → rowOf t ≡ ackRow → bodyC air t ≡ ackC air t
+unfolding bodyC firstParts
+ack-body air t e = ap (λ (r : Row). messageOf t (partsOf r) (optionsOf r) air) e
+
+ack-most : (air : Air) (t : ℕ) (v : Value) → ackC air t .ok v ≡ true → length (ackC air t .bits v) ≤ 778
+unfolding partsC gets optionsC
+ack-most air t v e =
     let n = min (spanOf air (v .users)) 64 in
     let us = groupC air false .bits (v .users) in
     let ms = maskedC n .bits (v .masked, v .mask) in
@@ -250,7 +252,7 @@ ack-most air v e =
       length-append us (ms ++ (rs ++ [])),
       length-append ms (rs ++ []),
       length-append rs [],
-      group-span-most air false (v .users) (ack-users air v e),
+      group-span-most air false (v .users) (begins-users air t (masked ∷ result ∷ []) [] v e),
       masked-most n (v .masked) (v .mask),
       result-most (numberAt place.result v) (numberAt place.reason v),
     )
@@ -269,10 +271,12 @@ message-some air v = omega (arith, header-length air v)
 pub message-most : (air : Air) (v : Value) → validOf air v ≡ true → length (bitsOf air v) ≤ 1521
 message-most air v ok = omega (arith, header-length air v, body-most air (v .pdu) v (valid-body air v ok))
 
--- the longest ACTIVATE ACK has 789 bits, so 99 bytes: the desk's stand 100 bytes apart
-pub ack-message-most : (air : Air) (v : Value) → validOf air v ≡ true → v .pdu ≡ 3 → length (bitsOf air v) ≤ 789
+-- the longest ACK has 789 bits, so 99 bytes: the desk's stand 100 bytes apart
+pub ack-message-most : (air : Air) (v : Value) → validOf air v ≡ true → rowOf (v .pdu) ≡ ackRow → length (bitsOf air v) ≤ 789
 ack-message-most air v ok e =
-    omega (arith, header-length air v, ack-most air v (ack-ok air v ok e), ap (λ (t : ℕ). length (bodyC air t .bits v)) e)
+    let b = ack-body air (v .pdu) e in
+    let k = ack-most air (v .pdu) v (subst (λ (c : Codec Value). c .ok v ≡ true) b (valid-body air v ok)) in
+    omega (arith, header-length air v, k, ap (λ (c : Codec Value). length (c .bits v)) b)
 
-pub ack-bytes-most : (air : Air) (v : Value) → validOf air v ≡ true → v .pdu ≡ 3 → bytesFor (length (bitsOf air v)) ≤ 99
+pub ack-bytes-most : (air : Air) (v : Value) → validOf air v ≡ true → rowOf (v .pdu) ≡ ackRow → bytesFor (length (bitsOf air v)) ≤ 99
 ack-bytes-most air v ok e = omega (arith, ack-message-most air v ok e)

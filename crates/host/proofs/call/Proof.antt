@@ -254,7 +254,7 @@ module _ {M : Type 1} (𝓤 : URA M) (H : Heap 𝓤) (A : Atoms 𝓤) (W : Given
   abbrev Left : Desk → List Record → List ℕ → List (Item 𝓤)
   Left d zs os = ‵ (flft κ q) ∷ (‵ (flft κ₁ q₁) ⊛ ‵ ftrue) ∷ (‵ (flft κ₂ q₂) ⊛ (‵ (flft κ₃ q₃) ⊛ ‵ ftrue)) ∷ ‵ (fobs γ (D.the-row .coded .code d)) ∷ ‵ (fbor κ (Body (mem D.the-row) b o γ)) ∷ ‵ (finally R.the-row γ₁ zs) ∷ ‵ (finally u8 (c .name) os) ∷ []
 
-  exits : (r : Stepped) (d : Desk) (zs : List Record) (os : List ℕ) (t : Told) (tv : Val) → Said r os → (t ≡ toldOf r) × ((d ≡ r .desk) × (zs ≡ markedBy ys (r .marks .at))) → length zs ≡ n → length os ≡ length (c .now) → Is O.the-row t (tv ∷ [])
+  exits : (r : Stepped) (d : Desk) (zs : List Record) (os : List ℕ) (t : Told) (tv : Val) → Said r os → (t ≡ toldOf r) × ((d ≡ r .desk) × (zs ≡ markedBy ys (r .marks))) → length zs ≡ n → length os ≡ length (c .now) → Is O.the-row t (tv ∷ [])
       → ent 𝓤 (⋆ 𝓤 H A (Left d zs os)) (Post tv)
   exits r d zs os t tv e₁ e₂ l lo is =
       qed W (Left d zs os) ∵
@@ -262,7 +262,7 @@ module _ {M : Type 1} (𝓤 : URA M) (H : Heap 𝓤) (A : Atoms 𝓤) (W : Given
       says ! (record {
         told = e₂ .0 ∙ ap toldOf (e₁ .0);
         desk = e₂ .1 .0 ∙ ap (λ (a : Stepped). a .desk) (e₁ .0);
-        records = e₂ .1 .1 ∙ ap (λ (a : Stepped). markedBy ys (a .marks .at)) (e₁ .0);
+        records = e₂ .1 .1 ∙ ap (λ (a : Stepped). markedBy ys (a .marks)) (e₁ .0);
         output = e₁ .1;
       }) $
       -- [κ; κ₁ and true; κ₂, κ₃ and true; obs; bor; records; out]
@@ -324,10 +324,10 @@ module _ {M : Type 1} (𝓤 : URA M) (H : Heap 𝓤) (A : Atoms 𝓤) (W : Given
         use1 W (later (some (λ (u : Unit {0}). ((‵ (flft κ₁ q₁) ⊛ ‵ ftrue) ⊛ ‵ (Nothing .own u (w″ ∷ []))) ⊛ raw (ensured 𝓤 H A marks′.ended (marks′.clauses 𝓤 H A at-mem run) (κ₁, tt) (y γ₁, (mk, tt)) tt u)))) (id⊢ 𝓤 _) $ await ! tt $
         pick ! (λ u.
         split ! $ move ! (1 ∷ []) $
-        use1 W (some (λ (zs : List Record × (Unit {0} × Unit {0})). ‵ (lasts marks′.ended (κ₁, tt) (y γ₁, (mk, tt)) zs) ⊛ raw (fact 𝓤 (zs .0 ≡ markedBy ys (mk .at))))) (id⊢ 𝓤 _) $
+        use1 W (some (λ (zs : List Record × (Unit {0} × Unit {0})). ‵ (lasts marks′.ended (κ₁, tt) (y γ₁, (mk, tt)) zs) ⊛ raw (fact 𝓤 (zs .0 ≡ markedBy ys mk)))) (id⊢ 𝓤 _) $
         pick ! (λ zs.
         split ! $ move ! (1 ∷ []) $
-        heard ! (zs .0 ≡ markedBy ys (mk .at)) (λ e₂.
+        heard ! (zs .0 ≡ markedBy ys mk) (λ e₂.
         fsplit ! $
         fsplit ! $
         move ! (1 ∷ []) $
@@ -349,7 +349,7 @@ module _ {M : Type 1} (𝓤 : URA M) (H : Heap 𝓤) (A : Atoms 𝓤) (W : Given
         facts ! O.the-row (Is O.the-row) (shows 𝓤 H A O.the-row) t (w‴ ∷ []) (λ ist.
         land ! (from ! (stop !)) (init ! 42 refl (LL.lawful O.the-type O′.the-laws 𝓤 H A W .typed t (w‴ ∷ []) ist .0)) $
         returns ! (look ! 42 refl) $ forget ! 8 refl $ forget ! 10 refl $ forget ! 12 refl $ forget ! 14 refl $ forget ! 22 refl $ forget ! 28 refl $ forget ! 38 refl $ forget ! 40 refl $ forget ! 42 refl $ move ! (42 ∷ 43 ∷ []) $ free1 ! $ move ! (40 ∷ 41 ∷ []) $ free1 ! $ move ! (38 ∷ 39 ∷ []) $ free1 ! $ move ! (36 ∷ 37 ∷ []) $ free1 ! $ move ! (34 ∷ 35 ∷ []) $ free1 ! $ move ! (32 ∷ 33 ∷ []) $ free1 ! $ move ! (30 ∷ 31 ∷ []) $ free1 ! $ move ! (28 ∷ 29 ∷ []) $ free1 ! $ move ! (26 ∷ 27 ∷ []) $ free1 ! $ move ! (24 ∷ 25 ∷ []) $ free1 ! $ move ! (22 ∷ 23 ∷ []) $ free1 ! $ move ! (20 ∷ 21 ∷ []) $ free1 ! $ move ! (18 ∷ 19 ∷ []) $ free1 ! $ move ! (16 ∷ 17 ∷ []) $ free1 ! $ move ! (14 ∷ 15 ∷ []) $ free1 ! $ move ! (12 ∷ 13 ∷ []) $ free1 ! $ move ! (10 ∷ 11 ∷ []) $ free1 ! $ move ! (8 ∷ 9 ∷ []) $ free1 ! $ free0 ! $
-        keep ! (5 ∷ 0 ∷ 6 ∷ 3 ∷ 4 ∷ 1 ∷ 7 ∷ []) $ by ! (exits r d (zs .0) os t w‴ e₁ (e₃, (e₄, e₂ ∙ ap (λ (m : Marks). markedBy ys (m .at)) e₅)) l lo ist)))))))))))))))))))
+        keep ! (5 ∷ 0 ∷ 6 ∷ 3 ∷ 4 ∷ 1 ∷ 7 ∷ []) $ by ! (exits r d (zs .0) os t w‴ e₁ (e₃, (e₄, e₂ ∙ ap (markedBy ys) e₅)) l lo ist)))))))))))))))))))
 
     walk : ent 𝓤 (onEntry 𝓤 H A f.signature κs₀ qs₀ x at₀) (WpFn 𝓤 H C Λ code.function (vptr b o ∷ s ∷ ev ∷ sm ∷ sc ∷ []) Post)
     walk =

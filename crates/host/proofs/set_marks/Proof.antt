@@ -1,5 +1,5 @@
 -- Written by tools/walk from tools/host/set_marks.walk: change that, and run tools/proofs.
--- `host::set_marks` meets its contract: a walk of its MIR, with a loop and a branch in it. Each turn calls `says` and, where it says yes, `set_mark`, to which the slice is lent again for the call (`Again.antt`). Of both the proof knows only that they meet their contracts.
+-- `host::set_marks` meets its contract: a walk of its MIR, with a loop and a branch in it. What the mark becomes is asked first (`mark_of`); each turn calls `says` and, where it says yes, `set_mark`, to which the slice is lent again for the call (`Again.antt`). Of the three the proof knows only that they meet their contracts.
 -- Assumes nothing.
 use mathlib.Core.Path.{_≡_, refl, sym, ap, subst, _∙_}
 use mathlib.Core.Bool.{Bool, true, false}
@@ -24,7 +24,7 @@ use ghost.Atoms.{Atoms, sem}
 use contract.Monad.{Fun, fact}
 use contract.Running.{givenOf, tables, tablesOf}
 use types.Kit.{Given, Item, Sq, ‵, raw, _⊛_, ⋆, some, later, runs, anyQ, atRet, _$_, _∵_, !, qed, by, move, keep, drop, use0, use1, use2, use3, split, join, pick, rewrite, fsplit, fjoin, feqI, feqL, suffices, frame, await, done}
-use types.Run.{look, init, store, forget, stop, hop, fld, from, load, lit, addr, unit-lit, true-lit, of-opd, bin, and-then, no-more, assigns, assigns-last, land, land-last, first, blocks, branches, skips, jumps, exec, Below, again, loops, returns, enter, alloc1, alloc0, params1, pass1, pass0, free1, free0}
+use types.Run.{look, init, store, forget, stop, hop, fld, from, load, lit, addr, unit-lit, of-opd, bin, and-then, no-more, assigns, assigns-last, land, land-last, first, blocks, branches, skips, jumps, exec, Below, again, loops, returns, enter, alloc1, alloc0, params1, pass1, pass0, free1, free0}
 use types.Part.{agg, whole, sub, look-in}
 use types.Tokens.{lft-new, lft-end}
 use sound.WpLaws.{fmOf, WpFn-mono}
@@ -48,7 +48,7 @@ use denote.Signature.{plain}
 use Rattle.records.specs.Records.{rowOf}
 use Rattle.records.specs.declared.Record.{Record}
 use Rattle.records.specs.declared.Marks.{Marks}
-use Rattle.host.specs.Lending.{markAs, markedBy}
+use Rattle.host.specs.Lending.{markAs, markedAs}
 use Rattle.host.proofs.LendLaws.{length-marked, mark-none, mark-yes, mark-no, mark-all}
 use Rattle.host.proofs.Walk.{rest-of, holds, fails}
 use Rattle.host.proofs.Again.{LentAgain, lends-again, comes-back}
@@ -59,6 +59,10 @@ use Rattle.host.proofs.says as says′
 use Rattle.host.proofs.says.Symbol as says-def
 use Rattle.host.proofs.says.Symbol.{name as #says}
 use Rattle.host.proofs.says.Met as says-thm
+use Rattle.host.proofs.mark_of as tells′
+use Rattle.host.proofs.mark_of.Symbol as tells-def
+use Rattle.host.proofs.mark_of.Symbol.{name as #tells}
+use Rattle.host.proofs.mark_of.Met as tells-thm
 use Rattle.host.proofs.set_mark as sets′
 use Rattle.host.proofs.set_mark.Symbol as sets-def
 use Rattle.host.proofs.set_mark.Symbol.{name as #sets}
@@ -92,19 +96,25 @@ abbrev again-slice : Ty
 again-slice = tyStruct (38 ∷ 91 ∷ 93 ∷ []) (tcons again-ref (tcons (tyInt w64) tnil))
 
 abbrev marks-ty : Ty
-marks-ty = tyStruct (114 ∷ 101 ∷ 99 ∷ 111 ∷ 114 ∷ 100 ∷ 115 ∷ 58 ∷ 58 ∷ 77 ∷ 97 ∷ 114 ∷ 107 ∷ 115 ∷ []) (tcons (tyArray tyBool 128) tnil)
+marks-ty = tyStruct (114 ∷ 101 ∷ 99 ∷ 111 ∷ 114 ∷ 100 ∷ 115 ∷ 58 ∷ 58 ∷ 77 ∷ 97 ∷ 114 ∷ 107 ∷ 115 ∷ []) (tcons (tyArray tyBool 128) (tcons tyBool tnil))
 
--- the list with record i marked
-abbrev one-more : List Record → ℕ → List Record
-one-more l i = set l i (markAs true (rowOf l i))
+-- the list with record i marked so
+abbrev one-more : Bool → List Record → ℕ → List Record
+one-more to l i = set l i (markAs to (rowOf l i))
 
 module _ {M : Type 1} (𝓤 : URA M) (H : Heap 𝓤) (A : Atoms 𝓤) (mem : Memory → SProp 𝓤) (run : Routine → Fun 𝓤) where
   -- the contracts that the proof cites
   abbrev Says : Contract 𝓤
   Says = tripleOf 𝓤 H A says′.signature (says′.spec 𝓤 H A mem run)
 
+  abbrev Tells : Contract 𝓤
+  Tells = tripleOf 𝓤 H A tells′.signature (tells′.spec 𝓤 H A mem run)
+
   abbrev Sets : Contract 𝓤
   Sets = tripleOf 𝓤 H A sets′.signature (sets′.spec 𝓤 H A mem run)
+
+  tells-of : (mk : Marks) (r : Bool) → ent 𝓤 (ensured 𝓤 H A tells′.ended (tells′.clauses 𝓤 H A mem run) tt (mk, tt) tt r) (fact 𝓤 (r ≡ mk .mark))
+  tells-of mk r = exE 𝓤 _ (λ ws. snd∗ 𝓤 (sem 𝓤 H A (lasts tells′.ended tt (mk, tt) ws)) (fact 𝓤 (r ≡ mk .mark)))
 
   says-of : (mk : Marks) (i : ℕ) (r : Bool) → ent 𝓤 (ensured 𝓤 H A says′.ended (says′.clauses 𝓤 H A mem run) tt (mk, (i, tt)) tt r) (fact 𝓤 (r ≡ getD (mk .at) i false))
   says-of mk i r = exE 𝓤 _ (λ ws. snd∗ 𝓤 (sem 𝓤 H A (lasts says′.ended tt (mk, (i, tt)) ws)) (fact 𝓤 (r ≡ getD (mk .at) i false)))
@@ -115,6 +125,9 @@ module _ {M : Type 1} (𝓤 : URA M) (H : Heap 𝓤) (A : Atoms 𝓤) (W : Given
 
   abbrev ms : List Bool
   ms = mk .at
+
+  abbrev to : Bool
+  to = mk .mark
 
   abbrev x : GName → List Record → RefT (List Record)
   x δ l = record { ptr = (b, o); name = δ; now = l }
@@ -133,10 +146,10 @@ module _ {M : Type 1} (𝓤 : URA M) (H : Heap 𝓤) (A : Atoms 𝓤) (W : Given
 
   -- the list after i turns
   abbrev zs : ℕ → List Record
-  zs i = markedBy ys (take i ms)
+  zs i = markedAs to ys (take i ms)
 
   long : (i : ℕ) → length (zs i) ≡ n
-  long i = length-marked ys (take i ms)
+  long i = length-marked to ys (take i ms)
 
   all-marks : length ms ≡ 128
   all-marks = subst (λ (us : List Bool). length us ≡ 128) (map-id ms) (LL.owed K.the-type K′.the-laws mk (mv ∷ []) are .0 .1 .0 .1)
@@ -147,7 +160,7 @@ module _ {M : Type 1} (𝓤 : URA M) (H : Heap 𝓤) (A : Atoms 𝓤) (W : Given
   exits : (i : ℕ) → i ≡ 128 → ent 𝓤 (⋆ 𝓤 H A (‵ (MutSlice (named 0) κ T.the-row .own (x γ (zs i)) (s ∷ [])) ∷ ‵ (flft κ q) ∷ [])) (Post vunit)
   exits i e =
       qed W (‵ (MutSlice (named 0) κ T.the-row .own (x γ (zs i)) (s ∷ [])) ∷ ‵ (flft κ q) ∷ []) ∵
-      suffices ! _ (ends-at 𝓤 H A f.ended stayed (f.clauses 𝓤 H A mem run) W (((κ, tt), (q, tt), tt, a, at₀), tt) vunit tt (zs i, (tt, tt)) (long i, (tt, tt))) $ says ! (mark-all ys ms i e all-marks) $
+      suffices ! _ (ends-at 𝓤 H A f.ended stayed (f.clauses 𝓤 H A mem run) W (((κ, tt), (q, tt), tt, a, at₀), tt) vunit tt (zs i, (tt, tt)) (long i, (tt, tt))) $ says ! (mark-all to ys ms i e all-marks) $
       nothing ! $ move ! (2 ∷ 0 ∷ []) $ join ! $ frame ! $
       nothing ! $ owned ! K.the-row (Is K.the-row) (LL.makes K.the-type K′.the-plain 𝓤 H A) mk _ are $ fjoin ! $ move ! (1 ∷ 0 ∷ []) $ fjoin ! $ frame ! $
       feqI ! (List Val) (vunit ∷ []) (vunit ∷ []) refl $ done !
@@ -160,16 +173,22 @@ module _ {M : Type 1} (𝓤 : URA M) (H : Heap 𝓤) (A : Atoms 𝓤) (W : Given
   goes-says i gi =
       qed W [] ∵ nothing ! $ owned ! usize (Is usize) (uint-makes 𝓤 H A W w64) i _ (refl, gi) $ fjoin ! $ owned ! K.the-row (Is K.the-row) (LL.makes K.the-type K′.the-plain 𝓤 H A) mk _ are $ fjoin ! $ nothing ! $ join ! $ frame ! $ done !
 
+  abbrev to-tells : Tells 𝓤 H A mem run .Ghost
+  to-tells = ((tt, tt, tt, (mk, tt), (mv ∷ [], tt)), tt)
+
+  goes-tells : ent 𝓤 (emp 𝓤) (Tells 𝓤 H A mem run .pre to-tells)
+  goes-tells = qed W [] ∵ nothing ! $ owned ! K.the-row (Is K.the-row) (LL.makes K.the-type K′.the-plain 𝓤 H A) mk _ are $ fjoin ! $ nothing ! $ join ! $ frame ! $ done !
+
   abbrev to-args : GName → List Record → ℕ → RefT (List Record) × (ℕ × (Bool × Unit {0}))
-  to-args δ l i = (x δ l, (i, (true, tt)))
+  to-args δ l i = (x δ l, (i, (to, tt)))
 
   abbrev to-sets : ℕ → GName → List Record → ℕ → Sets 𝓤 H A mem run .Ghost
-  to-sets ν δ l i = (((ν ∷ [], tt), (fullShare, tt), tt, to-args δ l i, (s ∷ [], (vint w64 i ∷ [], (vbool true ∷ [], tt)))), tt)
+  to-sets ν δ l i = (((ν ∷ [], tt), (fullShare, tt), tt, to-args δ l i, (s ∷ [], (vint w64 i ∷ [], (vbool to ∷ [], tt)))), tt)
 
   goes-sets : (ν : ℕ) (δ : GName) (l : List Record) (i : ℕ) → i < 2 ^ 64 → ent 𝓤 (sep 𝓤 (A .lft (ν ∷ []) fullShare) (sem 𝓤 H A (MutSlice (named 0) (ν ∷ []) T.the-row .own (x δ l) (s ∷ [])))) (Sets 𝓤 H A mem run .pre (to-sets ν δ l i))
   goes-sets ν δ l i gi =
       qed W (‵ (flft (ν ∷ []) fullShare) ∷ ‵ (MutSlice (named 0) (ν ∷ []) T.the-row .own (x δ l) (s ∷ [])) ∷ []) ∵ nothing ! $ move ! (1 ∷ 0 ∷ []) $ join ! $
-      nothing ! $ owned ! Boolean (Is Boolean) (bool-makes 𝓤 H A W) true _ refl $ fjoin ! $ owned ! usize (Is usize) (uint-makes 𝓤 H A W w64) i _ (refl, gi) $ fjoin ! $ move ! (2 ∷ 0 ∷ []) $ fjoin ! $ move ! (1 ∷ 0 ∷ []) $ join ! $ frame ! $ done !
+      nothing ! $ owned ! Boolean (Is Boolean) (bool-makes 𝓤 H A W) to _ refl $ fjoin ! $ owned ! usize (Is usize) (uint-makes 𝓤 H A W w64) i _ (refl, gi) $ fjoin ! $ move ! (2 ∷ 0 ∷ []) $ fjoin ! $ move ! (1 ∷ 0 ∷ []) $ join ! $ frame ! $ done !
 
   abbrev Upto : Type 0
   Upto = (i : ℕ) × (i ≤ 128)
@@ -180,7 +199,7 @@ module _ {M : Type 1} (𝓤 : URA M) (H : Heap 𝓤) (A : Atoms 𝓤) (W : Given
   Nearer-wf : WellFounded Nearer
   Nearer-wf = InvImage·wf (λ (i : Upto). 128 - i .0) (Nat·lt-wfRel .wf)
 
-  module _ (𝓣 : Tables 𝓤 H) (known-says : Triple 𝓤 (𝓣 .C #says) (Says 𝓤 H A mem run)) (known-sets : Triple 𝓤 (𝓣 .C #sets) (Sets 𝓤 H A mem run)) (l₀ l₁ l₂ l₃ l₄ l₅ l₆ l₇ l₈ : ℕ) where
+  module _ (𝓣 : Tables 𝓤 H) (known-says : Triple 𝓤 (𝓣 .C #says) (Says 𝓤 H A mem run)) (known-sets : Triple 𝓤 (𝓣 .C #sets) (Sets 𝓤 H A mem run)) (l₀ l₁ l₂ l₃ l₄ l₅ l₆ l₇ l₈ l₉ : ℕ) where
     abbrev C : Calls 𝓤 H
     C = 𝓣 .C
 
@@ -188,17 +207,17 @@ module _ {M : Type 1} (𝓤 : URA M) (H : Heap 𝓤) (A : Atoms 𝓤) (W : Given
     Λ = 𝓣 .Λ
 
     abbrev En : Env 𝓤 H
-    En = (tyUnit, l₀) ∷ (slice, l₁) ∷ (marks-ty, l₂) ∷ (word, l₃) ∷ (tyBool, l₄) ∷ (tyBool, l₅) ∷ (tyUnit, l₆) ∷ (again-ref, l₇) ∷ (again-slice, l₈) ∷ []
+    En = (tyUnit, l₀) ∷ (slice, l₁) ∷ (marks-ty, l₂) ∷ (tyBool, l₃) ∷ (word, l₄) ∷ (tyBool, l₅) ∷ (tyBool, l₆) ∷ (tyUnit, l₇) ∷ (again-ref, l₈) ∷ (again-slice, l₉) ∷ []
 
     abbrev Cells : List Record → ℕ → List (Item 𝓤)
-    Cells l i = ‵ (MutSlice (named 0) κ T.the-row .own (x γ l) (s ∷ [])) ∷ ‵ (flft κ q) ∷ ‵ (froom again-slice l₈ 0) ∷ ‵ (fdies again-slice l₈) ∷ ‵ (froom again-ref l₇ 0) ∷ ‵ (fdies again-ref l₇) ∷ ‵ (froom tyUnit l₆ 0) ∷ ‵ (fdies tyUnit l₆) ∷ ‵ (froom tyBool l₅ 0) ∷ ‵ (fdies tyBool l₅) ∷ ‵ (froom tyBool l₄ 0) ∷ ‵ (fdies tyBool l₄) ∷ ‵ (fat fullShare word l₃ 0 (vint w64 i)) ∷ ‵ (fdies word l₃) ∷ ‵ (fat fullShare marks-ty l₂ 0 mv) ∷ ‵ (fdies marks-ty l₂) ∷ ‵ (fat fullShare slice l₁ 0 s) ∷ ‵ (fdies slice l₁) ∷ ‵ (froom tyUnit l₀ 0) ∷ ‵ (fdies tyUnit l₀) ∷ []
+    Cells l i = ‵ (MutSlice (named 0) κ T.the-row .own (x γ l) (s ∷ [])) ∷ ‵ (flft κ q) ∷ ‵ (froom again-slice l₉ 0) ∷ ‵ (fdies again-slice l₉) ∷ ‵ (froom again-ref l₈ 0) ∷ ‵ (fdies again-ref l₈) ∷ ‵ (froom tyUnit l₇ 0) ∷ ‵ (fdies tyUnit l₇) ∷ ‵ (froom tyBool l₆ 0) ∷ ‵ (fdies tyBool l₆) ∷ ‵ (froom tyBool l₅ 0) ∷ ‵ (fdies tyBool l₅) ∷ ‵ (fat fullShare word l₄ 0 (vint w64 i)) ∷ ‵ (fdies word l₄) ∷ ‵ (fat fullShare tyBool l₃ 0 (vbool to)) ∷ ‵ (fdies tyBool l₃) ∷ ‵ (fat fullShare marks-ty l₂ 0 mv) ∷ ‵ (fdies marks-ty l₂) ∷ ‵ (fat fullShare slice l₁ 0 s) ∷ ‵ (fdies slice l₁) ∷ ‵ (froom tyUnit l₀ 0) ∷ ‵ (fdies tyUnit l₀) ∷ []
 
     -- the invariant: the borrow is at the list after i turns
     abbrev At : Upto → List (Item 𝓤)
     At i = Cells (zs (i .0)) (i .0)
 
     abbrev Turned : Upto → Out → SProp 𝓤
-    Turned i = afterTurn 𝓤 H (Below 𝓤 H A Nearer At i) (afterBlock 𝓤 H (afterSeq 𝓤 H (Wp 𝓤 H C Λ En body.t-3 (atReturn 𝓤 H En Post)) (atReturn 𝓤 H En Post)))
+    Turned i = afterTurn 𝓤 H (Below 𝓤 H A Nearer At i) (afterBlock 𝓤 H (afterSeq 𝓤 H (Wp 𝓤 H C Λ En body.t-4 (atReturn 𝓤 H En Post)) (atReturn 𝓤 H En Post)))
 
     turns : (i : Upto) → Sq W (At i) (runs C Λ En body.turn-1 (anyQ (Turned i)))
     unfolding afterTurn
@@ -207,18 +226,18 @@ module _ {M : Type 1} (𝓤 : URA M) (H : Heap 𝓤) (A : Atoms 𝓤) (W : Given
         first ! $ branches ! (load ! (from ! (stop !)) (look ! 10 refl))
         (λ less. skips ! $ exec ! C Λ En (rest-of (rest-of body.turn-1)) (anyQ (Turned i)) $
         use0 W (raw (Says 𝓤 H A mem run .pre (to-says (i .0)))) (goes-says (i .0) (fits less)) $
-        calls-at ! (fmOf 𝓤 H (W .laws) 𝓣) (Says 𝓤 H A mem run) known-says (to-says (i .0)) (and-then ! (load ! (from ! (stop !)) (look ! 15 refl)) (and-then ! (load ! (from ! (stop !)) (look ! 13 refl)) (no-more !))) (λ w.
+        calls-at ! (fmOf 𝓤 H (W .laws) 𝓣) (Says 𝓤 H A mem run) known-says (to-says (i .0)) (and-then ! (load ! (from ! (stop !)) (look ! 17 refl)) (and-then ! (load ! (from ! (stop !)) (look ! 13 refl)) (no-more !))) (λ w.
         use1 W (later (some (λ (r : Bool). (‵ ftrue ⊛ ‵ (Boolean .own r (w ∷ []))) ⊛ raw (ensured 𝓤 H A says′.ended (says′.clauses 𝓤 H A mem run) tt (mk, (i .0, tt)) tt r)))) (id⊢ 𝓤 _) $ await ! tt $ pick ! (λ r.
         split ! $ move ! (1 ∷ []) $
         use1 W (raw (fact 𝓤 (r ≡ getD ms (i .0) false))) (says-of 𝓤 H A mem run mk (i .0) r) $ heard ! (r ≡ getD ms (i .0) false) (λ e.
         split ! $ drop ! $
         facts ! Boolean (Is Boolean) (shows 𝓤 H A Boolean) r (w ∷ []) (λ is.
         land ! (from ! (stop !)) (init ! 8 refl (subst (λ (u : Val). T (hasTy tyBool u) × WT u) (sym (ap only is)) (tt, tt))) $
-        rewrite ! 8 (λ (u : Val). ‵ (fat fullShare tyBool l₅ 0 u)) (ap only is) refl $
+        rewrite ! 8 (λ (u : Val). ‵ (fat fullShare tyBool l₆ 0 u)) (ap only is) refl $
         first ! $ branches ! (load ! (from ! (stop !)) (look ! 8 refl))
         (λ on.
-        assigns ! (addr ! (from ! (fld ! refl (hop ! (look-in ! 16 (sub ! 0 refl (whole !))) (stop !))))) (from ! (stop !)) (init ! 4 refl (tt, tt)) $
-        assigns ! (agg ! (and-then ! (load ! (from ! (stop !)) (look ! 4 refl)) (and-then ! (load ! (from ! (fld ! refl (stop !))) (look-in ! 16 (sub ! 1 refl (whole !)))) (no-more !)))) (from ! (stop !)) (init ! 2 refl (tt, (tt, (record { fits = room .0 }, tt)))) $
+        assigns ! (addr ! (from ! (fld ! refl (hop ! (look-in ! 18 (sub ! 0 refl (whole !))) (stop !))))) (from ! (stop !)) (init ! 4 refl (tt, tt)) $
+        assigns ! (agg ! (and-then ! (load ! (from ! (stop !)) (look ! 4 refl)) (and-then ! (load ! (from ! (fld ! refl (stop !))) (look-in ! 18 (sub ! 1 refl (whole !)))) (no-more !)))) (from ! (stop !)) (init ! 2 refl (tt, (tt, (record { fits = room .0 }, tt)))) $
         -- the slice is lent again for a lifetime ν of the call
         rewrite ! 0 (λ (k : ℕ). ‵ (MutSlice (named 0) κ T.the-row .own (x γ (zs (i .0))) (sliceVal (b, o) k ∷ []))) (sym (long (i .0))) refl $
         lft-new ! tt (λ ν.
@@ -228,12 +247,12 @@ module _ {M : Type 1} (𝓤 : URA M) (H : Heap 𝓤) (A : Atoms 𝓤) (W : Given
         rewrite ! 0 (λ (k : ℕ). ‵ (MutSlice (named 0) (ν ∷ []) T.the-row .own (x δ (zs (i .0))) (sliceVal (b, o) k ∷ []))) (long (i .0)) refl $
         move ! (2 ∷ 0 ∷ []) $
         use2 W (raw (Sets 𝓤 H A mem run .pre (to-sets ν δ (zs (i .0)) (i .0)))) (goes-sets ν δ (zs (i .0)) (i .0) (fits less)) $
-        calls-at-last ! (fmOf 𝓤 H (W .laws) 𝓣) (Sets 𝓤 H A mem run) known-sets (to-sets ν δ (zs (i .0)) (i .0)) (and-then ! (load ! (from ! (stop !)) (look ! 2 refl)) (and-then ! (load ! (from ! (stop !)) (look ! 12 refl)) (and-then ! (true-lit !) (no-more !)))) (λ w′.
+        calls-at-last ! (fmOf 𝓤 H (W .laws) 𝓣) (Sets 𝓤 H A mem run) known-sets (to-sets ν δ (zs (i .0)) (i .0)) (and-then ! (load ! (from ! (stop !)) (look ! 2 refl)) (and-then ! (load ! (from ! (stop !)) (look ! 12 refl)) (and-then ! (load ! (from ! (stop !)) (look ! 14 refl)) (no-more !)))) (λ w′.
         use1 W (later (some (λ (u : Unit {0}). ((‵ (flft (ν ∷ []) fullShare) ⊛ ‵ ftrue) ⊛ ‵ (Nothing .own u (w′ ∷ []))) ⊛ raw (ensured 𝓤 H A sets′.ended (sets′.clauses 𝓤 H A mem run) (ν ∷ [], tt) (to-args δ (zs (i .0)) (i .0)) tt u)))) (id⊢ 𝓤 _) $ await ! tt $ pick ! (λ u.
         split ! $ move ! (1 ∷ []) $
-        use1 W (some (λ (vs : List Record × (Unit {0} × (Unit {0} × Unit {0}))). ‵ (lasts sets′.ended (ν ∷ [], tt) (to-args δ (zs (i .0)) (i .0)) vs) ⊛ raw (fact 𝓤 (vs .0 ≡ one-more (zs (i .0)) (i .0))))) (id⊢ 𝓤 _) $ pick ! (λ vs.
+        use1 W (some (λ (vs : List Record × (Unit {0} × (Unit {0} × Unit {0}))). ‵ (lasts sets′.ended (ν ∷ [], tt) (to-args δ (zs (i .0)) (i .0)) vs) ⊛ raw (fact 𝓤 (vs .0 ≡ one-more to (zs (i .0)) (i .0))))) (id⊢ 𝓤 _) $ pick ! (λ vs.
         split ! $ move ! (1 ∷ []) $
-        heard ! (vs .0 ≡ one-more (zs (i .0)) (i .0)) (λ e₂.
+        heard ! (vs .0 ≡ one-more to (zs (i .0)) (i .0)) (λ e₂.
         fsplit ! $
         fsplit ! $
         move ! (1 ∷ []) $
@@ -252,17 +271,17 @@ module _ {M : Type 1} (𝓤 : URA M) (H : Heap 𝓤) (A : Atoms 𝓤) (W : Given
         use3 W (later (‵ (MutSlice (named 0) κ T.the-row .own (x γ (vs .0)) (sliceVal (b, o) (length (zs (i .0))) ∷ [])) ⊛ ‵ (flft κ q))) (comes-back T.the-row κ (ν ∷ []) q γ b o 𝓤 H A W (named 0) (named 0) (zs (i .0)) δ (vs .0) (subst (Room T.the-row) (sym (long (i .0))) room) l) $ await ! tt $
         split ! $
         rewrite ! 0 (λ (k : ℕ). ‵ (MutSlice (named 0) κ T.the-row .own (x γ (vs .0)) (sliceVal (b, o) k ∷ []))) (long (i .0)) refl $
-        rewrite ! 0 (λ (l : List Record). ‵ (MutSlice (named 0) κ T.the-row .own (x γ l) (s ∷ []))) (e₂ ∙ mark-yes ys ms (i .0) (sym e ∙ holds r on)) refl $
+        rewrite ! 0 (λ (l : List Record). ‵ (MutSlice (named 0) κ T.the-row .own (x γ l) (s ∷ []))) (e₂ ∙ mark-yes to ys ms (i .0) (sym e ∙ holds r on)) refl $
         move ! (2 ∷ []) $ drop ! $
         assigns-last ! (bin ! (load ! (from ! (stop !)) (look ! 12 refl)) (lit ! tt) (record { fits = next-fits less })) (from ! (stop !)) (store ! 12 refl (tt, record { fits = next-fits less })) $
         forget ! 2 refl $ forget ! 4 refl $ forget ! 6 refl $ forget ! 8 refl $ forget ! 10 refl $ again ! Nearer At i (next less) (nearer less))))))))))
         (λ off. skips ! $ exec ! C Λ En (rest-of (rest-of (rest-of (rest-of body.turn-1)))) (anyQ (Turned i)) $
-        rewrite ! 0 (λ (l : List Record). ‵ (MutSlice (named 0) κ T.the-row .own (x γ l) (s ∷ []))) (mark-no ys ms (i .0) (sym e ∙ fails r off)) refl $
+        rewrite ! 0 (λ (l : List Record). ‵ (MutSlice (named 0) κ T.the-row .own (x γ l) (s ∷ []))) (mark-no to ys ms (i .0) (sym e ∙ fails r off)) refl $
         assigns-last ! (bin ! (load ! (from ! (stop !)) (look ! 12 refl)) (lit ! tt) (record { fits = next-fits less })) (from ! (stop !)) (store ! 12 refl (tt, record { fits = next-fits less })) $
         forget ! 8 refl $ forget ! 10 refl $ again ! Nearer At i (next less) (nearer less)))))))
-        (λ over. jumps ! $ exec ! C Λ En body.t-3 (atRet En Post) $
-        assigns ! (of-opd ! (unit-lit !)) (from ! (stop !)) (init ! 18 refl (tt, tt)) $
-        returns ! (look ! 18 refl) $ forget ! 10 refl $ forget ! 12 refl $ forget ! 14 refl $ forget ! 16 refl $ forget ! 18 refl $ move ! (18 ∷ 19 ∷ []) $ free1 ! $ move ! (16 ∷ 17 ∷ []) $ free1 ! $ move ! (14 ∷ 15 ∷ []) $ free1 ! $ move ! (12 ∷ 13 ∷ []) $ free1 ! $ move ! (10 ∷ 11 ∷ []) $ free1 ! $ move ! (8 ∷ 9 ∷ []) $ free1 ! $ move ! (6 ∷ 7 ∷ []) $ free1 ! $ move ! (4 ∷ 5 ∷ []) $ free1 ! $ move ! (2 ∷ 3 ∷ []) $ free1 ! $ free0 ! $
+        (λ over. jumps ! $ exec ! C Λ En body.t-4 (atRet En Post) $
+        assigns ! (of-opd ! (unit-lit !)) (from ! (stop !)) (init ! 20 refl (tt, tt)) $
+        returns ! (look ! 20 refl) $ forget ! 10 refl $ forget ! 12 refl $ forget ! 14 refl $ forget ! 16 refl $ forget ! 18 refl $ forget ! 20 refl $ move ! (20 ∷ 21 ∷ []) $ free1 ! $ move ! (18 ∷ 19 ∷ []) $ free1 ! $ move ! (16 ∷ 17 ∷ []) $ free1 ! $ move ! (14 ∷ 15 ∷ []) $ free1 ! $ move ! (12 ∷ 13 ∷ []) $ free1 ! $ move ! (10 ∷ 11 ∷ []) $ free1 ! $ move ! (8 ∷ 9 ∷ []) $ free1 ! $ move ! (6 ∷ 7 ∷ []) $ free1 ! $ move ! (4 ∷ 5 ∷ []) $ free1 ! $ move ! (2 ∷ 3 ∷ []) $ free1 ! $ free0 ! $
         keep ! (0 ∷ 1 ∷ []) $ by ! (exits (i .0) (le-antisymm (i .1) (nltb→le (i .0) 128 over))))
       where
         fits : T (ltb (i .0) 128) → i .0 < 2 ^ 64
@@ -277,28 +296,38 @@ module _ {M : Type 1} (𝓤 : URA M) (H : Heap 𝓤) (A : Atoms 𝓤) (W : Given
         nearer : (less : T (ltb (i .0) 128)) → Nearer (next less) i
         nearer less = let l = ltb→lt (i .0) 128 less in omega arith
 
-    starts : Sq W (Cells ys 0) (runs C Λ En (block (loop body.turn-1)) (anyQ (afterSeq 𝓤 H (Wp 𝓤 H C Λ En body.t-3 (atReturn 𝓤 H En Post)) (atReturn 𝓤 H En Post))))
-    starts = rewrite ! 0 (λ (l : List Record). ‵ (MutSlice (named 0) κ T.the-row .own (x γ l) (s ∷ []))) (mark-none ys ms) refl $ blocks ! $ loops ! 𝓣 Nearer Nearer-wf At turns (0, zero-le)
+    starts : Sq W (Cells ys 0) (runs C Λ En (block (loop body.turn-1)) (anyQ (afterSeq 𝓤 H (Wp 𝓤 H C Λ En body.t-4 (atReturn 𝓤 H En Post)) (atReturn 𝓤 H En Post))))
+    starts = rewrite ! 0 (λ (l : List Record). ‵ (MutSlice (named 0) κ T.the-row .own (x γ l) (s ∷ []))) (mark-none to ys ms) refl $ blocks ! $ loops ! 𝓣 Nearer Nearer-wf At turns (0, zero-le)
 
-  walk : (𝓣 : Tables 𝓤 H) → Triple 𝓤 (𝓣 .C #says) (Says 𝓤 H A mem run) → Triple 𝓤 (𝓣 .C #sets) (Sets 𝓤 H A mem run)
+  walk : (𝓣 : Tables 𝓤 H) → Triple 𝓤 (𝓣 .C #says) (Says 𝓤 H A mem run) → Triple 𝓤 (𝓣 .C #tells) (Tells 𝓤 H A mem run) → Triple 𝓤 (𝓣 .C #sets) (Sets 𝓤 H A mem run)
       → ent 𝓤 (onEntry 𝓤 H A f.signature (κ, tt) (q, tt) a at₀) (WpFn 𝓤 H (𝓣 .C) (𝓣 .Λ) code.function (s ∷ mv ∷ []) Post)
-  walk 𝓣 known-says known-sets =
+  walk 𝓣 known-says known-tells known-sets =
       qed W ((‵ (flft κ q) ⊛ ‵ ftrue) ∷ ‵ (owns (MutSlice (named 0) κ T.the-row ∷ K.the-row ∷ []) a at₀) ∷ []) ∵ enter ! (𝓣 .C) (𝓣 .Λ) code.function (s ∷ mv ∷ []) _ $
-      alloc1 ! (λ l₀. alloc1 ! (λ l₁. alloc1 ! (λ l₂. alloc1 ! (λ l₃. alloc1 ! (λ l₄. alloc1 ! (λ l₅. alloc1 ! (λ l₆. alloc1 ! (λ l₇. alloc1 ! (λ l₈. alloc0 ! $ params1 ! $
-      pass1 ! (init ! 14 refl (tt, (tt, (record { fits = room .0 }, tt)))) $ pass1 ! (init ! 12 refl (LL.lawful K.the-type K′.the-laws 𝓤 H A W .typed mk (mv ∷ []) are .0)) $ pass0 ! $
+      alloc1 ! (λ l₀. alloc1 ! (λ l₁. alloc1 ! (λ l₂. alloc1 ! (λ l₃. alloc1 ! (λ l₄. alloc1 ! (λ l₅. alloc1 ! (λ l₆. alloc1 ! (λ l₇. alloc1 ! (λ l₈. alloc1 ! (λ l₉. alloc0 ! $ params1 ! $
+      pass1 ! (init ! 16 refl (tt, (tt, (record { fits = room .0 }, tt)))) $ pass1 ! (init ! 14 refl (LL.lawful K.the-type K′.the-laws 𝓤 H A W .typed mk (mv ∷ []) are .0)) $ pass0 ! $
+      -- what the mark becomes
+      use0 W (raw (Tells 𝓤 H A mem run .pre to-tells)) goes-tells $
+      calls-at ! (fmOf 𝓤 H (W .laws) 𝓣) (Tells 𝓤 H A mem run) known-tells to-tells (and-then ! (load ! (from ! (stop !)) (look ! 15 refl)) (no-more !)) (λ w.
+      use1 W (later (some (λ (r : Bool). (‵ ftrue ⊛ ‵ (Boolean .own r (w ∷ []))) ⊛ raw (ensured 𝓤 H A tells′.ended (tells′.clauses 𝓤 H A mem run) tt (mk, tt) tt r)))) (id⊢ 𝓤 _) $ await ! tt $ pick ! (λ r.
+      split ! $ move ! (1 ∷ []) $
+      use1 W (raw (fact 𝓤 (r ≡ to))) (tells-of 𝓤 H A mem run mk r) $ heard ! (r ≡ to) (λ e.
+      split ! $ drop ! $
+      facts ! Boolean (Is Boolean) (shows 𝓤 H A Boolean) r (w ∷ []) (λ is.
+      land ! (from ! (stop !)) (init ! 12 refl (subst (λ (u : Val). T (hasTy tyBool u) × WT u) (sym (ap only is)) (tt, tt))) $
+      rewrite ! 12 (λ (u : Val). ‵ (fat fullShare tyBool l₃ 0 u)) (ap only is ∙ ap vbool e) refl $
       assigns ! (of-opd ! (lit ! tt)) (from ! (stop !)) (init ! 10 refl (tt, record { fits = lit< tt })) $
-      move ! (19 ∷ []) $
+      move ! (21 ∷ []) $
       fsplit ! $
-      move ! (20 ∷ []) $
+      move ! (22 ∷ []) $
       split ! $
-      keep ! (2 ∷ 0 ∷ 4 ∷ 5 ∷ 6 ∷ 7 ∷ 8 ∷ 9 ∷ 10 ∷ 11 ∷ 12 ∷ 13 ∷ 14 ∷ 15 ∷ 16 ∷ 17 ∷ 18 ∷ 19 ∷ 20 ∷ 21 ∷ []) $
-      first ! $ starts 𝓣 known-says known-sets l₀ l₁ l₂ l₃ l₄ l₅ l₆ l₇ l₈)))))))))
+      keep ! (2 ∷ 0 ∷ 4 ∷ 5 ∷ 6 ∷ 7 ∷ 8 ∷ 9 ∷ 10 ∷ 11 ∷ 12 ∷ 13 ∷ 14 ∷ 15 ∷ 16 ∷ 17 ∷ 18 ∷ 19 ∷ 20 ∷ 21 ∷ 22 ∷ 23 ∷ []) $
+      first ! $ starts 𝓣 known-says known-sets l₀ l₁ l₂ l₃ l₄ l₅ l₆ l₇ l₈ l₉))))))))))))))
 
-module _ {M : Type 1} (𝓤 : URA M) (H : Heap 𝓤) (A : Atoms 𝓤) (W : Given 𝓤 H A) (mem : Memory → SProp 𝓤) (run : Routine → Fun 𝓤) (𝓣 : Tables 𝓤 H) (known-says : Triple 𝓤 (𝓣 .C #says) (Says 𝓤 H A mem run)) (known-sets : Triple 𝓤 (𝓣 .C #sets) (Sets 𝓤 H A mem run)) where
+module _ {M : Type 1} (𝓤 : URA M) (H : Heap 𝓤) (A : Atoms 𝓤) (W : Given 𝓤 H A) (mem : Memory → SProp 𝓤) (run : Routine → Fun 𝓤) (𝓣 : Tables 𝓤 H) (known-says : Triple 𝓤 (𝓣 .C #says) (Says 𝓤 H A mem run)) (known-tells : Triple 𝓤 (𝓣 .C #tells) (Tells 𝓤 H A mem run)) (known-sets : Triple 𝓤 (𝓣 .C #sets) (Sets 𝓤 H A mem run)) where
   f-walks : Walks 𝓤 H A f.ended stayed (WpFn 𝓤 H (𝓣 .C) (𝓣 .Λ) code.function) (f.clauses 𝓤 H A mem run)
   f-walks = walked 𝓤 H A f.ended stayed (f.clauses 𝓤 H A mem run) (WpFn 𝓤 H (𝓣 .C) (𝓣 .Λ) code.function) (λ κs. (slice-vals, (mark-vals, tt))) (λ κs. (mut-slice-tells (named 0) (κs .0) T.the-row, (LL.tells K.the-type K′.the-laws, tt)))
       (λ κs qs bounds a g are. via 𝓤 _ (fst∗ 𝓤 _ (emp 𝓤))
-      (walk 𝓤 H A W mem run (κs .0) (qs .0) (a .0 .ptr .0) (a .0 .ptr .1) (a .0 .name) (a .0 .now) (a .1 .0) (LL.val K.the-type K′.the-laws (a .1 .0)) (are .0 .0 .1) (are .1 .0) 𝓣 known-says known-sets))
+      (walk 𝓤 H A W mem run (κs .0) (qs .0) (a .0 .ptr .0) (a .0 .ptr .1) (a .0 .name) (a .0 .now) (a .1 .0) (LL.val K.the-type K′.the-laws (a .1 .0)) (are .0 .0 .1) (are .1 .0) 𝓣 known-says known-tells known-sets))
 
   f-meets : Meets 𝓤 H A f.signature (WpFn 𝓤 H (𝓣 .C) (𝓣 .Λ) code.function) (f.spec 𝓤 H A mem run)
   f-meets =
@@ -312,4 +341,5 @@ set-marks-spec 𝓤 H 𝓜 𝓖 𝓡 =
     (tables 𝓤 H 𝓜 𝓡 code.env .C) (tables 𝓤 H 𝓜 𝓡 code.env .Λ) #f code.function (code.unfolded 𝓤 H 𝓜 𝓡)
     (f-meets 𝓤 H (𝓖 .A) (givenOf 𝓤 H 𝓜 𝓖) (𝓜 .mem) (𝓡 .run) (tablesOf 𝓤 H 𝓜 (tables 𝓤 H 𝓜 𝓡 code.env))
     (cited 𝓤 H (Says 𝓤 H (𝓖 .A) (𝓜 .mem) (𝓡 .run)) 𝓜 𝓡 code.env #says says-def.routine code.calls-host·says (says-thm.met 𝓤 H 𝓜 𝓖 𝓡))
+    (cited 𝓤 H (Tells 𝓤 H (𝓖 .A) (𝓜 .mem) (𝓡 .run)) 𝓜 𝓡 code.env #tells tells-def.routine code.calls-host·mark-of (tells-thm.met 𝓤 H 𝓜 𝓖 𝓡))
     (cited 𝓤 H (Sets 𝓤 H (𝓖 .A) (𝓜 .mem) (𝓡 .run)) 𝓜 𝓡 code.env #sets sets-def.routine code.calls-host·set-mark (sets-thm.met 𝓤 H 𝓜 𝓖 𝓡)))

@@ -10,19 +10,19 @@ use Rattle.records.proofs.marks_of.Statement.{statement}
 use Rattle.records.proofs.marks_of.Tie as tie
 
 abbrev Inv-loop : tie.InvT-loop
-Inv-loop air group rows count post n marks₀ i₀ marks i = (i ≤ n) × ((n ≡ countOf air group) × (marksOf (take count rows) post (identitiesOf air group) ≡ marksLeft air group (take count rows) post marks i))
+Inv-loop air group rows count post to n marks₀ i₀ marks i = (i ≤ n) × ((n ≡ countOf air group) × (marksOf to (take count rows) post (identitiesOf air group) ≡ marksLeft air group (take count rows) post marks i))
 
 abbrev μ-loop : tie.MeasureT-loop
-μ-loop air group rows count post n marks₀ i₀ marks i = n - i
+μ-loop air group rows count post to n marks₀ i₀ marks i = n - i
 
 count-of-requires : tie.Need-count-of-requires Inv-loop μ-loop
 count-of-requires c κs = search needs
 
-no-marks-requires : tie.Need-no-marks-requires Inv-loop μ-loop
-no-marks-requires c κs = search needs
+nobody-marked-requires : tie.Need-nobody-marked-requires Inv-loop μ-loop
+nobody-marked-requires c κs = search needs
 
 loop-holds : tie.Need-loop-holds Inv-loop μ-loop
-loop-holds c = (search needs, (c .before .count-of .ensures, marks-start _ _ _ _ _ (c .no-marks .ensures)))
+loop-holds c = (search needs, (c .before .count-of .ensures, marks-start _ _ _ _ _ _ (c .nobody-marked .ensures)))
 
 identity-at-requires : tie.Need-identity-at-requires Inv-loop μ-loop
 identity-at-requires c κs = search needs
@@ -59,7 +59,7 @@ marks-of-spec =
     Inv-loop
     μ-loop
     count-of-requires
-    no-marks-requires
+    nobody-marked-requires
     loop-holds
     identity-at-requires
     accepted-requires

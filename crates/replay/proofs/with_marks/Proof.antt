@@ -7,10 +7,10 @@ use Rattle.replay.proofs.with_marks.Statement.{statement}
 use Rattle.replay.proofs.with_marks.Tie as tie
 
 abbrev Inv-loop : tie.InvT-loop
-Inv-loop at row₀ i₀ row i = (i ≤ 128) × (length row ≡ 128)
+Inv-loop at mark row₀ i₀ row i = (i ≤ 128) × (length row ≡ 128)
 
 abbrev μ-loop : tie.MeasureT-loop
-μ-loop at row₀ i₀ row i = 128 - i
+μ-loop at mark row₀ i₀ row i = 128 - i
 
 loop-holds : tie.Need-loop-holds Inv-loop μ-loop
 loop-holds c = search needs

@@ -4,23 +4,27 @@ use mathlib.Core.Path.{refl, sym, subst}
 use borrow.Author.Needs.{needs}
 use borrow.Author.Tests.{eq-eqb, ne-eqb}
 use Rattle.desk.proofs.EndLaws.{accept-plain}
+use Rattle.desk.proofs.MarkingLaws.{marking-users}
 use Rattle.desk.proofs.NoticeLaws.{reject-cause}
 use Rattle.desk.proofs.PostLaws.{plain-by, refused-by, decide-plain, interrogate-plain, interrogate-area, desk-profile}
 use Rattle.desk.specs.Orders.{sentAnswer}
 use Rattle.desk.proofs.posted.sent.Statement.{statement}
 use Rattle.desk.proofs.posted.sent.Tie as tie
 
-activate-requires : tie.Need-activate-requires
-activate-requires c κs =
-    let a = c .before .before .before in
-    (desk-profile _ (a .pre .0), (a .pre .1, c .before .if1 .taken))
+names-dispatchers-requires : tie.Need-names-dispatchers-requires
+names-dispatchers-requires c κs = search needs
+
+change-requires : tie.Need-change-requires
+change-requires c κs =
+    let a = c .before .before .before .before .before .before in
+    (desk-profile _ (a .pre .0), marking-users _ _ (a .pre .1) (c .before .before .before .before .if1 .taken))
 
 same-length : tie.Need-same-length
 same-length c = search needs
 
 returns : tie.Need-returns
 unfolding sentAnswer
-returns c = rw (eq-eqb _ _ (c .before .before .before .before .if1 .taken)) (c .before .before .activate .ensures)
+returns c = rw (eq-eqb _ _ (c .before .before .before .before .before .before .before .if1 .taken)) (rw (c .before .before .before .before .names-dispatchers .ensures) at (c .before .before .change .ensures))
 
 interrogate-requires : tie.Need-interrogate-requires
 interrogate-requires c κs = search needs
@@ -91,7 +95,8 @@ pub sent-spec : {M : Type 1} → statement M
 sent-spec =
     tie.close
     (tie.spec
-    activate-requires
+    names-dispatchers-requires
+    change-requires
     same-length
     returns
     interrogate-requires

@@ -17,7 +17,7 @@ returns-2 : tie.Need-returns-2
 returns-2 c =
     let s = c .before in
     let n : length (s .args .at) ≡ 128 = s .good .0 .1 .0 .1 in
-    no-place (s .args .at) (s .args .i) (omega arith)
+    no-place (s .args .at) (s .args .i) (s .args .to) (omega arith)
 
 pub set-mark-spec : {M : Type 1} → statement M
 set-mark-spec = tie.close (tie.spec array-write-next returns returns-2)

@@ -1,13 +1,13 @@
-// ACTIVATE.
+// A request to change marks: ACTIVATE.
 ghost use mathlib.Core.Path.{_≡_};
 ghost use mathlib.Core.Bool.{true, false};
 ghost use Prim.Native.Nat.{_≤_};
 ghost use lib.ListN.{length, take};
 ghost use Rattle.profile.specs.Rules.{profileOk};
 ghost use Rattle.message.specs.Groups.{groupC};
-ghost use Rattle.validity.specs.Validity.{validOf};
-ghost use Rattle.desk.specs.Orders.{someoneBy, namesDispatchers, activateAnswer};
-ghost use Rattle.desk.specs.Steps.{saidIn, acksStep, acksArea, stepBy, areaBy};
+ghost use Rattle.message.specs.Rows.{ackRow, rowOf};
+ghost use Rattle.desk.specs.Orders.{someoneBy, namesDispatchers, markingAnswer};
+ghost use Rattle.desk.specs.Steps.{askedIn, saidIn, acksStep, acksArea, stepBy, areaBy};
 use crate::Answer;
 use crate::Desk;
 use crate::Stepped;
@@ -19,20 +19,28 @@ use profile::Kind;
 use profile::Meaning;
 use records::Record;
 
-pub(crate) fn activate(
+// Of these users, by ACKs of this type, that their mark becomes this.
+pub struct Asked {
+    pub users: Group,
+    pub ack: u8,
+    pub mark: bool,
+}
+
+// `given`: dispatcher addresses are.
+pub(crate) fn change(
     desk: Desk,
     rows: [Record; 128],
     count: usize,
     post: u8,
     value: Value,
+    given: bool,
     out: &mut [u8],
 ) -> Stepped
-    requires { ⌜ (profileOk (desk .profile) ≡ true) × ((validOf (desk .profile .air) value ≡ true) × (value .pdu ≡ 2)) ⌝ }
-    ensures { λ r. ⌜ (r ≡ stepBy desk (take count rows) post (value .users) (saidIn value) (activateAnswer desk rows count (length (now (out .entry))) value))
-        × (now (out .exit) ≡ areaBy desk (take count rows) post (value .users) (saidIn value) (now (out .entry)) (activateAnswer desk rows count (length (now (out .entry))) value)) ⌝ }
+    requires { ⌜ (profileOk (desk .profile) ≡ true) × (groupC (desk .profile .air) false .ok (value .users) ≡ true) ⌝ }
+    ensures { λ r. ⌜ (r ≡ stepBy desk (take count rows) post (askedIn value) (saidIn value) (markingAnswer desk rows count (length (now (out .entry))) given))
+        × (now (out .exit) ≡ areaBy desk (take count rows) post (askedIn value) (saidIn value) (now (out .entry)) (markingAnswer desk rows count (length (now (out .entry))) given)) ⌝ }
 {
     let profile = desk.profile;
-    let air = profile.air;
     let shares = profile.shares;
     let sound = records::records_ok(rows, count, shares.posts);
     if out.len() < 300 {
@@ -41,11 +49,21 @@ pub(crate) fn activate(
     if sound {} else {
         return kept::refused(desk, codec::refuse(15));
     }
-    if names_dispatchers(air, value) {
+    if given {
         return kept::refused(desk, codec::refuse(21));
     }
+    acks(desk, rows, count, post, asked_in(value), out)
+}
+
+fn asked_in(value: Value) -> Asked
+    ensures { λ r. ⌜ r ≡ askedIn value ⌝ }
+{
     let users = value.users;
-    acks(desk, rows, count, post, users, out)
+    Asked {
+        users: users,
+        ack: 3,
+        mark: true,
+    }
 }
 
 // The ACKs, and the marks of the accepted ones.
@@ -54,18 +72,19 @@ fn acks(
     rows: [Record; 128],
     count: usize,
     post: u8,
-    users: Group,
+    asked: Asked,
     out: &mut [u8],
 ) -> Stepped
-    requires { ⌜ (profileOk (desk .profile) ≡ true) × ((groupC (desk .profile .air) false .ok users ≡ true) × (300 ≤ length (now out))) ⌝ }
-    ensures { λ r. ⌜ (r ≡ acksStep desk (take count rows) post users)
-        × (now (out .exit) ≡ acksArea desk (take count rows) post users (now (out .entry))) ⌝ }
+    requires { ⌜ (profileOk (desk .profile) ≡ true) × ((rowOf (asked .ack) ≡ ackRow) × ((groupC (desk .profile .air) false .ok (asked .users) ≡ true) × (300 ≤ length (now out)))) ⌝ }
+    ensures { λ r. ⌜ (r ≡ acksStep desk (take count rows) post asked)
+        × (now (out .exit) ≡ acksArea desk (take count rows) post asked (now (out .entry))) ⌝ }
 {
     let profile = desk.profile;
     let air = profile.air;
+    let users = asked.users;
     let sorted = records::sorted_of(air, users, rows, count, post);
-    let laid = sending::send_acks(profile, users, sorted, out);
-    let marks = records::marks_of(air, users, rows, count, post);
+    let laid = sending::send_acks(profile, asked.ack, users, sorted, out);
+    let marks = records::marks_of(air, users, rows, count, post, asked.mark);
     Stepped {
         answer: Answer::Acks,
         laid: laid,
@@ -75,7 +94,7 @@ fn acks(
 }
 
 // Dispatcher addresses are given.
-fn names_dispatchers(air: Air, value: Value) -> bool
+pub(crate) fn names_dispatchers(air: Air, value: Value) -> bool
     ensures { λ r. ⌜ r ≡ namesDispatchers air value ⌝ }
 {
     let meanings = air.meanings;

@@ -1,10 +1,10 @@
--- Written by tools/proofs from tools/desk.conf. `desk::activate::names_dispatchers` meets its contract. Assumes nothing.
+-- Written by tools/proofs from tools/desk.conf. `desk::marking::names_dispatchers` meets its contract. Assumes nothing.
 use mathlib.Core.Path.{sym, _∙_}
 use borrow.Author.Needs.{needs}
 use Rattle.codec.specs.Codec.{both}
 use Rattle.desk.specs.Orders.{namesDispatchers}
-use Rattle.desk.proofs.activate.names_dispatchers.Statement.{statement}
-use Rattle.desk.proofs.activate.names_dispatchers.Tie as tie
+use Rattle.desk.proofs.marking.names_dispatchers.Statement.{statement}
+use Rattle.desk.proofs.marking.names_dispatchers.Tie as tie
 
 given-at-requires : tie.Need-given-at-requires
 given-at-requires c κs = search needs
