@@ -3,6 +3,9 @@
 //! benchmark's plain reader is in the archive too, for its own comparison and its measuring.
 
 #[allow(dead_code)]
+#[path = "../model/ack.rs"]
+pub mod ack;
+#[allow(dead_code)]
 #[path = "../model/bits.rs"]
 pub mod bits;
 #[allow(dead_code)]

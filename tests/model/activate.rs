@@ -1,6 +1,8 @@
-//! What ACTIVATE does: an outcome for each identity, a mark or none, and the ACKs.
+//! What ACTIVATE and DEACTIVATE do: an outcome for each identity, its mark set or cleared or left,
+//! and the ACKs. The two differ in the mark's new value and in the type of their ACKs alone.
 
-use crate::message::{AckResult, Group, Message};
+use crate::ack::{Ack, AckResult};
+use crate::message::Group;
 use crate::profile::Profile;
 use crate::records::{record_of, Identity, Record};
 
@@ -11,12 +13,14 @@ pub enum Outcome {
     Failed(u32),
 }
 
-/// The outcome of each identity, in order; the marks of the accepted ones are set.
-pub fn activate(
+/// The outcome of each identity, in order; the marks of the accepted ones become `active`, whatever
+/// they were.
+pub fn set_marks(
     profile: &Profile,
     records: &mut [Record],
     identities: &[Identity],
     post: u32,
+    active: bool,
 ) -> Vec<Outcome> {
     let mut outcomes = Vec::new();
     for identity in identities {
@@ -26,7 +30,7 @@ pub fn activate(
                 Outcome::Failed(profile.reason_other_post)
             }
             Some(number) => {
-                records[number].active = true;
+                records[number].active = active;
                 Outcome::Accepted
             }
         });
@@ -34,8 +38,8 @@ pub fn activate(
     outcomes
 }
 
-/// One ACTIVATE ACK for each different outcome, in the order accepted, U, N.
-pub fn acks(profile: &Profile, users: &Group, outcomes: &[Outcome]) -> Vec<Message> {
+/// One ACK for each different outcome, in the order accepted, U, N.
+pub fn acks(profile: &Profile, users: &Group, outcomes: &[Outcome]) -> Vec<Ack> {
     let mut different = Vec::new();
     for outcome in [
         Outcome::Accepted,
@@ -49,7 +53,7 @@ pub fn acks(profile: &Profile, users: &Group, outcomes: &[Outcome]) -> Vec<Messa
     let several = different.len() > 1;
     different
         .iter()
-        .map(|outcome| Message::ActivateAck {
+        .map(|outcome| Ack {
             users: users.clone(),
             mask: if several {
                 Some(outcomes.iter().map(|other| other == outcome).collect())

@@ -4,12 +4,14 @@
 use std::collections::BTreeMap;
 use std::io::{self, Write};
 
-const NAMES: [&str; 12] = [
+const NAMES: [&str; 14] = [
     "ACCEPT",
     "ACCEPTED",
     "ACTIVATE",
     "ACTIVATE ACK",
     "CANCEL",
+    "DEACTIVATE",
+    "DEACTIVATE ACK",
     "DIVERT",
     "DIVERTED",
     "INTERCEPTED",

@@ -5,7 +5,8 @@ mod waiting;
 
 pub use waiting::{posts_asked, restricted};
 
-use crate::activate::{acks, activate};
+use crate::ack::Ack;
+use crate::activate::{acks, set_marks};
 use crate::bits::Refusal;
 use crate::message::{read, Address, Group, Message};
 use crate::places::{places_keep_rules, Places, ALL_FREE};
@@ -18,6 +19,21 @@ use crate::write::write;
 const OUTPUT_BYTES: usize = 300;
 /// Message k of a call is written from byte 100 x k.
 const BYTES_BETWEEN: usize = 100;
+
+/// In what ACTIVATE and DEACTIVATE differ: the mark's new value, and the message an ACK becomes.
+struct Marking {
+    active: bool,
+    message: fn(Ack) -> Message,
+}
+
+const ACTIVATE: Marking = Marking {
+    active: true,
+    message: Message::ActivateAck,
+};
+const DEACTIVATE: Marking = Marking {
+    active: false,
+    message: Message::DeactivateAck,
+};
 
 #[derive(Clone, PartialEq, Eq, Debug)]
 pub struct Desk {
@@ -95,15 +111,17 @@ impl Desk {
         self.known_post(post)?;
         match read(&self.profile, bytes, length)? {
             Message::Activate { users, dispatchers } => {
-                self.activate(lent, post, &users, dispatchers.as_ref())
+                self.mark(lent, post, &users, dispatchers.as_ref(), &ACTIVATE)
             }
+            Message::Deactivate { users } => self.mark(lent, post, &users, None, &DEACTIVATE),
             Message::Interrogate { user } => self.interrogate(lent, post, &user),
             Message::Accept { identifier } => self.accept(lent, post, identifier),
             Message::Divert { identifier } => self.divert(lent, post, identifier),
             Message::Reject { identifier, cause } => {
                 self.end_rejected(lent, post, identifier, cause)
             }
-            Message::ActivateAck { .. }
+            Message::ActivateAck(_)
+            | Message::DeactivateAck(_)
             | Message::Intercepted { .. }
             | Message::Request { .. }
             | Message::Accepted
@@ -113,13 +131,14 @@ impl Desk {
         }
     }
 
-    /// 14, 15, 21.
-    fn activate(
+    /// ACTIVATE and DEACTIVATE alike: 14, 15, 21. DEACTIVATE has no dispatchers, so no 21.
+    fn mark(
         &self,
         lent: Lent,
         post: u32,
         users: &Group,
         dispatchers: Option<&Group>,
+        marking: &Marking,
     ) -> Result<Answer, Refusal> {
         long_enough(lent.output)?;
         self.sound_records(lent.records)?;
@@ -129,11 +148,13 @@ impl Desk {
             21,
         )?;
         let identities = identities_of(&self.profile, users);
-        let outcomes = activate(&self.profile, lent.records, &identities, post);
+        let active = marking.active;
+        let outcomes = set_marks(&self.profile, lent.records, &identities, post, active);
         let mut bits = Vec::new();
-        for (number, ack) in acks(&self.profile, users, &outcomes).iter().enumerate() {
+        let acks = acks(&self.profile, users, &outcomes);
+        for (number, ack) in acks.into_iter().enumerate() {
             let area = &mut lent.output[BYTES_BETWEEN * number..];
-            bits.push(self.put(ack, area));
+            bits.push(self.put(&(marking.message)(ack), area));
         }
         Ok(Answer::Acks { bits })
     }

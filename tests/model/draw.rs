@@ -1,8 +1,9 @@
 //! Valid profiles and valid messages drawn by the dice, with the edges of each number frequent.
 //! Whatever is drawn here, reading has to accept.
 
+use crate::ack::{Ack, AckResult};
 use crate::dice::Dice;
-use crate::message::{identity_count, meaning_of, AckResult, Address, Group, Message};
+use crate::message::{identity_count, meaning_of, Address, Group, Message};
 use crate::profile::{Meaning, Post, Profile, MOST_POSTS, PLACES};
 use crate::request::{Options, AREA_BITS, SERVICE_BITS};
 
@@ -50,17 +51,10 @@ pub fn message(dice: &mut Dice, profile: &Profile) -> Message {
         return about_waiting_call(dice, profile);
     }
     let pdu_type = dice.pick(&[
-        2, 2, 2, 3, 3, 3, 8, 8, 10, 10, 12, 12, 13, 13, 15, 15, 16, 16,
+        2, 2, 2, 3, 3, 3, 4, 4, 4, 5, 5, 5, 8, 8, 10, 10, 12, 12, 13, 13, 15, 15, 16, 16,
     ]);
     match pdu_type {
-        2 | 3 => match users(dice, profile) {
-            Some(users) if pdu_type == 2 => Message::Activate {
-                users,
-                dispatchers: dispatchers(dice, profile),
-            },
-            Some(users) => activate_ack(dice, profile, users),
-            None => Message::Accepted,
-        },
+        2..=5 => about_users(dice, profile, pdu_type).unwrap_or(Message::Accepted),
         8 => Message::Interrogate {
             user: address(dice, profile),
         },
@@ -80,6 +74,21 @@ pub fn message(dice: &mut Dice, profile: &Profile) -> Message {
             dispatcher: optional_address(dice, profile),
         },
     }
+}
+
+/// ACTIVATE, its ACK, DEACTIVATE or its ACK; nothing if the profile has no range value that users
+/// may have.
+pub fn about_users(dice: &mut Dice, profile: &Profile, pdu_type: u32) -> Option<Message> {
+    let users = users(dice, profile)?;
+    Some(match pdu_type {
+        2 => Message::Activate {
+            users,
+            dispatchers: dispatchers(dice, profile),
+        },
+        3 => Message::ActivateAck(ack(dice, profile, users)),
+        4 => Message::Deactivate { users },
+        _ => Message::DeactivateAck(ack(dice, profile, users)),
+    })
 }
 
 /// REQUEST, CANCEL, REJECT or REJECTED, nearly half of the time REQUEST.
@@ -124,7 +133,7 @@ fn options(dice: &mut Dice, profile: &Profile) -> Options {
     }
 }
 
-fn activate_ack(dice: &mut Dice, profile: &Profile, users: Group) -> Message {
+fn ack(dice: &mut Dice, profile: &Profile, users: Group) -> Ack {
     let count = identity_count(profile, &users);
     let mask = match dice.below(6) {
         0 => Some(vec![false; count]),
@@ -139,7 +148,7 @@ fn activate_ack(dice: &mut Dice, profile: &Profile, users: Group) -> Message {
             reason: dice.number(7),
         }
     };
-    Message::ActivateAck {
+    Ack {
         users,
         mask,
         result,

@@ -1,6 +1,7 @@
 //! Messages with a fault in their bits, one function for each sort of fault, drawn by the dice.
 //! Some come out valid all the same: they stand on the good side of an edge.
 
+use crate::ack::Ack;
 use crate::dice::Dice;
 use crate::draw;
 use crate::message::{Address, Group, Message};
@@ -8,7 +9,7 @@ use crate::profile::Profile;
 use crate::request::Options;
 use crate::write::{bits_of, elements};
 
-const CARRIED: [u32; 12] = [2, 3, 8, 10, 11, 12, 13, 14, 15, 16, 17, 18];
+const CARRIED: [u32; 14] = [2, 3, 4, 5, 8, 10, 11, 12, 13, 14, 15, 16, 17, 18];
 
 pub fn sound(dice: &mut Dice, profile: &Profile) -> Vec<bool> {
     bits_of(profile, &draw::message(dice, profile))
@@ -165,9 +166,12 @@ pub fn about_waiting_call(dice: &mut Dice, profile: &Profile) -> Vec<bool> {
 pub fn mask(dice: &mut Dice, profile: &Profile) -> Vec<bool> {
     loop {
         let mut message = draw::message(dice, profile);
-        if let Message::ActivateAck {
+        if let Message::ActivateAck(Ack {
             mask: Some(mask), ..
-        } = &mut message
+        })
+        | Message::DeactivateAck(Ack {
+            mask: Some(mask), ..
+        }) = &mut message
         {
             if dice.one_in(2) {
                 mask.push(dice.one_in(2));
@@ -245,7 +249,10 @@ fn groups_of(message: &mut Message) -> Vec<&mut Group> {
             users,
             dispatchers: Some(dispatchers),
         } => vec![users, dispatchers],
-        Message::Activate { users, .. } | Message::ActivateAck { users, .. } => vec![users],
+        Message::Activate { users, .. }
+        | Message::Deactivate { users }
+        | Message::ActivateAck(Ack { users, .. })
+        | Message::DeactivateAck(Ack { users, .. }) => vec![users],
         _ => Vec::new(),
     }
 }

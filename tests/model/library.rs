@@ -1,5 +1,6 @@
 //! The model as a static library for a C program: the same files, without the programs.
 
+pub mod ack;
 pub mod bits;
 pub mod interface;
 pub mod layout;

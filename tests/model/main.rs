@@ -1,6 +1,7 @@
 //! An independent model of SS-CAD messages, of the call desk, and of the programs over them.
 //! It shares nothing with the product: where the two differ, documents 01 and 02 decide.
 
+mod ack;
 mod activate;
 mod bits;
 mod count;

@@ -1,6 +1,7 @@
 //! The messages that are carried and how one is read from a byte buffer and a bit length.
 //! Every refusal is given by document 01's number, in the order of its "Order" paragraph.
 
+use crate::ack::{read_ack, Ack};
 use crate::bits::{Bits, Refusal};
 use crate::profile::{Meaning, Profile};
 use crate::request::{read_options, Options};
@@ -24,22 +25,16 @@ pub struct Group {
 }
 
 #[derive(Clone, PartialEq, Eq, Debug)]
-pub enum AckResult {
-    Accepted,
-    NotAccepted { reason: u32 },
-}
-
-#[derive(Clone, PartialEq, Eq, Debug)]
 pub enum Message {
     Activate {
         users: Group,
         dispatchers: Option<Group>,
     },
-    ActivateAck {
+    ActivateAck(Ack),
+    Deactivate {
         users: Group,
-        mask: Option<Vec<bool>>,
-        result: AckResult,
     },
+    DeactivateAck(Ack),
     Interrogate {
         user: Address,
     },
@@ -82,7 +77,9 @@ impl Message {
     pub fn pdu_type(&self) -> u32 {
         match self {
             Message::Activate { .. } => 2,
-            Message::ActivateAck { .. } => 3,
+            Message::ActivateAck(_) => 3,
+            Message::Deactivate { .. } => 4,
+            Message::DeactivateAck(_) => 5,
             Message::Interrogate { .. } => 8,
             Message::Intercepted { .. } => 10,
             Message::Accept { .. } => 12,
@@ -99,7 +96,9 @@ impl Message {
     pub fn name(&self) -> &'static str {
         match self {
             Message::Activate { .. } => "ACTIVATE",
-            Message::ActivateAck { .. } => "ACTIVATE ACK",
+            Message::ActivateAck(_) => "ACTIVATE ACK",
+            Message::Deactivate { .. } => "DEACTIVATE",
+            Message::DeactivateAck(_) => "DEACTIVATE ACK",
             Message::Interrogate { .. } => "INTERROGATE",
             Message::Intercepted { .. } => "INTERCEPTED",
             Message::Accept { .. } => "ACCEPT",
@@ -139,7 +138,11 @@ fn read_elements(profile: &Profile, bits: &mut Bits) -> Result<Message, Refusal>
     match pdu_type {
         0 | 1 | 19..=31 => Err(6),
         2 => read_activate(profile, bits),
-        3 => read_activate_ack(profile, bits),
+        3 => Ok(Message::ActivateAck(read_ack(profile, bits)?)),
+        4 => Ok(Message::Deactivate {
+            users: read_users(profile, bits)?,
+        }),
+        5 => Ok(Message::DeactivateAck(read_ack(profile, bits)?)),
         8 => Ok(Message::Interrogate {
             user: read_address(bits)?,
         }),
@@ -174,7 +177,7 @@ fn read_elements(profile: &Profile, bits: &mut Bits) -> Result<Message, Refusal>
             cause: bits.take(5)?,
             dispatcher: read_optional_address(bits)?,
         }),
-        // 4 to 7 and 9: the CAD types that are not carried yet.
+        // 6, 7 and 9: the CAD types that are not carried yet.
         _ => Err(7),
     }
 }
@@ -186,26 +189,6 @@ fn read_activate(profile: &Profile, bits: &mut Bits) -> Result<Message, Refusal>
         dispatchers = Some(read_group(profile, bits)?);
     }
     Ok(Message::Activate { users, dispatchers })
-}
-
-fn read_activate_ack(profile: &Profile, bits: &mut Bits) -> Result<Message, Refusal> {
-    let users = read_users(profile, bits)?;
-    let mut mask = None;
-    if bits.take(1)? == 1 {
-        mask = Some(bits.take_bits(identity_count(profile, &users))?);
-    }
-    let result = if bits.take(1)? == 1 {
-        AckResult::Accepted
-    } else {
-        AckResult::NotAccepted {
-            reason: bits.take(7)?,
-        }
-    };
-    Ok(Message::ActivateAck {
-        users,
-        mask,
-        result,
-    })
 }
 
 /// The O-bit, and after an O-bit of 1 the one P-bit, which has to be 1.
@@ -227,7 +210,7 @@ fn read_optional_address(bits: &mut Bits) -> Result<Option<Address>, Refusal> {
     }
 }
 
-fn read_users(profile: &Profile, bits: &mut Bits) -> Result<Group, Refusal> {
+pub fn read_users(profile: &Profile, bits: &mut Bits) -> Result<Group, Refusal> {
     let range = bits.take(4)?;
     if meaning_of(profile, range) == Meaning::NoIdentity {
         return Err(9);

@@ -2,6 +2,7 @@
 //! Chosen by hand or counted through; no dice. Its last line has no LF. What a request brings is
 //! appended.
 
+mod deactivations;
 mod requests;
 
 use crate::hex::read_hex;
@@ -36,11 +37,12 @@ fn lines() -> Vec<Vec<u8>> {
     suite.range_ends();
     suite.kinds();
     suite.options();
-    suite.acks();
+    suite.acks(ACK);
     suite.lengths();
     suite.lines.extend(shapes::lines());
     suite.text("25 25FFFF80");
     suite.requests();
+    suite.deactivations();
     suite.lines
 }
 
@@ -193,37 +195,38 @@ impl Suite {
         }
     }
 
-    fn acks(&mut self) {
+    /// ACKs of one type, ACTIVATE's or DEACTIVATE's, from the header on.
+    fn acks(&mut self, header: Row) {
         let range_of_4: Row = &[&[(15, 4)], USER, &[(1, 2), (1004, 24)]].concat();
         let range_of_64: Row = &[&[(15, 4)], USER, &[(1, 2), (1064, 24)]].concat();
         let accepted: Row = &[(1, 1)];
         // Case 9's three ACKs.
-        self.message(&[ACK, range_of_4, &[(1, 1), (0b1100, 4)], accepted]);
-        self.message(&[ACK, range_of_4, &[(1, 1), (0b0010, 4), (0, 1), (1, 7)]]);
-        self.message(&[ACK, range_of_4, &[(1, 1), (0b0001, 4), (0, 1), (2, 7)]]);
+        self.message(&[header, range_of_4, &[(1, 1), (0b1100, 4)], accepted]);
+        self.message(&[header, range_of_4, &[(1, 1), (0b0010, 4), (0, 1), (1, 7)]]);
+        self.message(&[header, range_of_4, &[(1, 1), (0b0001, 4), (0, 1), (2, 7)]]);
         // The mask counts identities, not addresses: two bits are too few here.
-        self.message(&[ACK, range_of_4, &[(1, 1), (0b11, 2)]]);
+        self.message(&[header, range_of_4, &[(1, 1), (0b11, 2)]]);
         self.message(&[
-            ACK,
+            header,
             range_of_64,
             &[(1, 1), (0, 31), (1, 32), (1, 1)],
             accepted,
         ]);
-        self.message(&[ACK, range_of_64, &[(1, 1), (0, 31), (1, 32)]]);
-        self.message(&[ACK, range_of_64, &[(1, 1), (!0, 32), (!0, 32)]]);
+        self.message(&[header, range_of_64, &[(1, 1), (0, 31), (1, 32)]]);
+        self.message(&[header, range_of_64, &[(1, 1), (!0, 32), (!0, 32)]]);
         for count in 1..4 {
             let list: Row = &[&[(count, 4)], &USER.repeat(count as usize)[..]].concat();
             let width = count as usize;
-            self.message(&[ACK, list, &[(0, 1)], accepted]);
-            self.message(&[ACK, list, &[(1, 1), (0, width)], accepted]);
-            self.message(&[ACK, list, &[(1, 1), (!0, width)], &[(0, 1), (0, 7)]]);
+            self.message(&[header, list, &[(0, 1)], accepted]);
+            self.message(&[header, list, &[(1, 1), (0, width)], accepted]);
+            self.message(&[header, list, &[(1, 1), (!0, width)], &[(0, 1), (0, 7)]]);
         }
         let list: Row = &[&[(2, 4)], USER, FAR_USER].concat();
-        self.message(&[ACK, list]);
-        self.message(&[ACK, list, &[(1, 1), (1, 1)]]);
-        self.message(&[ACK, list, &[(0, 1)], &[(0, 1), (127, 7)]]);
-        self.message(&[ACK, list, &[(0, 1)], &[(0, 1), (0, 6)]]);
-        self.message(&[ACK, list, &[(0, 1)], accepted, &[(0, 7)]]);
+        self.message(&[header, list]);
+        self.message(&[header, list, &[(1, 1), (1, 1)]]);
+        self.message(&[header, list, &[(0, 1)], &[(0, 1), (127, 7)]]);
+        self.message(&[header, list, &[(0, 1)], &[(0, 1), (0, 6)]]);
+        self.message(&[header, list, &[(0, 1)], accepted, &[(0, 7)]]);
     }
 
     fn lengths(&mut self) {

@@ -1,7 +1,8 @@
 //! The table of worked values for `rounds`: 1 to 18 are written, 19 to 23 try the area's size,
-//! 24 to 37 are not valid; from 38 on the same for request (iv). All of it is meant for the sample
-//! profile.
+//! 24 to 37 are not valid; from 38 on the same for request (iv), and from 65 on for request (i).
+//! All of it is meant for the sample profile.
 
+mod deactivations;
 mod requests;
 
 use crate::message::Address;
@@ -30,6 +31,7 @@ pub fn rows() -> Vec<Row> {
         });
     }
     rows.extend(requests::rows());
+    rows.extend(deactivations::rows());
     rows
 }
 

@@ -1,8 +1,8 @@
 //! The flat value: one struct with a field for all that any of the messages carries.
 //! What a message doesn't carry is zero, so a value is valid exactly if it is some message, flat.
 
-use crate::message::{are_range_ends, identity_count, meaning_of};
-use crate::message::{AckResult, Address, Group, Message};
+use crate::ack::{Ack, AckResult};
+use crate::message::{are_range_ends, identity_count, meaning_of, Address, Group, Message};
 use crate::profile::{Meaning, Profile};
 use crate::request::{Options, AREA_BITS, MNI_BITS, SERVICE_BITS};
 
@@ -71,21 +71,8 @@ pub fn flat(message: &Message) -> Value {
                 value.dispatchers = flat_group(group);
             }
         }
-        Message::ActivateAck {
-            users,
-            mask,
-            result,
-        } => {
-            value.users = flat_group(users);
-            if let Some(mask) = mask {
-                value.masked = true;
-                value.mask = flat_mask(mask);
-            }
-            match result {
-                AckResult::Accepted => value.result = 1,
-                AckResult::NotAccepted { reason } => value.reason = *reason,
-            }
-        }
+        Message::Deactivate { users } => value.users = flat_group(users),
+        Message::ActivateAck(ack) | Message::DeactivateAck(ack) => flat_ack(ack, &mut value),
         Message::Interrogate { user } => value.users.addresses[0] = *user,
         Message::Intercepted { cause, dispatcher }
         | Message::Diverted { cause, dispatcher }
@@ -115,6 +102,18 @@ pub fn flat(message: &Message) -> Value {
         Message::Accepted => {}
     }
     value
+}
+
+fn flat_ack(ack: &Ack, value: &mut Value) {
+    value.users = flat_group(&ack.users);
+    if let Some(mask) = &ack.mask {
+        value.masked = true;
+        value.mask = flat_mask(mask);
+    }
+    match ack.result {
+        AckResult::Accepted => value.result = 1,
+        AckResult::NotAccepted { reason } => value.reason = reason,
+    }
 }
 
 fn flat_options(options: &Options, value: &mut Value) {
@@ -166,7 +165,11 @@ fn carried(profile: &Profile, value: &Value) -> Option<Message> {
                 None
             },
         }),
-        3 => carried_ack(profile, value),
+        3 => Some(Message::ActivateAck(carried_ack(profile, value)?)),
+        4 => Some(Message::Deactivate {
+            users: carried_users(profile, &value.users)?,
+        }),
+        5 => Some(Message::DeactivateAck(carried_ack(profile, value)?)),
         8 => Some(Message::Interrogate {
             user: carried_address(&value.users.addresses[0])?,
         }),
@@ -205,7 +208,7 @@ fn carried(profile: &Profile, value: &Value) -> Option<Message> {
     }
 }
 
-fn carried_ack(profile: &Profile, value: &Value) -> Option<Message> {
+fn carried_ack(profile: &Profile, value: &Value) -> Option<Ack> {
     let users = carried_users(profile, &value.users)?;
     let mut mask = None;
     if value.masked {
@@ -222,7 +225,7 @@ fn carried_ack(profile: &Profile, value: &Value) -> Option<Message> {
             reason: fitting(value.reason, 7)?,
         }
     };
-    Some(Message::ActivateAck {
+    Some(Ack {
         users,
         mask,
         result,

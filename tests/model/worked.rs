@@ -1,7 +1,8 @@
 //! Document 01's worked cases that need reading alone: 1 to 8, 10, and the listing example; and
-//! the messages worked out for request (iv). Bytes, bit lengths and results are the papers',
-//! typed in here; nothing is computed by `read`.
+//! the messages worked out for requests (iv) and (i). Bytes, bit lengths and results are the
+//! papers', typed in here; nothing is computed by `read`.
 
+use crate::ack::{Ack, AckResult};
 use crate::bits::Refusal;
 use crate::message::{Address, Group, Message};
 use crate::request::Options;
@@ -142,6 +143,62 @@ pub fn request_cases() -> Vec<Case> {
         case("25C00280", 26, Err(13)),
         case("26200288", 31, Err(13)),
     ]
+}
+
+/// DEACTIVATE of case 8's users and the three ACKs that case 9's records give; and lengths that
+/// aren't theirs.
+pub fn deactivation_cases() -> Vec<Case> {
+    let case = |hex, length, expected| Case {
+        name: "(i)",
+        hex,
+        length,
+        expected,
+    };
+    let ack = |mask: [bool; 4], result| {
+        Ok(Message::DeactivateAck(Ack {
+            users: users_of_case_8(),
+            mask: Some(mask.to_vec()),
+            result,
+        }))
+    };
+    let deactivate = Message::Deactivate {
+        users: users_of_case_8(),
+    };
+    let accepted = AckResult::Accepted;
+    let (no_record, other_post) = (
+        AckResult::NotAccepted { reason: 1 },
+        AckResult::NotAccepted { reason: 2 },
+    );
+    vec![
+        case("249E8001F4A0007D80", 67, Ok(deactivate)),
+        case("249E8001F4A0007D80", 68, Err(13)),
+        case("249E8001F4A0007D80", 66, Err(4)),
+        case(
+            "24BE8001F4A0007D9C80",
+            73,
+            ack([true, true, false, false], accepted),
+        ),
+        case(
+            "24BE8001F4A0007D9201",
+            80,
+            ack([false, false, true, false], no_record),
+        ),
+        case(
+            "24BE8001F4A0007D9102",
+            80,
+            ack([false, false, false, true], other_post),
+        ),
+        // An ACK's reason cut by one bit, and a bit behind the result that says accepted.
+        case("24BE8001F4A0007D9201", 79, Err(4)),
+        case("24BE8001F4A0007D9C80", 74, Err(13)),
+    ]
+}
+
+fn users_of_case_8() -> Group {
+    Group {
+        range: 15,
+        addresses: vec![at_home(1001), at_home(1004)],
+    }
 }
 
 /// An address of kind 1.

@@ -1,8 +1,9 @@
 //! Writing a value into a byte area, and below it the bits of a message, element by element.
 //! `bits_of` checks nothing: a message that reading would refuse is written as it stands.
 
+use crate::ack::put_ack;
 use crate::bits::Refusal;
-use crate::message::{AckResult, Address, Group, Message};
+use crate::message::{Address, Group, Message};
 use crate::profile::Profile;
 use crate::request::put_options;
 use crate::value::{valid_message, Value};
@@ -49,18 +50,8 @@ pub fn bits_of(profile: &Profile, message: &Message) -> Vec<bool> {
                 put_group(&mut bits, group);
             }
         }
-        Message::ActivateAck {
-            users,
-            mask,
-            result,
-        } => {
-            put_group(&mut bits, users);
-            put(&mut bits, u32::from(mask.is_some()), 1);
-            if let Some(mask) = mask {
-                bits.extend(mask);
-            }
-            put_result(&mut bits, result);
-        }
+        Message::Deactivate { users } => put_group(&mut bits, users),
+        Message::ActivateAck(ack) | Message::DeactivateAck(ack) => put_ack(&mut bits, ack),
         Message::Interrogate { user } => put_address(&mut bits, user),
         Message::Intercepted { cause, dispatcher }
         | Message::Diverted { cause, dispatcher }
@@ -92,7 +83,7 @@ pub fn bits_of(profile: &Profile, message: &Message) -> Vec<bool> {
     bits
 }
 
-fn put_group(bits: &mut Vec<bool>, group: &Group) {
+pub fn put_group(bits: &mut Vec<bool>, group: &Group) {
     put(bits, group.range, 4);
     for address in &group.addresses {
         put_address(bits, address);
@@ -113,16 +104,6 @@ fn put_option_present(bits: &mut Vec<bool>, present: bool) {
         put(bits, 0b11, 2);
     } else {
         put(bits, 0, 1);
-    }
-}
-
-fn put_result(bits: &mut Vec<bool>, result: &AckResult) {
-    match result {
-        AckResult::Accepted => put(bits, 1, 1),
-        AckResult::NotAccepted { reason } => {
-            put(bits, 0, 1);
-            put(bits, *reason, 7);
-        }
     }
 }
 

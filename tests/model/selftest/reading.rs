@@ -1,11 +1,12 @@
 //! Reading, listing and the profile's rules, checked against document 01's worked cases.
 
 use super::Report;
+use crate::ack::{Ack, AckResult};
 use crate::dice::Dice;
 use crate::draw;
 use crate::hex::read_hex;
 use crate::listing::list;
-use crate::message::{read, AckResult, Group, Message};
+use crate::message::{read, Group, Message};
 use crate::profile::{sample, Meaning, Post, Profile};
 use crate::worked::{self, at_home, LISTING_INPUT, LISTING_OUTPUT};
 use crate::write::{bits_of, bytes_of};
@@ -27,7 +28,11 @@ pub fn check(report: &mut Report) -> io::Result<()> {
 
 fn worked_cases(report: &mut Report) -> io::Result<()> {
     let profile = sample();
-    for case in worked::cases().into_iter().chain(worked::request_cases()) {
+    let requests = [worked::request_cases(), worked::deactivation_cases()];
+    for case in worked::cases()
+        .into_iter()
+        .chain(requests.into_iter().flatten())
+    {
         let bytes = read_hex(case.hex.as_bytes()).unwrap_or_default();
         let mut good = read(&profile, &bytes, case.length) == case.expected;
         if let Ok(message) = &case.expected {
@@ -71,14 +76,14 @@ fn acks_of_case_9(report: &mut Report) -> io::Result<()> {
     ];
     let profile = sample();
     for (mask, result, length) in rows {
-        let ack = Message::ActivateAck {
+        let ack = Message::ActivateAck(Ack {
             users: Group {
                 range: 15,
                 addresses: vec![at_home(1001), at_home(1004)],
             },
             mask: Some(mask.chars().map(|bit| bit == '1').collect()),
             result,
-        };
+        });
         let bits = bits_of(&profile, &ack);
         let good = bits.len() == length && read(&profile, &bytes_of(&bits), length) == Ok(ack);
         let what = format!("case 9: ACK with mask {mask} has {length} bits and is read back");

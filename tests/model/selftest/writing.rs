@@ -48,6 +48,22 @@ const REQUESTS: [(usize, usize, &[u8]); 11] = [
     (50, 150, b"2560028B4000FA70001F6000002C00001632B8"),
 ];
 
+/// The same for request (i).
+const DEACTIVATIONS: [(usize, usize, &[u8]); 12] = [
+    (65, 67, b"249E8001F4A0007D80"),
+    (66, 41, b"24828001F480"),
+    (67, 91, b"24848001F4C00000E00000A0"),
+    (69, 115, b"249F000020000004C0000FE0000120"),
+    (70, 67, b"249E800003A00000E0"),
+    (71, 73, b"24BE8001F4A0007D9C80"),
+    (72, 80, b"24BE8001F4A0007D9201"),
+    (73, 80, b"24BE8001F4A0007D9102"),
+    (74, 69, b"24BE8001F4A0007D88"),
+    (75, 126, b"24A6800000A0000030000010000021FC"),
+    (76, 188, b"24BF000020000004C0000FE000013AAAAAAAAAAAAAAAA020"),
+    (79, 67, b"249E8001F4A0007D80"),
+];
+
 pub fn check(report: &mut Report) -> io::Result<()> {
     rows_of_the_paper(report)?;
     rows_refused(report)?;
@@ -65,6 +81,10 @@ fn rows_of_the_paper(report: &mut Report) -> io::Result<()> {
         let what = format!("row {row}: the bytes of request (iv), {length} bits");
         report.check(&what, written_so(row, length, hex))?;
     }
+    for (row, length, hex) in DEACTIVATIONS {
+        let what = format!("row {row}: the bytes of request (i), {length} bits");
+        report.check(&what, written_so(row, length, hex))?;
+    }
     Ok(())
 }
 
@@ -80,8 +100,8 @@ fn written_so(row: usize, length: usize, hex: &[u8]) -> bool {
 fn rows_refused(report: &mut Report) -> io::Result<()> {
     for (before, row) in rows().iter().enumerate() {
         let expected = match before + 1 {
-            20 | 22 | 23 | 51 => 14,
-            24..=37 | 52..=64 => 22,
+            20 | 22 | 23 | 51 | 80 | 82 => 14,
+            24..=37 | 52..=64 | 83..=108 => 22,
             _ => continue,
         };
         let mut area = vec![0xAA; row.area];
@@ -207,17 +227,17 @@ fn change(dice: &mut Dice, value: &mut Value) {
 
 /// Validity said a second time, as document 01's sentence has it: type, widths, 9 to 11, zeros.
 fn fits_every_rule(profile: &Profile, value: &Value) -> bool {
-    let group_of_users = value.pdu == 2 || value.pdu == 3;
+    let group_of_users = (2..=5).contains(&value.pdu);
     let one_user = value.pdu == 8;
     let request = value.pdu == 11;
     let group_of_dispatchers = value.pdu == 2 && value.option;
     let with_dispatcher = [10, 16, 18].contains(&value.pdu);
     let with_cause = with_dispatcher || request || value.pdu == 17;
     let one_dispatcher = with_dispatcher && value.option;
-    let ack = value.pdu == 3;
+    let ack = value.pdu == 3 || value.pdu == 5;
     let with_identifier = [11, 12, 14, 15, 17].contains(&value.pdu);
 
-    (value.pdu == 2 || value.pdu == 3 || value.pdu == 8 || (10..=18).contains(&value.pdu))
+    (group_of_users || one_user || (10..=18).contains(&value.pdu))
         && (request || group_rule(profile, &value.users, group_of_users, one_user))
         && request_rule(value, request)
         && group_rule(

@@ -23,8 +23,7 @@ const OPTIONS: [Row; 7] = [
 ];
 
 impl Suite {
-    /// The worked cases and bits left over, what can be refused, and each choice of the options;
-    /// the last line is CANCEL's.
+    /// The worked cases and bits left over, what can be refused, and each choice of the options.
     pub(super) fn requests(&mut self) {
         for case in worked::request_cases() {
             match case.expected {
