@@ -128,9 +128,13 @@ fn read_elements(profile: &[u8], rest: &mut Bits, value: &mut [u8]) -> Result<()
             }
             Ok(())
         }
-        3 => {
+        3 | 5 => {
             let identities = read_users(profile, rest, value)?;
             read_ack(rest, identities, value)
+        }
+        4 => {
+            read_users(profile, rest, value)?;
+            Ok(())
         }
         8 => {
             read_address(rest, value, USERS + 1)?;

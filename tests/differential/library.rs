@@ -35,6 +35,9 @@ pub mod profile;
 #[path = "../model/request.rs"]
 pub mod request;
 #[allow(dead_code)]
+#[path = "../model/user_fault.rs"]
+pub mod user_fault;
+#[allow(dead_code)]
 #[path = "../model/value.rs"]
 pub mod value;
 #[allow(dead_code)]

@@ -9,6 +9,7 @@ use crate::draw;
 use crate::fault;
 use crate::layout::{profile_bytes, VALUE_BYTES};
 use crate::profile::{sample, Meaning, Profile};
+use crate::user_fault;
 use crate::write::bytes_of;
 
 /// Sizes of the value area: none, just within a field, the bound and its neighbours, more.
@@ -89,17 +90,17 @@ fn each_bit_flipped(dice: &mut Dice, both: &mut Both, profile: &Profile, lent: &
 }
 
 fn faulty(dice: &mut Dice, profile: &Profile) -> Vec<bool> {
-    // three faults need a message with users, and not every profile has one
+    // some faults need a message with users, and not every profile has one
     let has_users = profile
         .meanings
         .iter()
         .any(|meaning| matches!(meaning, Meaning::List(_) | Meaning::FirstAndLast));
-    let mut bits = match dice.below(15) {
+    let mut bits = match dice.below(17) {
         0 => fault::ss_type(dice, profile),
         1 => fault::pdu_type(dice, profile),
-        2 | 3 if has_users => fault::range_ends(dice, profile),
-        4 if has_users => fault::range(dice, profile),
-        5 if has_users => fault::mask(dice, profile),
+        2 | 3 if has_users => user_fault::range_ends(dice, profile),
+        4 if has_users => user_fault::range(dice, profile),
+        5 if has_users => user_fault::mask(dice, profile),
         6 => fault::kind(dice, profile),
         7 => fault::option(dice, profile),
         8 => fault::content(dice, profile),
@@ -115,6 +116,7 @@ fn faulty(dice: &mut Dice, profile: &Profile) -> Vec<bool> {
         }
         11 => fault::options(dice, profile),
         12 => fault::about_waiting_call(dice, profile),
+        13 | 14 => user_fault::deactivation(dice, profile),
         _ => fault::sound(dice, profile),
     };
     if dice.one_in(6) {

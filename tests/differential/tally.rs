@@ -7,9 +7,11 @@ pub struct Tally {
     messages: [u64; ANSWERS],
 }
 
-const NAMES: [(usize, &str); 12] = [
+const NAMES: [(usize, &str); 14] = [
     (2, "ACTIVATE"),
     (3, "ACTIVATE ACK"),
+    (4, "DEACTIVATE"),
+    (5, "DEACTIVATE ACK"),
     (8, "INTERROGATE"),
     (10, "INTERCEPTED"),
     (11, "REQUEST"),
@@ -42,7 +44,7 @@ impl Tally {
         self.answers.iter().sum()
     }
 
-    /// Whether just these answers came, each of them, and each of the twelve messages.
+    /// Whether just these answers came, each of them, and each of the fourteen messages.
     pub fn gave_all(&self, wanted: &[usize]) -> bool {
         let mut all = true;
         for answer in 0..ANSWERS {

@@ -1,6 +1,6 @@
 //! Drawn writes. A round takes one profile: a valid value into areas of every size around the
-//! bound, with fields at their edges, bits flipped, parts of another value, and under damaged
-//! profiles.
+//! bound, with fields at their edges, bits flipped, parts of another value, the type of another
+//! message about users, and under damaged profiles.
 
 use crate::both::Both;
 use crate::damage;
@@ -45,6 +45,12 @@ pub fn round(dice: &mut Dice, both: &mut Both) {
         let mixed = mix(dice, &value, &other);
         let room = room(dice, own);
         both.write(&lent, &mixed, room);
+    }
+    for _ in 0..10 {
+        let mut other_type = value.clone();
+        other_type[0] = dice.pick(&[2, 3, 4, 5, 6, 7]);
+        let room = room(dice, own);
+        both.write(&lent, &other_type, room);
     }
     for _ in 0..20 {
         let damaged = damage::profile(dice, &lent);

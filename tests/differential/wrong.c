@@ -1,5 +1,5 @@
 /*
- * Eleven wrong products, each off in one thing now and then, made of the right one by the linker's --wrap; WRONG says which. With 0 it is
+ * Fifteen wrong products, each off in one thing now and then, made of the right one by the linker's --wrap; WRONG says which. With 0 it is
  * the right one. The differential test has to find each of the others.
  */
 #include "cad.h"
@@ -14,6 +14,9 @@ uint32_t __wrap_cad_write(const uint8_t *, size_t, const uint8_t *, size_t, uint
 
 /* REQUEST and REJECT, and where a value has REQUEST's two addresses and its two services. */
 enum { REQUEST = 11, REJECT = 17, CALLING = 2, CALLED = 9, ADDRESS_BYTES = 7, SERVICE_CALLING = 239, SERVICE_CALLED = 240 };
+
+/* Types about users, and where a value has the mask and the result; a written message has its type in bits 6 to 10. */
+enum { ACTIVATE_ACK = 3, DEACTIVATE = 4, DEACTIVATE_ACK = 5, MASKED = 107, RESULT = 116, MASK_BYTES = 8 };
 
 static int wrong(void)
 {
@@ -61,6 +64,21 @@ uint32_t __wrap_cad_read(const uint8_t *profile, size_t profile_len, const uint8
         if (answer == CAD_DONE && cad_value_pdu(value) == REJECT)
             cad_value_set_cause(value, 0);
         break;
+    case 12: /* DEACTIVATE ACK is read as an ACTIVATE ACK */
+        if (answer == CAD_DONE && cad_value_pdu(value) == DEACTIVATE_ACK)
+            value[0] = ACTIVATE_ACK;
+        break;
+    case 13: /* DEACTIVATE ACK's mask is dropped where it says accepted */
+        if (answer == CAD_DONE && cad_value_pdu(value) == DEACTIVATE_ACK && value[RESULT] == 1)
+            memset(value + MASKED, 0, 1 + MASK_BYTES);
+        break;
+    case 14: /* a bit behind DEACTIVATE is taken for an O-bit */
+        if (answer == CAD_REFUSED_LEFT_OVER && bits > 11 && (message[0] & 3) == 0 && message[1] >> 5 == DEACTIVATE) {
+            uint32_t less = __real_cad_read(profile, profile_len, message, message_len, bits - 1, value, value_len);
+            if (less == CAD_DONE)
+                return less;
+        }
+        break;
     default: break;
     }
     return answer;
@@ -82,6 +100,10 @@ uint32_t __wrap_cad_write(const uint8_t *profile, size_t profile_len, const uint
     case 8: /* a spare bit is set */
         if (answer == CAD_DONE && *bits % 8 == 7)
             message[*bits / 8] |= 1;
+        break;
+    case 15: /* DEACTIVATE is written as an ACTIVATE without its O-bit */
+        if (answer == CAD_DONE && value[0] == DEACTIVATE)
+            message[1] ^= 0xC0;
         break;
     default: break;
     }

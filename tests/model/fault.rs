@@ -1,14 +1,16 @@
 //! Messages with a fault in their bits, one function for each sort of fault, drawn by the dice.
-//! Some come out valid all the same: they stand on the good side of an edge.
+//! Some come out valid all the same: they stand on the good side of an edge. Faults in users and
+//! dispatchers are in `user_fault`.
 
-use crate::ack::Ack;
 use crate::dice::Dice;
 use crate::draw;
-use crate::message::{Address, Group, Message};
+use crate::message::{Address, Message};
 use crate::profile::Profile;
 use crate::request::Options;
+use crate::user_fault::groups_of;
 use crate::write::{bits_of, elements};
 
+const NOT_CARRIED: [u32; 3] = [6, 7, 9];
 const CARRIED: [u32; 14] = [2, 3, 4, 5, 8, 10, 11, 12, 13, 14, 15, 16, 17, 18];
 
 pub fn sound(dice: &mut Dice, profile: &Profile) -> Vec<bool> {
@@ -34,46 +36,6 @@ pub fn pdu_type(dice: &mut Dice, profile: &Profile) -> Vec<bool> {
     let other = dice.number(5);
     bits.splice(6..11, elements(&[(other, 5)]));
     bits
-}
-
-/// Range ends that fall, span too much, or differ in kind or extension; and those just good.
-pub fn range_ends(dice: &mut Dice, profile: &Profile) -> Vec<bool> {
-    let mut message = message_with_group(dice, profile);
-    let span = dice.pick(&[1, 2, 3, 63, 64, 65, 66, 128, 1 << 16, 1 << 24]);
-    let mut ends = draw::range_ends(dice, profile, span);
-    match dice.below(8) {
-        0 => ends.swap(0, 1),
-        1 => ends[0].ssi = ends[1].ssi.saturating_add(1).min((1 << 24) - 1),
-        2 => ends[1].ssi = ends[0].ssi.saturating_sub(1),
-        3 => ends[1].kind = 3 - ends[1].kind,
-        4 => {
-            ends[0].kind = 1;
-            ends[1].kind = 2;
-            ends[1].extension = profile.home_extension;
-        }
-        5 => {
-            ends[0].kind = 2;
-            ends[1].kind = 2;
-            ends[1].extension = ends[0].extension ^ (1 << dice.below(24));
-        }
-        _ => {}
-    }
-    let mut groups = groups_of(&mut message);
-    let chosen = dice.below(groups.len());
-    *groups[chosen] = Group {
-        range: 15,
-        addresses: ends,
-    };
-    bits_of(profile, &message)
-}
-
-/// Any range number before addresses that were meant for another one.
-pub fn range(dice: &mut Dice, profile: &Profile) -> Vec<bool> {
-    let mut message = message_with_group(dice, profile);
-    let mut groups = groups_of(&mut message);
-    let chosen = dice.below(groups.len());
-    groups[chosen].range = dice.number(4);
-    bits_of(profile, &message)
 }
 
 /// Any kind, with or without the extension that belongs to it, and often nothing after it.
@@ -162,25 +124,11 @@ pub fn about_waiting_call(dice: &mut Dice, profile: &Profile) -> Vec<bool> {
     bits
 }
 
-/// A mask one bit too long or too short, which moves the result and the reason.
-pub fn mask(dice: &mut Dice, profile: &Profile) -> Vec<bool> {
-    loop {
-        let mut message = draw::message(dice, profile);
-        if let Message::ActivateAck(Ack {
-            mask: Some(mask), ..
-        })
-        | Message::DeactivateAck(Ack {
-            mask: Some(mask), ..
-        }) = &mut message
-        {
-            if dice.one_in(2) {
-                mask.push(dice.one_in(2));
-            } else {
-                mask.pop();
-            }
-            return bits_of(profile, &message);
-        }
-    }
+/// A type that is still not carried, before the elements of some message.
+pub fn not_carried(dice: &mut Dice, profile: &Profile) -> Vec<bool> {
+    let mut bits = sound(dice, profile);
+    bits.splice(6..11, elements(&[(dice.pick(&NOT_CARRIED), 5)]));
+    bits
 }
 
 /// A good header and then any bits.
@@ -234,30 +182,7 @@ pub fn flip(dice: &mut Dice, bits: &mut [bool]) {
     }
 }
 
-fn message_with_group(dice: &mut Dice, profile: &Profile) -> Message {
-    loop {
-        let mut message = draw::message(dice, profile);
-        if !groups_of(&mut message).is_empty() {
-            return message;
-        }
-    }
-}
-
-fn groups_of(message: &mut Message) -> Vec<&mut Group> {
-    match message {
-        Message::Activate {
-            users,
-            dispatchers: Some(dispatchers),
-        } => vec![users, dispatchers],
-        Message::Activate { users, .. }
-        | Message::Deactivate { users }
-        | Message::ActivateAck(Ack { users, .. })
-        | Message::DeactivateAck(Ack { users, .. }) => vec![users],
-        _ => Vec::new(),
-    }
-}
-
-fn addresses_of(message: &mut Message) -> Vec<&mut Address> {
+pub fn addresses_of(message: &mut Message) -> Vec<&mut Address> {
     match message {
         Message::Interrogate { user } => vec![user],
         Message::Intercepted { dispatcher, .. }

@@ -6,6 +6,7 @@ use crate::fault;
 use crate::line::line_of;
 use crate::odd;
 use crate::profile::{sample, Profile};
+use crate::user_fault;
 use crate::write::bytes_of;
 use std::collections::VecDeque;
 use std::io::{self, Write};
@@ -78,15 +79,15 @@ impl Source {
 
     fn other_line(&mut self) -> Vec<u8> {
         let (dice, profile) = (&mut self.dice, &self.profile);
-        let mut bits = match dice.below(112) {
+        let mut bits = match dice.below(120) {
             0..=24 => fault::sound(dice, profile),
             25..=29 => fault::ss_type(dice, profile),
             30..=37 => fault::pdu_type(dice, profile),
-            38..=47 => fault::range_ends(dice, profile),
-            48..=54 => fault::range(dice, profile),
+            38..=47 => user_fault::range_ends(dice, profile),
+            48..=54 => user_fault::range(dice, profile),
             55..=60 => fault::kind(dice, profile),
             61..=66 => fault::option(dice, profile),
-            67..=69 => fault::mask(dice, profile),
+            67..=69 => user_fault::mask(dice, profile),
             70..=75 => fault::content(dice, profile),
             76..=79 => {
                 let mut bits = fault::sound(dice, profile);
@@ -102,6 +103,7 @@ impl Source {
             88..=89 => return self.near_most_bits(),
             90..=95 => fault::about_waiting_call(dice, profile),
             96..=101 => fault::options(dice, profile),
+            102..=109 => user_fault::deactivation(dice, profile),
             _ => return self.odd_line(),
         };
         if dice.one_in(6) {

@@ -33,6 +33,7 @@ mod shapes;
 mod suite;
 mod table;
 mod tally;
+mod user_fault;
 mod value;
 mod worked;
 mod write;

@@ -9,6 +9,7 @@ use crate::message::{meaning_of, Address, Group, Message};
 use crate::places::Call;
 use crate::profile::{Meaning, Profile};
 use crate::records::Identity;
+use crate::user_fault;
 use crate::write::{bits_of, bytes_of};
 
 /// Some are good in their lowest 5, 8 or 16 bits.
@@ -173,18 +174,20 @@ impl Source {
     fn faulty_message(&mut self) -> Vec<u8> {
         let post = self.post();
         let (dice, profile) = (&mut self.dice, &self.replay.desk.profile);
-        let mut bits = match dice.below(16) {
+        let mut bits = match dice.below(20) {
             0 => fault::ss_type(dice, profile),
             1 | 2 => fault::pdu_type(dice, profile),
-            3 => fault::range_ends(dice, profile),
-            4 => fault::range(dice, profile),
+            3 => user_fault::range_ends(dice, profile),
+            4 => user_fault::range(dice, profile),
             5 => fault::kind(dice, profile),
             6 => fault::option(dice, profile),
-            7 => fault::mask(dice, profile),
+            7 => user_fault::mask(dice, profile),
             8 => fault::content(dice, profile),
             9 => fault::options(dice, profile),
             10 | 11 => fault::about_waiting_call(dice, profile),
             12 | 13 => bits_of(profile, &draw::about_waiting_call(dice, profile)),
+            14..=16 => user_fault::deactivation(dice, profile),
+            17 => fault::not_carried(dice, profile),
             _ => bits_of(profile, &draw::message(dice, profile)),
         };
         if dice.one_in(3) {
