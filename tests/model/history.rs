@@ -4,6 +4,7 @@
 mod calls;
 mod cast;
 mod damage;
+mod deactivations;
 mod lent;
 mod moves;
 mod odd;
@@ -121,6 +122,8 @@ impl Source {
                 None => self.call(),
             },
             70..=73 => self.two_grounds(),
+            74..=77 => self.shift(),
+            78..=80 => self.faulty_deactivation(),
             _ => self.call(),
         }
     }

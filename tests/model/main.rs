@@ -6,9 +6,11 @@ mod activate;
 mod bits;
 mod count;
 mod crossing;
+mod deactivations;
 mod desk;
 mod dice;
 mod draw;
+mod event;
 mod fault;
 mod generate;
 mod hex;
@@ -44,7 +46,7 @@ use std::process::ExitCode;
 
 const USAGE: &str = "usage: model listing | generate SEED COUNT | suite | count | rounds | \
     crossing | replay | script SEED COUNT | tally | moves | \
-    requests | selftest";
+    requests | deactivations | selftest";
 
 fn main() -> ExitCode {
     let arguments: Vec<String> = env::args_os()
@@ -87,6 +89,9 @@ fn run(words: &[&str]) -> io::Result<Option<bool>> {
         ["tally"] => good = tally::tally(&standard_input()?, &mut out)?,
         ["moves"] => good = moves::count_moves(&standard_input()?, &mut out)?,
         ["requests"] => good = requests::count_requests(&standard_input()?, &mut out)?,
+        ["deactivations"] => {
+            good = deactivations::count_deactivations(&standard_input()?, &mut out)?;
+        }
         ["count"] => good = count::count(&standard_input()?, &mut out)?,
         ["selftest"] => good = selftest::selftest(&mut out)?,
         _ => return Ok(None),

@@ -2,6 +2,7 @@
 //! It also says whether every one of them came at least once.
 
 use crate::desk::{posts_asked, restricted, Desk};
+use crate::event::print_events;
 use crate::line::lines_of;
 use crate::message::{read, Message};
 use crate::places::{
@@ -154,13 +155,10 @@ pub fn count_moves(script: &[u8], out: &mut dyn Write) -> io::Result<bool> {
     for line in lines_of(script) {
         watch.run(line);
     }
-    let mut complete = true;
-    for (event, words) in EVENTS {
-        let times = watch.counts[event as usize];
-        writeln!(out, "{times:9} {words}")?;
-        complete &= times > 0;
-    }
-    Ok(complete)
+    let counted = EVENTS
+        .iter()
+        .map(|(event, words)| (watch.counts[*event as usize], *words));
+    print_events(counted, out)
 }
 
 /// What the desk doesn't keep of the call in a place, or of what was there before.

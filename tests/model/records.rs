@@ -16,7 +16,7 @@ pub struct Record {
 }
 
 /// Identity is the pair of SSI and extension.
-#[derive(Clone, Copy, PartialEq, Eq, Debug)]
+#[derive(Clone, Copy, PartialEq, Eq, PartialOrd, Ord, Debug)]
 pub struct Identity {
     pub ssi: u32,
     pub extension: u32,

@@ -6,6 +6,7 @@ mod events;
 mod posts;
 
 use crate::desk::Desk;
+use crate::event::print_events;
 use crate::line::lines_of;
 use crate::places::{place_of, places_keep_rules, Call};
 use crate::profile::PLACES;
@@ -21,13 +22,10 @@ pub fn count_requests(script: &[u8], out: &mut dyn Write) -> io::Result<bool> {
     for line in lines_of(script) {
         watch.run(line);
     }
-    let mut complete = true;
-    for (event, words) in EVENTS {
-        let times = watch.counts[*event as usize];
-        writeln!(out, "{times:9} {words}")?;
-        complete &= times > 0;
-    }
-    Ok(complete)
+    let counted = EVENTS
+        .iter()
+        .map(|(event, words)| (watch.counts[*event as usize], *words));
+    print_events(counted, out)
 }
 
 /// What the desk doesn't keep of the call in a place, or of what was there before.

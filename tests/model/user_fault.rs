@@ -21,7 +21,7 @@ pub fn range_ends(dice: &mut Dice, profile: &Profile) -> Vec<bool> {
 fn faulty_ends(dice: &mut Dice, profile: &Profile, message: &mut Message) {
     let span = dice.pick(&[1, 2, 3, 63, 64, 65, 66, 128, 1 << 16, 1 << 24]);
     let mut ends = draw::range_ends(dice, profile, span);
-    match dice.below(8) {
+    match dice.below(10) {
         0 => ends.swap(0, 1),
         1 => ends[0].ssi = ends[1].ssi.saturating_add(1).min((1 << 24) - 1),
         2 => ends[1].ssi = ends[0].ssi.saturating_sub(1),
@@ -91,10 +91,10 @@ pub fn deactivation(dice: &mut Dice, profile: &Profile) -> Vec<bool> {
         Some(message) => message,
         None => return content(dice, profile),
     };
-    match dice.below(8) {
-        0 | 1 => faulty_ends(dice, profile, &mut message),
-        2 => groups_of(&mut message)[0].range = dice.number(4),
-        3 => {
+    match dice.below(10) {
+        0..=3 => faulty_ends(dice, profile, &mut message),
+        4 => groups_of(&mut message)[0].range = dice.number(4),
+        5 => {
             let mut addresses = addresses_of(&mut message);
             let chosen = dice.below(addresses.len());
             addresses[chosen].kind = dice.pick(&[0, 3]);
@@ -105,9 +105,8 @@ pub fn deactivation(dice: &mut Dice, profile: &Profile) -> Vec<bool> {
     match dice.below(8) {
         0 => bits.truncate(11 + dice.below(bits.len() - 11)),
         1 => leave_over(dice, &mut bits),
-        2 => {
-            bits.pop();
-        }
+        // Most of what an ACK has behind its users is in its last bits.
+        2 => bits.truncate(bits.len() - 1 - dice.below(9)),
         3 if dice.one_in(2) => {
             let other = dice.number(6);
             bits.splice(0..6, elements(&[(other, 6)]));

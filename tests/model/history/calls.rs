@@ -25,8 +25,9 @@ impl Source {
         match self.dice.below(100) {
             chosen if chosen < set_up => self.set_up(),
             chosen if chosen < ending => self.ending(),
-            chosen if chosen < 80 => self.activate(),
-            chosen if chosen < 90 => self.interrogate(),
+            chosen if chosen < 73 => self.activate(),
+            chosen if chosen < 82 => self.deactivate(),
+            chosen if chosen < 91 => self.interrogate(),
             _ => self.faulty_message(),
         }
     }
@@ -258,7 +259,7 @@ fn none_group(dice: &mut Dice, profile: &Profile) -> Option<Group> {
     })
 }
 
-fn post_line(post: u32, bits: u32, bytes: &[u8]) -> Vec<u8> {
+pub(super) fn post_line(post: u32, bits: u32, bytes: &[u8]) -> Vec<u8> {
     if bytes.is_empty() {
         format!("post {post} {bits}").into_bytes()
     } else {

@@ -42,9 +42,25 @@ impl Cast {
         }
     }
 
+    /// All of them.
+    pub fn identities(&self) -> Vec<Identity> {
+        let mut identities = Vec::new();
+        for ssi in self.first..self.first + self.count {
+            for extension in [self.home, self.elsewhere] {
+                identities.push(Identity { ssi, extension });
+            }
+        }
+        identities
+    }
+
     /// An address of kind 1, or of kind 2 with any extension of the cast, home included.
     pub fn address(&self, dice: &mut Dice) -> Address {
-        let Identity { ssi, extension } = self.identity(dice);
+        let identity = self.identity(dice);
+        self.address_of(dice, identity)
+    }
+
+    pub fn address_of(&self, dice: &mut Dice, identity: Identity) -> Address {
+        let Identity { ssi, extension } = identity;
         if extension == self.home && dice.one_in(2) {
             Address {
                 kind: 1,
@@ -74,15 +90,7 @@ impl Cast {
 
     /// Users of any range that they may have; in a list an address may come twice.
     pub fn users(&self, dice: &mut Dice, profile: &Profile) -> Group {
-        let ranges: Vec<u32> = (0..16)
-            .filter(|range| {
-                matches!(
-                    meaning_of(profile, *range),
-                    Meaning::List(_) | Meaning::FirstAndLast
-                )
-            })
-            .collect();
-        let range = dice.pick(&ranges);
+        let range = user_range(dice, profile);
         let mut addresses = Vec::new();
         if let Meaning::List(count) = meaning_of(profile, range) {
             for _ in 0..count {
@@ -98,18 +106,54 @@ impl Cast {
         Group { range, addresses }
     }
 
+    /// Users who are some of these, in any order and some of them more than once; a range begins
+    /// at one of them.
+    pub fn users_of(&self, dice: &mut Dice, profile: &Profile, some: &[Identity]) -> Group {
+        let range = user_range(dice, profile);
+        let mut addresses = Vec::new();
+        if let Meaning::List(count) = meaning_of(profile, range) {
+            for _ in 0..count {
+                let identity = dice.pick(some);
+                addresses.push(self.address_of(dice, identity));
+            }
+        } else {
+            let identity = dice.pick(some);
+            let first = self.address_of(dice, identity);
+            addresses = range_from(dice, first);
+        }
+        Group { range, addresses }
+    }
+
     /// First and last of a range that begins within the cast and may run past its end.
     fn range_ends(&self, dice: &mut Dice) -> Vec<Address> {
         let first = self.address(dice);
-        let most = (LARGEST_24_BITS - first.ssi + 1).min(MOST_IDENTITIES);
-        let span = match dice.below(3) {
-            0 => most,
-            _ => 1 + dice.below(most.min(8) as usize) as u32,
-        };
-        let last = Address {
-            ssi: first.ssi + span - 1,
-            ..first
-        };
-        vec![first, last]
+        range_from(dice, first)
     }
+}
+
+/// First and last of a range that begins so.
+fn range_from(dice: &mut Dice, first: Address) -> Vec<Address> {
+    let most = (LARGEST_24_BITS - first.ssi + 1).min(MOST_IDENTITIES);
+    let span = match dice.below(3) {
+        0 => most,
+        _ => 1 + dice.below(most.min(8) as usize) as u32,
+    };
+    let last = Address {
+        ssi: first.ssi + span - 1,
+        ..first
+    };
+    vec![first, last]
+}
+
+/// A range value that users may have; the profile has one.
+fn user_range(dice: &mut Dice, profile: &Profile) -> u32 {
+    let ranges: Vec<u32> = (0..16)
+        .filter(|range| {
+            matches!(
+                meaning_of(profile, *range),
+                Meaning::List(_) | Meaning::FirstAndLast
+            )
+        })
+        .collect();
+    dice.pick(&ranges)
 }

@@ -4,6 +4,7 @@
 use super::calls::{set_up_cause, set_up_line};
 use super::cast::Cast;
 use super::damage::{cause_line, place_line, second_line};
+use super::deactivations::release_line;
 use super::lent::record_line;
 use super::moves::{end_line, ENDINGS};
 use super::{profiles, Source};
@@ -68,7 +69,9 @@ impl Scene<'_> {
         }
         let asked = self.enter();
         self.fill(&asked);
-        if self.by_set_up && !self.dice.one_in(3) {
+        if self.by_set_up && self.dice.one_in(4) {
+            self.release(&asked);
+        } else if self.by_set_up && !self.dice.one_in(3) {
             self.change_record(&asked);
         }
         if self.dice.one_in(8) {
@@ -268,6 +271,15 @@ impl Scene<'_> {
         self.lines.push_back(record_line(1, &record));
     }
 
+    /// The caller or the called party is released by its own post, and the call stays.
+    fn release(&mut self, asked: &Asked) {
+        let (party, post) = self
+            .dice
+            .pick(&[(asked.caller, asked.first), (asked.called, asked.second)]);
+        let line = release_line(self.dice, self.profile, self.cast, party, post);
+        self.lines.push_back(line);
+    }
+
     fn set_up(&mut self, asked: &Asked, cause: Option<u32>) {
         self.lines.push_back(set_up_line(
             asked.caller,
@@ -312,6 +324,9 @@ impl Scene<'_> {
             if admits(self.profile, &without(&self.places, asked.place), third) {
                 post = third;
             }
+        }
+        if self.by_set_up && self.dice.one_in(3) {
+            self.release(asked);
         }
         if self.dice.one_in(3) {
             self.lines.push_back(b"dump".to_vec());

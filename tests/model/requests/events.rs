@@ -1,16 +1,6 @@
 //! What can come of request (iv), each in words; `requests` counts them.
 
-/// Names each thing once: for the enum that is counted by, and for the table that is printed.
-macro_rules! events {
-    ($($event:ident: $words:literal,)*) => {
-        #[derive(Clone, Copy)]
-        pub enum Event {
-            $($event),*
-        }
-
-        pub const EVENTS: &[(Event, &str)] = &[$((Event::$event, $words)),*];
-    };
-}
+use crate::event::events;
 
 events! {
     AdmittedWithout: "an admission by a line without a cause",

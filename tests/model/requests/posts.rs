@@ -2,9 +2,8 @@
 
 use super::events::Event;
 use super::{Before, Watch};
-use crate::bits::Bits;
+use crate::event::pdu_type_of;
 use crate::message::{read, Message};
-use crate::profile::Profile;
 use crate::records::records_keep_rules;
 use crate::request::Options;
 
@@ -160,19 +159,4 @@ fn all_seven(options: &Options) -> bool {
         && options.called_area.is_some()
         && options.calling_service.is_some()
         && options.called_service.is_some()
-}
-
-/// The type of a message whose header is whole and good.
-fn pdu_type_of(profile: &Profile, bytes: &[u8], length: usize) -> Option<u32> {
-    if length > 8 * bytes.len() {
-        return None;
-    }
-    let mut header = Bits::new(bytes, length);
-    let ss_type = header.take(6).ok()?;
-    let pdu_type = header.take(5).ok()?;
-    if ss_type == profile.ss_type {
-        Some(pdu_type)
-    } else {
-        None
-    }
 }

@@ -1,0 +1,159 @@
+//! What posts send, counted: each refusal of the two messages, and what is carried out.
+
+use super::events::Event;
+use super::reading::not_read;
+use super::{Before, Watch};
+use crate::ack::{Ack, AckResult};
+use crate::event::{header_of, pdu_type_of};
+use crate::message::{read, Message};
+use crate::records::{record_of, records_keep_rules, Identity, Record, MOST_RECORDS};
+
+impl Watch {
+    pub(super) fn message(
+        &mut self,
+        before: &Before,
+        post: u32,
+        bytes: &[u8],
+        bits: usize,
+        answer: &str,
+    ) {
+        let profile = &before.desk.profile;
+        let carried_out = answer.starts_with("acks");
+        match (read(profile, bytes, bits), answer) {
+            (Ok(Message::Deactivate { users }), _) if carried_out => {
+                self.deactivated(before, post, &users);
+            }
+            (Ok(Message::Activate { users, .. }), _) if carried_out => {
+                self.activated(before, post, &users);
+            }
+            (Ok(Message::Deactivate { users }), _) => {
+                let identities = crate::records::identities_of(profile, &users);
+                self.refused(before, post, &identities, answer);
+            }
+            (Ok(Message::DeactivateAck(ack)), "refused 8") => self.ack_from_post(before, &ack),
+            (Ok(Message::DeactivateAck(_)), "refused 1") => self.count(Event::Damage1Ack),
+            (Ok(Message::DeactivateAck(_)), "refused 2") => self.count(Event::Post2Before8),
+            (Ok(Message::Interrogate { user }), _) => {
+                let identity = crate::records::identity_of(profile, &user);
+                self.interrogated(identity, answer);
+            }
+            (Ok(Message::Accept { identifier }), _) => self.accepted(before, identifier, answer),
+            (Ok(Message::Divert { identifier }), _) => {
+                self.ended(before, identifier, Event::ReleasedDiverted, answer);
+            }
+            (Ok(Message::Reject { identifier, .. }), _) => {
+                self.ended(before, identifier, Event::ReleasedByMessage, answer);
+            }
+            (Err(5), "refused 5") => match header_of(bytes, bits) {
+                Some((_, 4)) => self.count(Event::Request5),
+                Some((_, 5)) => self.count(Event::AckRead5),
+                _ => {}
+            },
+            (Err(refusal), _) => {
+                let pdu_type = pdu_type_of(profile, bytes, bits);
+                if answer == format!("refused {refusal}") {
+                    self.not_read(before, bytes, bits, pdu_type, refusal);
+                } else if answer == "refused 2" {
+                    self.count_if(pdu_type == Some(4), Event::Post2BeforeReading);
+                }
+            }
+            _ => {}
+        }
+    }
+
+    /// A DEACTIVATE that reads well and is refused all the same.
+    fn refused(&mut self, before: &Before, post: u32, identities: &[Identity], answer: &str) {
+        let short = before.output_is_short();
+        let unsound = before.records_are_unsound();
+        match answer {
+            "refused 1" => {
+                self.count(Event::Damage1);
+                let not_there = post as usize >= before.desk.profile.posts.len();
+                self.count_if(not_there, Event::Damage1Before2);
+            }
+            "refused 2" => {
+                self.count(Event::Post2);
+                self.count_if(short, Event::Post2Before14);
+                self.count_if(unsound, Event::Post2Before15);
+            }
+            "refused 14" => {
+                // One byte short is what tells the bound.
+                self.count_if(before.output_bytes == 299, Event::Output14);
+                self.count_if(unsound, Event::Output14Before15);
+            }
+            "refused 15" => {
+                self.unsound_by(before);
+                let records = &before.records;
+                let would_clear = identities.iter().any(|identity| {
+                    record_of(records, *identity).map_or(false, |number| {
+                        records[number].post == post && records[number].active
+                    })
+                });
+                self.count_if(would_clear, Event::Records15Marked);
+            }
+            _ => {}
+        }
+    }
+
+    /// Which ground of 15 it was, where it was just one.
+    fn unsound_by(&mut self, before: &Before) {
+        let profile = &before.desk.profile;
+        if before.records.len() > MOST_RECORDS {
+            let mended = &before.records[..MOST_RECORDS];
+            self.count_if(records_keep_rules(profile, mended), Event::Records15Many);
+            return;
+        }
+        let mends: [(Event, fn(&mut Record)); 3] = [
+            (Event::Records15Post, |record| record.post = 0),
+            (Event::Records15Ssi, |record| record.ssi = 0),
+            (Event::Records15Extension, |record| record.extension = 0),
+        ];
+        for (event, mend) in mends {
+            let mut mended = before.records.clone();
+            mended.iter_mut().for_each(mend);
+            self.count_if(records_keep_rules(profile, &mended), event);
+        }
+    }
+
+    fn ack_from_post(&mut self, before: &Before, ack: &Ack) {
+        self.count(match ack.result {
+            AckResult::Accepted => Event::Ack8,
+            AckResult::NotAccepted { .. } => Event::Ack8Reason,
+        });
+        self.count(match ack.mask {
+            Some(_) => Event::Ack8Mask,
+            None => Event::Ack8NoMask,
+        });
+        self.count_if(before.output_is_short(), Event::Ack8Before14);
+        self.count_if(before.records_are_unsound(), Event::Ack8Before15);
+    }
+
+    fn not_read(
+        &mut self,
+        before: &Before,
+        bytes: &[u8],
+        bits: usize,
+        pdu_type: Option<u32>,
+        refusal: u8,
+    ) {
+        match (pdu_type, refusal) {
+            (Some(6), 7) => self.count(Event::Type6),
+            (Some(7), 7) => self.count(Event::Type7),
+            (Some(9), 7) => self.count(Event::Type9),
+            // 3 may come before the header is looked at.
+            (Some(pdu_type @ (4 | 5)), 4..=13) => {
+                let profile = &before.desk.profile;
+                if let Some(event) = not_read(profile, bytes, bits, pdu_type, refusal) {
+                    self.count(event);
+                }
+                let request = pdu_type == 4;
+                self.count_if(request && before.output_is_short(), Event::ReadingBefore14);
+                self.count_if(
+                    request && before.records_are_unsound(),
+                    Event::ReadingBefore15,
+                );
+            }
+            _ => {}
+        }
+    }
+}

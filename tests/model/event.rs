@@ -1,0 +1,50 @@
+//! What the counters of a script share: how the things that can come are named and printed, and
+//! the type of a message whose content may be faulty.
+
+use crate::bits::Bits;
+use crate::profile::Profile;
+use std::io::{self, Write};
+
+/// Names each thing once: for the enum that is counted by, and for the table that is printed.
+macro_rules! events {
+    ($($event:ident: $words:literal,)*) => {
+        #[derive(Clone, Copy)]
+        pub enum Event {
+            $($event),*
+        }
+
+        pub const EVENTS: &[(Event, &str)] = &[$((Event::$event, $words)),*];
+    };
+}
+
+pub(crate) use events;
+
+/// Prints how often each thing came; false if one never did.
+pub fn print_events<'a>(
+    events: impl Iterator<Item = (u64, &'a str)>,
+    out: &mut dyn Write,
+) -> io::Result<bool> {
+    let mut complete = true;
+    for (times, words) in events {
+        writeln!(out, "{times:9} {words}")?;
+        complete &= times > 0;
+    }
+    Ok(complete)
+}
+
+/// The SS type and the PDU type of a message whose header is whole.
+pub fn header_of(bytes: &[u8], length: usize) -> Option<(u32, u32)> {
+    if length > 8 * bytes.len() {
+        return None;
+    }
+    let mut header = Bits::new(bytes, length);
+    Some((header.take(6).ok()?, header.take(5).ok()?))
+}
+
+/// The type of a message whose header is whole and good.
+pub fn pdu_type_of(profile: &Profile, bytes: &[u8], length: usize) -> Option<u32> {
+    match header_of(bytes, length)? {
+        (ss_type, pdu_type) if ss_type == profile.ss_type => Some(pdu_type),
+        _ => None,
+    }
+}
