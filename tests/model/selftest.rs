@@ -1,6 +1,9 @@
 //! The model checked against document 01's worked cases and rules, and against its own laws.
 //! Each check prints one line; the answer is false if any failed.
 
+mod deactivation_laws;
+mod deactivation_scripts;
+mod deactivations;
 mod desk;
 mod layouts;
 mod ledger;
@@ -40,5 +43,6 @@ pub fn selftest(out: &mut dyn Write) -> io::Result<bool> {
     moves::check(&mut report)?;
     ledger::check(&mut report)?;
     requests::check(&mut report)?;
+    deactivations::check(&mut report)?;
     Ok(report.all_good)
 }

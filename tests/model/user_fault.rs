@@ -106,7 +106,7 @@ pub fn deactivation(dice: &mut Dice, profile: &Profile) -> Vec<bool> {
         0 => bits.truncate(11 + dice.below(bits.len() - 11)),
         1 => leave_over(dice, &mut bits),
         // Most of what an ACK has behind its users is in its last bits.
-        2 => bits.truncate(bits.len() - 1 - dice.below(9)),
+        2 => bits.truncate(bits.len() - dice.pick(&[1, 1, 2, 3, 8, 9, 10, 12, 20])),
         3 if dice.one_in(2) => {
             let other = dice.number(6);
             bits.splice(0..6, elements(&[(other, 6)]));
