@@ -85,8 +85,12 @@ impl Suite {
 
     /// A case at every bit length up to its own.
     fn cut_short(&mut self, case: &Case) {
-        let bytes = read_hex(case.hex.as_bytes()).unwrap_or_default();
-        for length in 0..=case.length {
+        self.every_length(case.hex, case.length);
+    }
+
+    fn every_length(&mut self, hex: &str, most: usize) {
+        let bytes = read_hex(hex.as_bytes()).unwrap_or_default();
+        for length in 0..=most {
             self.lines.push(line_of(length, &bytes));
         }
     }

@@ -25,6 +25,9 @@ impl Suite {
                 Err(_) => self.text(&format!("{} {}", case.length, case.hex)),
             }
         }
+        // A list of both kinds: DEACTIVATE, and the ACK with a mask of 00 and reason 0.
+        self.every_length("24848001F4C00000E00000A0", 91);
+        self.every_length("24A48001F4C00000E00000B000", 102);
         for line in [
             "72 249E8001F4A0007D80",
             "80 249E8001F4A0007D8000",
