@@ -1,12 +1,13 @@
 /*
  * A small console over cad.h, under the sample profile.
  *
- *   console < FILE                reads lines `BITS HEX`, as the listing does, and says each field of each message in words
- *   console accept ID             writes an ACCEPT of call ID and prints its bit length and its bytes
- *   console reject ID CAUSE       writes a REJECT of call ID, with its cause
- *   console activate FIRST LAST   writes an ACTIVATE of the users FIRST to LAST of the home network
+ *   console < FILE                  reads lines `BITS HEX`, as the listing does, and says each field of each message in words
+ *   console accept ID               writes an ACCEPT of call ID and prints its bit length and its bytes
+ *   console reject ID CAUSE         writes a REJECT of call ID, with its cause
+ *   console activate FIRST LAST     writes an ACTIVATE of the users FIRST to LAST of the home network
+ *   console deactivate FIRST LAST   writes a DEACTIVATE of those users
  *
- * What `activate` prints can be read again: console activate 1001 1004 | console
+ * What is printed can be read again: console deactivate 1001 1004 | console
  */
 #include "cad.h"
 
@@ -58,13 +59,13 @@ static void say_users(const uint8_t *profile, const uint8_t *value)
     }
 }
 
-/* Each identity that the users are; of an ACTIVATE ACK with its mask bit, so that nobody has to count bits. */
+/* Each identity that the users are; of an ACK with its mask bit, so that nobody has to count bits. */
 static void say_identities(const uint8_t *profile, const uint8_t *value)
 {
     unsigned count = cad_value_identities(profile, value);
     unsigned i;
     printf("  %u %s", count, identities_word(count));
-    if (cad_value_pdu(value) == CAD_ACTIVATE_ACK)
+    if (cad_value_is_ack(value))
         printf(cad_value_masked(value) ? ", with a mask" : ", no mask");
     printf("\n");
     for (i = 0; i < count; i++) {
@@ -133,10 +134,12 @@ static void say_value(const uint8_t *profile, const uint8_t *value)
         say_option(profile, value);
         break;
     case CAD_ACTIVATE_ACK:
+    case CAD_DEACTIVATE_ACK:
         say_users(profile, value);
         say_identities(profile, value);
         say_result(value);
         break;
+    case CAD_DEACTIVATE:
     case CAD_INTERROGATE:
         say_users(profile, value);
         say_identities(profile, value);
@@ -263,10 +266,11 @@ static int write_reject(const uint8_t *profile, uint32_t identifier, uint32_t ca
     return write_value(profile, value);
 }
 
-static int write_activate(const uint8_t *profile, uint32_t first, uint32_t last)
+/* An ACTIVATE or a DEACTIVATE, without option. */
+static int write_users(const uint8_t *profile, unsigned pdu, uint32_t first, uint32_t last)
 {
     uint8_t value[CAD_VALUE_BYTES];
-    cad_value_start(value, CAD_ACTIVATE);
+    cad_value_start(value, pdu);
     cad_value_set_user_range(value, 15);
     cad_value_set_user(value, 0, cad_address_home(first));
     cad_value_set_user(value, 1, cad_address_home(last));
@@ -300,7 +304,10 @@ int main(int argc, char **argv)
     if (argc == 4 && strcmp(argv[1], "reject") == 0 && take_number(argv[2], &one) && take_number(argv[3], &two))
         return write_reject(profile, one, two);
     if (argc == 4 && strcmp(argv[1], "activate") == 0 && take_number(argv[2], &one) && take_number(argv[3], &two))
-        return write_activate(profile, one, two);
-    fprintf(stderr, "usage: console < FILE | console accept ID | console reject ID CAUSE | console activate FIRST LAST\n");
+        return write_users(profile, CAD_ACTIVATE, one, two);
+    if (argc == 4 && strcmp(argv[1], "deactivate") == 0 && take_number(argv[2], &one) && take_number(argv[3], &two))
+        return write_users(profile, CAD_DEACTIVATE, one, two);
+    fprintf(stderr, "usage: console < FILE | console accept ID | console reject ID CAUSE | console activate FIRST LAST"
+                    " | console deactivate FIRST LAST\n");
     return 2;
 }

@@ -31,7 +31,7 @@ extern "C" {
 #endif
 
 /** The version of this interface; later ones append to both layouts and move nothing. */
-#define CAD_VERSION "1.1.0"
+#define CAD_VERSION "1.2.0"
 
 /** @name Limits
  * @{ */
@@ -92,18 +92,20 @@ extern "C" {
 
 /** The PDU types that are carried. */
 enum cad_pdu {
-    CAD_ACTIVATE = 2,     /**< users, option: dispatchers */
-    CAD_ACTIVATE_ACK = 3, /**< users, mask, result, reason */
-    CAD_INTERROGATE = 8,  /**< user address 0 */
-    CAD_INTERCEPTED = 10, /**< cause, option: dispatcher address 0 */
-    CAD_REQUEST = 11,     /**< call identifier, cause, options: calling (user address 0), called (1), MNI, areas, basic services */
-    CAD_ACCEPT = 12,      /**< call identifier */
-    CAD_ACCEPTED = 13,    /**< nothing more */
-    CAD_CANCEL = 14,      /**< call identifier */
-    CAD_DIVERT = 15,      /**< call identifier */
-    CAD_DIVERTED = 16,    /**< cause, option: dispatcher address 0 */
-    CAD_REJECT = 17,      /**< call identifier, cause */
-    CAD_REJECTED = 18     /**< cause, option: dispatcher address 0 */
+    CAD_ACTIVATE = 2,       /**< users, option: dispatchers */
+    CAD_ACTIVATE_ACK = 3,   /**< users, mask, result, reason */
+    CAD_DEACTIVATE = 4,     /**< users */
+    CAD_DEACTIVATE_ACK = 5, /**< users, mask, result, reason */
+    CAD_INTERROGATE = 8,    /**< user address 0 */
+    CAD_INTERCEPTED = 10,   /**< cause, option: dispatcher address 0 */
+    CAD_REQUEST = 11,       /**< call identifier, cause, options: calling (user address 0), called (1), MNI, areas, basic services */
+    CAD_ACCEPT = 12,        /**< call identifier */
+    CAD_ACCEPTED = 13,      /**< nothing more */
+    CAD_CANCEL = 14,        /**< call identifier */
+    CAD_DIVERT = 15,        /**< call identifier */
+    CAD_DIVERTED = 16,      /**< cause, option: dispatcher address 0 */
+    CAD_REJECT = 17,        /**< call identifier, cause */
+    CAD_REJECTED = 18       /**< cause, option: dispatcher address 0 */
 };
 
 /** What cad_read() and cad_write() answer. Where several grounds hold, docs/REFUSALS.md says which number comes. */
@@ -185,6 +187,8 @@ static inline const char *cad_pdu_name(unsigned pdu)
     switch (pdu) {
     case CAD_ACTIVATE: return "ACTIVATE";
     case CAD_ACTIVATE_ACK: return "ACTIVATE ACK";
+    case CAD_DEACTIVATE: return "DEACTIVATE";
+    case CAD_DEACTIVATE_ACK: return "DEACTIVATE ACK";
     case CAD_INTERROGATE: return "INTERROGATE";
     case CAD_INTERCEPTED: return "INTERCEPTED";
     case CAD_REQUEST: return "REQUEST";
@@ -432,6 +436,18 @@ static inline unsigned cad_value_pdu(const uint8_t *value)
     return value[CAD_VALUE_PDU];
 }
 
+/** Whether it is an ACK, which has a result and may have a mask: ACTIVATE ACK or DEACTIVATE ACK. */
+static inline int cad_value_is_ack(const uint8_t *value)
+{
+    return cad_value_pdu(value) == CAD_ACTIVATE_ACK || cad_value_pdu(value) == CAD_DEACTIVATE_ACK;
+}
+
+/** Whether its users stand behind a range value: ACTIVATE, DEACTIVATE and both ACKs. */
+static inline int cad_value_has_user_range(const uint8_t *value)
+{
+    return cad_value_pdu(value) == CAD_ACTIVATE || cad_value_pdu(value) == CAD_DEACTIVATE || cad_value_is_ack(value);
+}
+
 /** The range value of the users. */
 static inline unsigned cad_value_user_range(const uint8_t *value)
 {
@@ -457,13 +473,13 @@ static inline unsigned cad_value_mask_bit(const uint8_t *value, unsigned i)
     return i < CAD_IDENTITIES ? (value[CAD_VALUE_MASK + i / 8] >> (7 - i % 8)) & 1u : 0u;
 }
 
-/** The result of an ACTIVATE ACK: 1 accepted, 0 not accepted. */
+/** The result of an ACTIVATE ACK or a DEACTIVATE ACK: 1 accepted, 0 not accepted. */
 static inline unsigned cad_value_result(const uint8_t *value)
 {
     return value[CAD_VALUE_RESULT];
 }
 
-/** The reason of an ACTIVATE ACK that is not accepted. */
+/** The reason of an ACTIVATE ACK or a DEACTIVATE ACK whose result is 0. */
 static inline unsigned cad_value_reason(const uint8_t *value)
 {
     return value[CAD_VALUE_REASON];
@@ -595,12 +611,9 @@ static inline unsigned cad_meaning_addresses(unsigned meaning)
 /** How many user addresses a value has under a profile. INTERROGATE has one; REQUEST's are cad_value_calling() and cad_value_called(). */
 static inline unsigned cad_value_users(const uint8_t *profile, const uint8_t *value)
 {
-    switch (cad_value_pdu(value)) {
-    case CAD_INTERROGATE: return 1;
-    case CAD_ACTIVATE:
-    case CAD_ACTIVATE_ACK: return cad_meaning_addresses(cad_profile_meaning(profile, cad_value_user_range(value)));
-    default: return 0;
-    }
+    if (cad_value_has_user_range(value))
+        return cad_meaning_addresses(cad_profile_meaning(profile, cad_value_user_range(value)));
+    return cad_value_pdu(value) == CAD_INTERROGATE ? 1u : 0u;
 }
 
 /** How many dispatcher addresses a value has under a profile. INTERCEPTED, DIVERTED and REJECTED have one, with the option. */
@@ -620,8 +633,7 @@ static inline unsigned cad_value_dispatchers(const uint8_t *profile, const uint8
 /** Whether the users are the first and the last of a range. */
 static inline int cad_value_users_first_last(const uint8_t *profile, const uint8_t *value)
 {
-    return (cad_value_pdu(value) == CAD_ACTIVATE || cad_value_pdu(value) == CAD_ACTIVATE_ACK) &&
-           cad_profile_meaning(profile, cad_value_user_range(value)) == CAD_MEANS_FIRST_LAST;
+    return cad_value_has_user_range(value) && cad_profile_meaning(profile, cad_value_user_range(value)) == CAD_MEANS_FIRST_LAST;
 }
 
 /** How many identities the users are under a profile, 0 to 64; so many bits has their mask. */
