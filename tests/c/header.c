@@ -57,6 +57,7 @@ static void constants(void)
     CHECK(CAD_ACTIVATE == 2 && CAD_ACTIVATE_ACK == 3 && CAD_INTERROGATE == 8 && CAD_INTERCEPTED == 10);
     CHECK(CAD_ACCEPT == 12 && CAD_ACCEPTED == 13 && CAD_DIVERT == 15 && CAD_DIVERTED == 16);
     CHECK(CAD_REQUEST == 11 && CAD_CANCEL == 14 && CAD_REJECT == 17 && CAD_REJECTED == 18);
+    CHECK(CAD_DEACTIVATE == 4 && CAD_DEACTIVATE_ACK == 5);
     CHECK(CAD_MEANS_RESERVED == 0 && CAD_MEANS_NOBODY == 16 && CAD_MEANS_FIRST_LAST == 17);
     CHECK(CAD_KIND_HOME == 1 && CAD_KIND_OTHER == 2);
     CHECK(CAD_DONE == 0 && CAD_REFUSED_PROFILE == 1 && CAD_REFUSED_LENGTH == 3 && CAD_REFUSED_SHORT == 4);
@@ -70,9 +71,9 @@ static void words(void)
     static const struct {
         unsigned pdu;
         const char *name;
-    } names[] = {{2, "ACTIVATE"}, {3, "ACTIVATE ACK"}, {8, "INTERROGATE"}, {10, "INTERCEPTED"},
-                 {11, "REQUEST"}, {12, "ACCEPT"},      {13, "ACCEPTED"},   {14, "CANCEL"},
-                 {15, "DIVERT"},  {16, "DIVERTED"},    {17, "REJECT"},     {18, "REJECTED"}};
+    } names[] = {{2, "ACTIVATE"},     {3, "ACTIVATE ACK"}, {4, "DEACTIVATE"}, {5, "DEACTIVATE ACK"}, {8, "INTERROGATE"},
+                 {10, "INTERCEPTED"}, {11, "REQUEST"},     {12, "ACCEPT"},    {13, "ACCEPTED"},      {14, "CANCEL"},
+                 {15, "DIVERT"},      {16, "DIVERTED"},    {17, "REJECT"},    {18, "REJECTED"}};
     static const unsigned given[] = {0, 1, 3, 4, 5, 6, 7, 9, 10, 11, 12, 13, 14, 22};
     unsigned number, named = 0, said = 0;
     size_t i;
@@ -201,6 +202,12 @@ static void accessors(void)
         CHECK(cad_value_has_calling_area(value) == (i == 3) && cad_value_has_called_area(value) == (i == 4));
         CHECK(cad_value_has_calling_service(value) == (i == 5) && cad_value_has_called_service(value) == (i == 6));
     }
+    /* which types are ACKs, and which have a range of users */
+    for (i = 0; i < 256; i++) {
+        value[0] = (uint8_t)i;
+        CHECK(cad_value_is_ack(value) == (i == 3 || i == 5));
+        CHECK(cad_value_has_user_range(value) == (i >= 2 && i <= 5));
+    }
     value[107] = 0;
     value[121] = 1;
     CHECK(!cad_value_masked(value) && cad_value_option(value));
@@ -297,16 +304,23 @@ static void setters(void)
 #undef SPOILS
 }
 
-static void identities(void)
+/* Starts a message of the users 1,001 to 1,004. */
+static void four_users(uint8_t *value, unsigned pdu)
+{
+    cad_value_start(value, pdu);
+    cad_value_set_user_range(value, 15);
+    cad_value_set_user(value, 0, cad_address_home(1001));
+    cad_value_set_user(value, 1, cad_address_home(1004));
+}
+
+/* Whom a message with a range of users names. */
+static void range_of_users(unsigned pdu)
 {
     uint8_t profile[39], value[241];
     unsigned i;
     home_profile(profile);
 
-    cad_value_start(value, CAD_ACTIVATE_ACK);
-    cad_value_set_user_range(value, 15);
-    cad_value_set_user(value, 0, cad_address_home(1001));
-    cad_value_set_user(value, 1, cad_address_home(1004));
+    four_users(value, pdu);
     CHECK(cad_value_users(profile, value) == 2 && cad_value_users_first_last(profile, value));
     CHECK(cad_value_identities(profile, value) == 4);
     for (i = 0; i < 4; i++)
@@ -328,7 +342,7 @@ static void identities(void)
     cad_value_set_user(value, 1, cad_address_other(8, 5));
     CHECK(is_identity(cad_value_identity(profile, value, 1), 8, 5));
 
-    cad_value_start(value, CAD_ACTIVATE);
+    cad_value_start(value, pdu);
     cad_value_set_user_range(value, 7);
     for (i = 0; i < 15; i++)
         cad_value_set_user(value, i, i % 2 == 0 ? cad_address_home(100 + i) : cad_address_other(100 + i, i));
@@ -337,14 +351,6 @@ static void identities(void)
     for (i = 0; i < 15; i++)
         CHECK(is_identity(cad_value_identity(profile, value, i), 100 + i, i % 2 == 0 ? 0x0A0B0C : i));
     CHECK(cad_value_dispatchers(profile, value) == 0);
-    cad_value_set_dispatcher_range(value, 15);
-    CHECK(cad_value_dispatchers(profile, value) == 2);
-    cad_value_set_dispatcher_range(value, 0);
-    CHECK(cad_value_dispatchers(profile, value) == 0);
-    cad_value_set_dispatcher_range(value, 3);
-    CHECK(cad_value_dispatchers(profile, value) == 3);
-    for (i = 0; i < 256; i++)
-        CHECK(cad_meaning_addresses(i) == (i == 17 ? 2 : i <= 15 ? i : 0u));
     /* nobody, reserved, and a range that is no range value */
     cad_value_set_user_range(value, 0);
     CHECK(cad_value_identities(profile, value) == 0);
@@ -352,6 +358,31 @@ static void identities(void)
     CHECK(cad_value_identities(profile, value) == 0);
     cad_value_set_user_range(value, 16);
     CHECK(cad_value_identities(profile, value) == 0);
+}
+
+static void identities(void)
+{
+    uint8_t profile[39], value[241];
+    unsigned i;
+    home_profile(profile);
+
+    range_of_users(CAD_ACTIVATE);
+    range_of_users(CAD_ACTIVATE_ACK);
+    range_of_users(CAD_DEACTIVATE);
+    range_of_users(CAD_DEACTIVATE_ACK);
+    for (i = 0; i < 256; i++)
+        CHECK(cad_meaning_addresses(i) == (i == 17 ? 2 : i <= 15 ? i : 0u));
+
+    /* of these four ACTIVATE alone has dispatchers */
+    for (i = CAD_ACTIVATE; i <= CAD_DEACTIVATE_ACK; i++) {
+        four_users(value, i);
+        cad_value_set_dispatcher_range(value, 15);
+        CHECK(cad_value_dispatchers(profile, value) == (i == CAD_ACTIVATE ? 2u : 0u));
+        cad_value_set_dispatcher_range(value, 0);
+        CHECK(cad_value_dispatchers(profile, value) == 0);
+        cad_value_set_dispatcher_range(value, 3);
+        CHECK(cad_value_dispatchers(profile, value) == (i == CAD_ACTIVATE ? 3u : 0u));
+    }
 
     cad_value_start(value, CAD_INTERROGATE);
     cad_value_set_user(value, 0, cad_address_home(1001));
@@ -378,6 +409,78 @@ static void identities(void)
     CHECK(cad_value_users(profile, value) == 0 && cad_value_identities(profile, value) == 0 && cad_value_dispatchers(profile, value) == 0);
 }
 
+/*
+ * DEACTIVATE and its ACK, written and read, and what they may not have: DEACTIVATE nothing but its users; the ACK no mask bit past its
+ * identities, none without a mask, no reason with an accepted result, no option.
+ */
+static void deactivation(void)
+{
+    static const uint8_t request[9] = {0x24, 0x9E, 0x80, 0x01, 0xF4, 0xA0, 0x00, 0x7D, 0x80};
+    static const uint8_t third[10] = {0x24, 0xBE, 0x80, 0x01, 0xF4, 0xA0, 0x00, 0x7D, 0x92, 0x01};
+    static const uint8_t all[9] = {0x24, 0xBE, 0x80, 0x01, 0xF4, 0xA0, 0x00, 0x7D, 0x88};
+    uint8_t profile[39], value[241], read[241], message[CAD_MESSAGE_BYTES];
+    size_t bits = 77;
+    unsigned k;
+    cad_profile_sample(profile);
+
+    four_users(value, CAD_DEACTIVATE);
+    CHECK(cad_write(profile, sizeof profile, value, sizeof value, message, sizeof message, &bits) == CAD_DONE);
+    CHECK(bits == 67 && memcmp(message, request, sizeof request) == 0);
+    CHECK(cad_read(profile, sizeof profile, request, sizeof request, 67, read, sizeof read) == CAD_DONE);
+    CHECK(memcmp(read, value, sizeof value) == 0);
+    CHECK(cad_read(profile, sizeof profile, request, sizeof request, 66, read, sizeof read) == CAD_REFUSED_SHORT);
+    CHECK(cad_read(profile, sizeof profile, request, sizeof request, 68, read, sizeof read) == CAD_REFUSED_LEFT_OVER);
+    for (k = 16; k < 241; k++) {
+        value[k] = 1;
+        CHECK(cad_write(profile, sizeof profile, value, sizeof value, message, sizeof message, &bits) == CAD_REFUSED_VALUE);
+        value[k] = 0;
+    }
+
+    four_users(value, CAD_DEACTIVATE_ACK);
+    cad_value_set_result(value, 1);
+    CHECK(cad_write(profile, sizeof profile, value, sizeof value, message, sizeof message, &bits) == CAD_DONE);
+    CHECK(bits == 69 && memcmp(message, all, sizeof all) == 0);
+    CHECK(cad_read(profile, sizeof profile, all, sizeof all, 69, read, sizeof read) == CAD_DONE);
+    CHECK(memcmp(read, value, sizeof value) == 0);
+    cad_value_set_reason(value, 1);
+    CHECK(cad_write(profile, sizeof profile, value, sizeof value, message, sizeof message, &bits) == CAD_REFUSED_VALUE);
+
+    four_users(value, CAD_DEACTIVATE_ACK);
+    cad_value_set_mask_bit(value, 2, 1);
+    cad_value_set_reason(value, 1);
+    CHECK(cad_write(profile, sizeof profile, value, sizeof value, message, sizeof message, &bits) == CAD_DONE);
+    CHECK(bits == 80 && memcmp(message, third, sizeof third) == 0);
+    CHECK(cad_read(profile, sizeof profile, third, sizeof third, 80, read, sizeof read) == CAD_DONE);
+    CHECK(memcmp(read, value, sizeof value) == 0);
+    CHECK(cad_value_is_ack(read) && cad_value_masked(read) && cad_value_result(read) == 0 && cad_value_reason(read) == 1);
+    for (k = 0; k < 5; k++)
+        CHECK(cad_value_mask_bit(read, k) == (k == 2));
+    cad_value_set_mask_bit(value, 4, 1);
+    CHECK(cad_write(profile, sizeof profile, value, sizeof value, message, sizeof message, &bits) == CAD_REFUSED_VALUE);
+    cad_value_set_mask_bit(value, 4, 0);
+    value[107] = 0;
+    CHECK(cad_write(profile, sizeof profile, value, sizeof value, message, sizeof message, &bits) == CAD_REFUSED_VALUE);
+    value[107] = 1;
+    cad_value_set_option(value);
+    CHECK(cad_write(profile, sizeof profile, value, sizeof value, message, sizeof message, &bits) == CAD_REFUSED_VALUE);
+
+    /* the longest of each: fifteen users of kind 2; of the ACK with a mask and a reason */
+    home_profile(profile);
+    cad_value_start(value, CAD_DEACTIVATE);
+    cad_value_set_user_range(value, 7);
+    for (k = 0; k < 15; k++)
+        cad_value_set_user(value, k, cad_address_other(k, 0xFFFFFF - k));
+    CHECK(cad_write(profile, sizeof profile, value, sizeof value, message, sizeof message, &bits) == CAD_DONE && bits == 765);
+    CHECK(cad_read(profile, sizeof profile, message, sizeof message, bits, read, sizeof read) == CAD_DONE);
+    CHECK(memcmp(read, value, sizeof value) == 0);
+    value[CAD_VALUE_PDU] = CAD_DEACTIVATE_ACK;
+    cad_value_set_mask_bit(value, 14, 1);
+    cad_value_set_reason(value, 127);
+    CHECK(cad_write(profile, sizeof profile, value, sizeof value, message, sizeof message, &bits) == CAD_DONE && bits == 789);
+    CHECK(cad_read(profile, sizeof profile, message, sizeof message, bits, read, sizeof read) == CAD_DONE);
+    CHECK(memcmp(read, value, sizeof value) == 0);
+}
+
 /* The two functions themselves, where the header's words meet them; the differential test is elsewhere. */
 static void functions(void)
 {
@@ -388,10 +491,7 @@ static void functions(void)
     size_t bits = 77;
     unsigned k;
     cad_profile_sample(profile);
-    cad_value_start(value, CAD_ACTIVATE);
-    cad_value_set_user_range(value, 15);
-    cad_value_set_user(value, 0, cad_address_home(1001));
-    cad_value_set_user(value, 1, cad_address_home(1004));
+    four_users(value, CAD_ACTIVATE);
     CHECK(cad_write(profile, sizeof profile, value, sizeof value, message, sizeof message, &bits) == CAD_DONE);
     CHECK(bits == 68 && memcmp(message, case_8, sizeof case_8) == 0);
     CHECK(cad_read(profile, sizeof profile, case_8, sizeof case_8, 68, read, sizeof read) == CAD_DONE);
@@ -429,10 +529,7 @@ static void functions(void)
         read[k] = was;
     }
     CHECK(cad_write(profile, sizeof profile, read, sizeof read, message, sizeof message, &bits) == CAD_DONE);
-    cad_value_start(value, CAD_ACTIVATE);
-    cad_value_set_user_range(value, 15);
-    cad_value_set_user(value, 0, cad_address_home(1001));
-    cad_value_set_user(value, 1, cad_address_home(1004));
+    four_users(value, CAD_ACTIVATE);
 
     /* no bytes at all: NULL with the length 0 */
     bits = 77;
@@ -482,6 +579,7 @@ int main(void)
     accessors();
     setters();
     identities();
+    deactivation();
     functions();
     printf("%lu checks of the header, %lu failed\n", checks, failures);
     return failures == 0 ? 0 : 1;
