@@ -26,7 +26,7 @@ use Rattle.message.specs.Reading.{wholeOf, lengthOk, readBits, readOf}
 use Rattle.message.proofs.Cases.{request, and, all}
 use Rattle.message.specs.declared.Value.{Value}
 use Rattle.validity.specs.Validity.{validOf}
-use Rattle.validity.proofs.Cases.{home, abroad, two, four, activateV, ackV, plainV, call}
+use Rattle.validity.proofs.Cases.{home, abroad, two, four, activateV, deactivate, ackOf, ackV, plainV, call}
 use Rattle.writing.specs.Writing.{bitsOf, padded, layOf, layIn, writeValid, writeOf}
 use Rattle.console.specs.Bytes.{numberFrom, numberBytes, rowsFrom, rowsBytes, areZero}
 use Rattle.console.specs.Profiles.{meaningBytes, shareBytes, shareFrom, profileBytes, airFrom, sharesFrom, profileFrom, isProfile, passes}
@@ -84,6 +84,9 @@ rows =
     -- CANCEL; REJECT; REJECTED with a dispatcher
     ∷ row (call 14 5) ((14 ∷ []) ++ zeros 118 ++ (0 ∷ 5 ∷ []) ++ zeros 120)
     ∷ row (plainV 17 nobody 2 5 false nobody) ((17 ∷ []) ++ zeros 117 ++ (2 ∷ 0 ∷ 5 ∷ []) ++ zeros 120)
+    -- DEACTIVATE of worked case 8's users; the last of its three ACKs by case 9's outcomes
+    ∷ row (deactivate four) ((4 ∷ 15 ∷ []) ++ ends ++ zeros 225)
+    ∷ row (ackOf 5 four true (2 ^ 60) 0 2) ((5 ∷ 15 ∷ []) ++ ends ++ zeros 91 ++ (1 ∷ 0x10 ∷ []) ++ zeros 7 ++ (0 ∷ 2 ∷ []) ++ zeros 123)
     ∷ row (plainV 18 nobody 2 0 true (home 1001)) ((18 ∷ []) ++ zeros 117 ++ (2 ∷ 0 ∷ 0 ∷ 1 ∷ 0 ∷ 1 ∷ 0 ∷ 3 ∷ 0xE9 ∷ []) ++ zeros 114)
     ∷ []
 

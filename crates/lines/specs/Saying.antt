@@ -19,6 +19,10 @@ nameOf t =
     cond (eqb t 2) (65 ∷ 67 ∷ 84 ∷ 73 ∷ 86 ∷ 65 ∷ 84 ∷ 69 ∷ [])
     -- ACTIVATE ACK
     (cond (eqb t 3) (65 ∷ 67 ∷ 84 ∷ 73 ∷ 86 ∷ 65 ∷ 84 ∷ 69 ∷ 32 ∷ 65 ∷ 67 ∷ 75 ∷ [])
+    -- DEACTIVATE
+    (cond (eqb t 4) (68 ∷ 69 ∷ 65 ∷ 67 ∷ 84 ∷ 73 ∷ 86 ∷ 65 ∷ 84 ∷ 69 ∷ [])
+    -- DEACTIVATE ACK
+    (cond (eqb t 5) (68 ∷ 69 ∷ 65 ∷ 67 ∷ 84 ∷ 73 ∷ 86 ∷ 65 ∷ 84 ∷ 69 ∷ 32 ∷ 65 ∷ 67 ∷ 75 ∷ [])
     -- INTERROGATE
     (cond (eqb t 8) (73 ∷ 78 ∷ 84 ∷ 69 ∷ 82 ∷ 82 ∷ 79 ∷ 71 ∷ 65 ∷ 84 ∷ 69 ∷ [])
     -- INTERCEPTED
@@ -39,7 +43,7 @@ nameOf t =
     (cond (eqb t 17) (82 ∷ 69 ∷ 74 ∷ 69 ∷ 67 ∷ 84 ∷ [])
     -- REJECTED
     (cond (eqb t 18) (82 ∷ 69 ∷ 74 ∷ 69 ∷ 67 ∷ 84 ∷ 69 ∷ 68 ∷ [])
-    [])))))))))))
+    [])))))))))))))
 
 -- a number below 256 in decimal
 abbrev pub decimalOf : ℕ → List ℕ

@@ -94,6 +94,12 @@ fn named(pdu: u8) -> Text
     if pdu == 3 {
         return ACTIVATE_ACK;
     }
+    if pdu == 4 {
+        return DEACTIVATE;
+    }
+    if pdu == 5 {
+        return DEACTIVATE_ACK;
+    }
     if pdu == 8 {
         return INTERROGATE;
     }
@@ -172,6 +178,50 @@ const ACTIVATE_ACK: Text = Text {
         b'K',
         0,
         0,
+        0,
+        0,
+    ],
+};
+
+const DEACTIVATE: Text = Text {
+    len: 10,
+    bytes: [
+        b'D',
+        b'E',
+        b'A',
+        b'C',
+        b'T',
+        b'I',
+        b'V',
+        b'A',
+        b'T',
+        b'E',
+        0,
+        0,
+        0,
+        0,
+        0,
+        0,
+    ],
+};
+
+const DEACTIVATE_ACK: Text = Text {
+    len: 14,
+    bytes: [
+        b'D',
+        b'E',
+        b'A',
+        b'C',
+        b'T',
+        b'I',
+        b'V',
+        b'A',
+        b'T',
+        b'E',
+        b' ',
+        b'A',
+        b'C',
+        b'K',
         0,
         0,
     ],

@@ -1,8 +1,8 @@
 -- Document 01's worked cases 1 to 8 and those of document 02's messages as one checked list, with the values that they say; the kinds, and 5
 -- before 6 and 7. Assumes nothing.
-use Prim.Native.Nat.{ℕ}
+use Prim.Native.Nat.{ℕ, _*_, _^_}
 use mathlib.Core.Path.{_≡_, refl}
-use mathlib.Core.Bool.{true}
+use mathlib.Core.Bool.{Bool, true, false}
 use mathlib.Core.List as list
 use mathlib.Core.List.{List, [], _∷_}
 use lib.ListN.{set}
@@ -19,12 +19,13 @@ use Rattle.message.specs.Groups.{addressesIn, allowedIn, nobodies, place
 use Rattle.message.specs.Acks.{maskC, maskedC, resultC}
 use Rattle.message.specs.Numbers as place
 use Rattle.message.specs.Numbers.{elements, elementOf, widths, widthOf}
-use Rattle.message.specs.Values.{blank, withNumber, withUsers, withDispatchers, withGiven}
+use Rattle.message.specs.Values.{blank, withNumber, withUsers, withMask, withDispatchers, withGiven}
 use Rattle.message.specs.Rows.{table, rowIn, rowOf, put, partsC, puts, eachC, optionsC, putOptions, firstParts}
 use Rattle.message.specs.Messages.{bodyC, isKnown, isCarried, headerC, messageC}
 use Rattle.message.specs.Reading.{wholeOf, lengthOk, readBits, readOf, bitsOrder, readingOrder}
 use Rattle.message.specs.declared.Value.{Value}
 use Rattle.message.specs.declared.Address.{Address}
+use Rattle.message.specs.declared.Group.{Group}
 use Rattle.message.specs.declared.Part.the-variants as part
 
 -- these bytes, so many bits, are read as this under the sample profile
@@ -40,6 +41,14 @@ wants (reads l n r) = r
 -- kind 1
 abbrev pub home : ℕ → Address
 home s = record { kind = 1; ssi = s; extension = 0 }
+
+-- range 15, SSI 1,001 to 1,004
+abbrev pub four : Group
+four = record { range = 15; addresses = set (set nobodies 0 (home 1001)) 1 (home 1004) }
+
+-- an ACK of theirs
+abbrev pub ack : ℕ → Bool → ℕ → ℕ → ℕ → Value
+ack t masked mask result reason = put part.Result (result, reason) (withMask masked mask (withUsers four (blank t)))
 
 -- a message with an identifier or with nothing
 abbrev pub call : ℕ → ℕ → Value
@@ -84,20 +93,22 @@ cases =
     ∷ reads (0x25 ∷ 0x08 ∷ 0x00 ∷ 0x1F ∷ 0x48 ∷ []) 37 (got (withUsers (oneGroup (home 1001)) (blank 8)) 37)
     -- 8: ACTIVATE, range 15, SSI 1,001 to 1,004, no option
     ∷ reads (0x24 ∷ 0x5E ∷ 0x80 ∷ 0x01 ∷ 0xF4 ∷ 0xA0 ∷ 0x00 ∷ 0x7D ∷ 0x80 ∷ []) 68
-    (got (withUsers (record { range = 15; addresses = set (set nobodies 0 (home 1001)) 1 (home 1004) }) (blank 2)) 68)
+    (got (withUsers four (blank 2)) 68)
     -- kinds: 2 with an extension of 5; 3 and 0 are refused, though nothing follows
     ∷ reads (0x25 ∷ 0x10 ∷ 0x00 ∷ 0x1F ∷ 0x48 ∷ 0x00 ∷ 0x00 ∷ 0x28 ∷ []) 61 (got (withUsers (oneGroup (record { kind = 2; ssi = 1001; extension = 5 })) (blank 8)) 61)
     ∷ reads (0x25 ∷ 0x18 ∷ []) 13 (no (refusal 10))
     ∷ reads (0x25 ∷ 0x00 ∷ []) 13 (no (refusal 10))
-    -- SS type 10 with PDU type 1 and with type 4: 5 comes before 6 and 7
+    -- SS type 10 with PDU type 1 and with type 6: 5 comes before 6 and 7
     ∷ reads (0x28 ∷ 0x20 ∷ []) 11 (no (refusal 5))
-    ∷ reads (0x28 ∷ 0x80 ∷ []) 11 (no (refusal 5))
-    -- 6: types 0, 1, 19 and 31; 7: type 4, which is known and not carried
+    ∷ reads (0x28 ∷ 0xC0 ∷ []) 11 (no (refusal 5))
+    -- 6: types 0, 1, 19 and 31; 7: types 6, 7 and 9, which are known and not carried
     ∷ reads (0x24 ∷ 0x00 ∷ []) 11 (no (refusal 6))
     ∷ reads (0x24 ∷ 0x20 ∷ []) 11 (no (refusal 6))
     ∷ reads (0x26 ∷ 0x60 ∷ []) 11 (no (refusal 6))
     ∷ reads (0x27 ∷ 0xE0 ∷ []) 11 (no (refusal 6))
-    ∷ reads (0x24 ∷ 0x80 ∷ []) 11 (no (refusal 7))
+    ∷ reads (0x24 ∷ 0xC0 ∷ []) 11 (no (refusal 7))
+    ∷ reads (0x24 ∷ 0xE0 ∷ []) 11 (no (refusal 7))
+    ∷ reads (0x25 ∷ 0x20 ∷ []) 11 (no (refusal 7))
     -- 9: ACTIVATE with a reserved range, 4, and with "none" for its users, 0
     ∷ reads (0x24 ∷ 0x48 ∷ []) 15 (no (refusal 9))
     ∷ reads (0x24 ∷ 0x40 ∷ []) 15 (no (refusal 9))
@@ -125,6 +136,22 @@ cases =
     ∷ reads (0x26 ∷ 0x20 ∷ 0x02 ∷ 0x88 ∷ []) 30 (got (withNumber place.cause 2 (call 17 5)) 30)
     ∷ reads (0x26 ∷ 0x42 ∷ 0x00 ∷ []) 17 (got (caused 18 2) 17)
     ∷ reads (0x26 ∷ 0x42 ∷ 0xD0 ∷ 0x00 ∷ 0x3E ∷ 0x90 ∷ []) 44 (got (withGiven 0 true (withDispatchers (oneGroup (home 1001)) (caused 18 2))) 44)
+    -- DEACTIVATE of 1,001 to 1,004: no option, so what would be ACTIVATE's O-bit is left over; cut in the last SSI, in the range
+    ∷ reads (0x24 ∷ 0x9E ∷ 0x80 ∷ 0x01 ∷ 0xF4 ∷ 0xA0 ∷ 0x00 ∷ 0x7D ∷ 0x80 ∷ []) 67 (got (withUsers four (blank 4)) 67)
+    ∷ reads (0x24 ∷ 0x9E ∷ 0x80 ∷ 0x01 ∷ 0xF4 ∷ 0xA0 ∷ 0x00 ∷ 0x7D ∷ 0x80 ∷ []) 68 (no (refusal 13))
+    ∷ reads (0x24 ∷ 0x9E ∷ 0x80 ∷ 0x01 ∷ 0xF4 ∷ 0xA0 ∷ 0x00 ∷ 0x7D ∷ 0x80 ∷ []) 66 (no (short element.ssi 43))
+    ∷ reads (0x24 ∷ 0x80 ∷ []) 11 (no (short element.range 11))
+    -- its range is 4, reserved, and 0, "none"; it falls
+    ∷ reads (0x24 ∷ 0x88 ∷ []) 15 (no (refusal 9))
+    ∷ reads (0x24 ∷ 0x80 ∷ []) 15 (no (refusal 9))
+    ∷ reads (0x24 ∷ 0x9E ∷ 0x80 ∷ 0x01 ∷ 0xF6 ∷ 0x20 ∷ 0x00 ∷ 0x7D ∷ 0x20 ∷ []) 67 (no (refusal 11))
+    -- its ACKs by case 9's outcomes; one without a mask; cut in the mask, in the reason
+    ∷ reads (0x24 ∷ 0xBE ∷ 0x80 ∷ 0x01 ∷ 0xF4 ∷ 0xA0 ∷ 0x00 ∷ 0x7D ∷ 0x9C ∷ 0x80 ∷ []) 73 (got (ack 5 true (12 * 2 ^ 60) 1 0) 73)
+    ∷ reads (0x24 ∷ 0xBE ∷ 0x80 ∷ 0x01 ∷ 0xF4 ∷ 0xA0 ∷ 0x00 ∷ 0x7D ∷ 0x92 ∷ 0x01 ∷ []) 80 (got (ack 5 true (2 * 2 ^ 60) 0 1) 80)
+    ∷ reads (0x24 ∷ 0xBE ∷ 0x80 ∷ 0x01 ∷ 0xF4 ∷ 0xA0 ∷ 0x00 ∷ 0x7D ∷ 0x91 ∷ 0x02 ∷ []) 80 (got (ack 5 true (2 ^ 60) 0 2) 80)
+    ∷ reads (0x24 ∷ 0xBE ∷ 0x80 ∷ 0x01 ∷ 0xF4 ∷ 0xA0 ∷ 0x00 ∷ 0x7D ∷ 0x88 ∷ []) 69 (got (ack 5 false 0 1 0) 69)
+    ∷ reads (0x24 ∷ 0xBE ∷ 0x80 ∷ 0x01 ∷ 0xF4 ∷ 0xA0 ∷ 0x00 ∷ 0x7D ∷ 0x9C ∷ 0x80 ∷ []) 71 (no (short element.mask 68))
+    ∷ reads (0x24 ∷ 0xBE ∷ 0x80 ∷ 0x01 ∷ 0xF4 ∷ 0xA0 ∷ 0x00 ∷ 0x7D ∷ 0x92 ∷ 0x01 ∷ []) 79 (no (short element.reason 73))
     ∷ []
 
 pub cases-right : list.map gives cases ≡ list.map wants cases

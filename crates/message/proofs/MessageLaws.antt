@@ -104,6 +104,8 @@ unfolding rowOf rowIn table firstParts gets puts getOptions putOptions blank noG
 back-of t =
     arm (eqb t 2) t _ _ (λ x y. ap (λ (o : Optional Group). (x, (o, tt))) (given-back (y .0) _))
     (arm (eqb t 3) t _ _ (λ x y. refl)
+    (arm (eqb t 4) t _ _ (λ x y. refl)
+    (arm (eqb t 5) t _ _ (λ x y. refl)
     (arm (eqb t 8) t _ _ (λ x y. refl)
     (arm (eqb t 10) t _ _ (λ x y. ap (λ (o : Optional Address). (x, (o, tt))) (given-back (y .0) _))
     (arm (eqb t 11) t _ _ (request-back t)
@@ -114,7 +116,7 @@ back-of t =
     (arm (eqb t 16) t _ _ (λ x y. ap (λ (o : Optional Address). (x, (o, tt))) (given-back (y .0) _))
     (arm (eqb t 17) t _ _ (λ x y. refl)
     (arm (eqb t 18) t _ _ (λ x y. ap (λ (o : Optional Address). (x, (o, tt))) (given-back (y .0) _))
-    (λ x y. refl))))))))))))
+    (λ x y. refl))))))))))))))
 
 good-body : (air : Air) (t : ℕ) → Good (bodyC air t)
 unfolding bodyC

@@ -1,4 +1,4 @@
--- What an ACTIVATE ACK has after its users: a mask, one bit for each identity, and a result.
+-- What an ACK has after its users: a mask, one bit for each identity, and a result.
 use Prim.Native.Nat.{ℕ, _-_, _*_, _/_, _^_}
 use mathlib.Core.Bool.{Bool}
 use lib.Dec.{eqb}

@@ -79,6 +79,10 @@ table =
     (2, row (users ∷ []) (dispatchers ∷ []))
     -- ACTIVATE ACK
     ∷ (3, ackRow)
+    -- DEACTIVATE
+    ∷ (4, row (users ∷ []) [])
+    -- DEACTIVATE ACK
+    ∷ (5, ackRow)
     -- INTERROGATE
     ∷ (8, row (user ∷ []) [])
     -- INTERCEPTED

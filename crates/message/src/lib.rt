@@ -294,7 +294,15 @@ pub fn row_of(pdu: u8) -> Row
     }
     // ACTIVATE ACK
     if pdu == 3 {
-        return rows::three(Part::Users, Part::Masked, Part::Result);
+        return rows::ack();
+    }
+    // DEACTIVATE
+    if pdu == 4 {
+        return rows::one(Part::Users);
+    }
+    // DEACTIVATE ACK
+    if pdu == 5 {
+        return rows::ack();
     }
     // INTERROGATE
     if pdu == 8 {

@@ -1,7 +1,7 @@
 // Rows put together from their parts.
 ghost use mathlib.Core.Path.{_≡_};
 ghost use mathlib.Core.List.{[], _∷_};
-ghost use Rattle.message.specs.Rows.{row, noRow, identifier, cause, ofRequest};
+ghost use Rattle.message.specs.Rows.{row, noRow, ackRow, identifier, cause, ofRequest};
 use crate::Part;
 use crate::Row;
 use crate::Slot;
@@ -61,16 +61,17 @@ pub(crate) fn two(p: Part, q: Part) -> Row
     }
 }
 
-pub(crate) fn three(p: Part, q: Part, s: Part) -> Row
-    ensures { λ r. ⌜ r ≡ row (p ∷ q ∷ s ∷ []) [] ⌝ }
+// What every ACK has: the request's users, a mask, a result.
+pub(crate) fn ack() -> Row
+    ensures { λ r. ⌜ r ≡ ackRow ⌝ }
 {
-    let a = Slot { part: p };
-    let b = Slot { part: q };
-    let c = Slot { part: s };
+    let users = Slot { part: Part::Users };
+    let masked = Slot { part: Part::Masked };
+    let result = Slot { part: Part::Result };
     Row {
         carried: true,
         count: 3,
-        parts: [a, b, c, NOTHING, NOTHING, NOTHING],
+        parts: [users, masked, result, NOTHING, NOTHING, NOTHING],
         options: 0,
         optional: [NOTHING; 7],
     }

@@ -72,8 +72,12 @@ last = record { range = 1; addresses = set (set nobodies 0 (home 1001)) 14 (home
 abbrev pub activateV : Group → Bool → Group → Value
 activateV u o d = withGiven 0 o (withDispatchers d (withUsers u (blank 2)))
 
+-- an ACK of this type; an ACTIVATE ACK
+abbrev pub ackOf : ℕ → Group → Bool → ℕ → ℕ → ℕ → Value
+ackOf t u k m r w = withNumber place.reason w (withNumber place.result r (withMask k m (withUsers u (blank t))))
+
 abbrev pub ackV : Group → Bool → ℕ → ℕ → ℕ → Value
-ackV u k m r w = withNumber place.reason w (withNumber place.result r (withMask k m (withUsers u (blank 3))))
+ackV u k m r w = ackOf 3 u k m r w
 
 abbrev pub plainV : ℕ → Address → ℕ → ℕ → Bool → Address → Value
 plainV t a c i o d = withGiven 0 o (withDispatchers (oneGroup d) (withNumber place.identifier i (withNumber place.cause c (withUsers (oneGroup a) (blank t)))))
@@ -90,6 +94,10 @@ intercepted c o a = plainV 10 nobody c 0 o a
 
 abbrev pub call : ℕ → ℕ → Value
 call t i = plainV t nobody 0 i false nobody
+
+-- users in a DEACTIVATE
+abbrev pub deactivate : Group → Value
+deactivate u = withUsers u (blank 4)
 
 -- a value by all its fields
 abbrev pub value : ℕ → Group → Bool → ℕ → ℕ → ℕ → ℕ → ℕ → Bool → Group → Value
@@ -108,9 +116,9 @@ cases =
     ∷ good (intercepted 2 true (home 1))
     ∷ good (interrogate (home 1001))
     ∷ good (activate four)
-    -- PDU types 0, 4, and 2 with a bit too many
+    -- PDU types 0, 6, and 2 with a bit too many
     ∷ bad (call 0 0)
-    ∷ bad (call 4 0)
+    ∷ bad (call 6 0)
     ∷ bad (value 34 four false 0 0 0 0 0 false noGroup)
     -- kinds 2, 3 and 0; an SSI and an extension of 24 bits, and of more; an extension with kind 1
     ∷ good (interrogate (abroad 0xFF_FFFF 0xFF_FFFF))
@@ -233,6 +241,28 @@ cases =
     ∷ good (plainV 18 nobody 2 0 true (home 1001))
     ∷ bad (plainV 18 nobody 32 0 false nobody)
     ∷ bad (plainV 18 nobody 0 5 false nobody)
+    -- DEACTIVATE: of a range, of a list; of nobody, of a range that falls, with an address beyond the count
+    ∷ good (deactivate four)
+    ∷ good (deactivate (two 2 (home 1001) (abroad 7 5)))
+    ∷ bad (deactivate (none 0))
+    ∷ bad (deactivate (two 15 (home 1004) (home 1001)))
+    ∷ bad (deactivate (two 1 (home 1001) (home 1002)))
+    -- what it doesn't carry: an option, "none" as one, dispatchers, a mask, a result, a reason, a cause, an identifier
+    ∷ bad (value 4 four false 0 0 0 0 0 true (one 1 (home 1)))
+    ∷ bad (value 4 four false 0 0 0 0 0 true (none 0))
+    ∷ bad (value 4 four false 0 0 0 0 0 false (one 1 (home 1)))
+    ∷ bad (value 4 four true 0xC000_0000_0000_0000 0 0 0 0 false noGroup)
+    ∷ bad (value 4 four false 0 1 0 0 0 false noGroup)
+    ∷ bad (value 4 four false 0 0 1 0 0 false noGroup)
+    ∷ bad (value 4 four false 0 0 0 1 0 false noGroup)
+    ∷ bad (value 4 four false 0 0 0 0 1 false noGroup)
+    -- its ACK: accepted, not accepted; a bit beyond the fourth identity, a mask where none is present, a reason with result 1, an option
+    ∷ good (ackOf 5 four true 0xC000_0000_0000_0000 1 0)
+    ∷ good (ackOf 5 four false 0 0 127)
+    ∷ bad (ackOf 5 four true 0xC800_0000_0000_0000 1 0)
+    ∷ bad (ackOf 5 four false 0xC000_0000_0000_0000 1 0)
+    ∷ bad (ackOf 5 four false 0 1 1)
+    ∷ bad (value 5 four false 0 1 0 0 0 true noGroup)
     ∷ []
 
 pub cases-right : list.map gives cases ≡ list.map wants cases

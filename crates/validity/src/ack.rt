@@ -1,4 +1,4 @@
-// What an ACTIVATE ACK has after its users: the mask, the result, the reason.
+// What an ACK has after its users: the mask, the result, the reason.
 ghost use mathlib.Core.Path.{_≡_};
 ghost use Prim.Native.Nat.{_≤_};
 ghost use Rattle.message.specs.Acks.{maskC, maskedC, resultC};

@@ -29,7 +29,7 @@ use Rattle.message.specs.declared.Address.{Address}
 use Rattle.message.specs.declared.Group.{Group}
 use Rattle.message.specs.declared.Value.{Value}
 use Rattle.validity.specs.Validity.{validOf}
-use Rattle.validity.proofs.Cases.{home, abroad, none, one, two, four, activateV, ackV, plainV, activate, interrogate, intercepted, call}
+use Rattle.validity.proofs.Cases.{home, abroad, none, one, two, four, activateV, deactivate, ackOf, ackV, plainV, activate, interrogate, intercepted, call}
 use Rattle.writing.specs.Writing.{Write, laid, refused, bitsOf, padded, layOf, layIn, writeValid, writeOf}
 
 abbrev three : ℕ → Address → Address → Address → Group
@@ -104,6 +104,17 @@ rows =
     (0x26 ∷ 0x42 ∷ 0x00 ∷ [])
     ∷ row (plainV 18 nobody 2 0 true (home 1001)) 44
     (0x26 ∷ 0x42 ∷ 0xD0 ∷ 0x00 ∷ 0x3E ∷ 0x90 ∷ [])
+    -- DEACTIVATE of 1,001 to 1,004, of a list; its ACKs with a mask, and without
+    ∷ row (deactivate four) 67
+    (0x24 ∷ 0x9E ∷ 0x80 ∷ 0x01 ∷ 0xF4 ∷ 0xA0 ∷ 0x00 ∷ 0x7D ∷ 0x80 ∷ [])
+    ∷ row (deactivate (two 2 (home 1001) (abroad 7 5))) 91
+    (0x24 ∷ 0x84 ∷ 0x80 ∷ 0x01 ∷ 0xF4 ∷ 0xC0 ∷ 0x00 ∷ 0x00 ∷ 0xE0 ∷ 0x00 ∷ 0x00 ∷ 0xA0 ∷ [])
+    ∷ row (ackOf 5 four true 0xC000_0000_0000_0000 1 0) 73
+    (0x24 ∷ 0xBE ∷ 0x80 ∷ 0x01 ∷ 0xF4 ∷ 0xA0 ∷ 0x00 ∷ 0x7D ∷ 0x9C ∷ 0x80 ∷ [])
+    ∷ row (ackOf 5 four true 0x1000_0000_0000_0000 0 2) 80
+    (0x24 ∷ 0xBE ∷ 0x80 ∷ 0x01 ∷ 0xF4 ∷ 0xA0 ∷ 0x00 ∷ 0x7D ∷ 0x91 ∷ 0x02 ∷ [])
+    ∷ row (ackOf 5 four false 0 1 0) 69
+    (0x24 ∷ 0xBE ∷ 0x80 ∷ 0x01 ∷ 0xF4 ∷ 0xA0 ∷ 0x00 ∷ 0x7D ∷ 0x88 ∷ [])
     ∷ []
 
 -- ---- written: into an area with a byte to spare, whose bytes are AA; that one stays
