@@ -3,6 +3,7 @@ use Prim.Native.Nat.{ℕ}
 use mathlib.Core.Path.{_≡_, refl}
 use mathlib.Core.Bool.{Bool, true, false, not, cond}
 use mathlib.Core.List.{List, [], _∷_}
+use mathlib.Core.Logic.{_⊎_, inl, inr}
 use native.Mathlib.Omega.{arith}
 use lib.Dec.{eqb, leb, ltb}
 use lib.ListN.{length, take}
@@ -55,7 +56,7 @@ step-answer d rows n l area e = by-answer d (take n rows) _ _ _ (answerOf d rows
 
 -- it is a request to change marks
 abbrev pub Marking : Value → Type 0
-Marking v = v .pdu ≡ 2
+Marking v = (v .pdu ≡ 2) ⊎ (v .pdu ≡ 4)
 
 module _ (d : Desk) (rows : List Record) (n room post : ℕ) (v : Value) (P : Answer → Type 0) where
   -- what holds of each type's answer holds of the answer
@@ -68,7 +69,7 @@ module _ (d : Desk) (rows : List Record) (n room post : ℕ) (v : Value) (P : An
       → P (sentAnswer d rows n room post v)
   unfolding sentAnswer
   by-type marking interrogate accept divert reject other =
-      arm 2 (marking (namesDispatchers (d .profile .air) v)) (arm 8 (λ _. interrogate) (arm 12 (λ _. accept) (arm 15 (λ _. divert) (arm 17 reject other))))
+      arm 2 (λ e. marking (namesDispatchers (d .profile .air) v) (inl e)) (arm 4 (λ e. marking false (inr e)) (arm 8 (λ _. interrogate) (arm 12 (λ _. accept) (arm 15 (λ _. divert) (arm 17 reject other)))))
     where
       arm : (t : ℕ) {x y : Answer} → (v .pdu ≡ t → P x) → P y → P (cond (eqb (v .pdu) t) x y)
       arm t {x} {y} p q = go (eqb (v .pdu) t) refl

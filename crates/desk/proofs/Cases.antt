@@ -1,4 +1,4 @@
--- Worked cases 9, 11 and 12 of document 01, and those of document 02's (iii) and (iv), through the definition of a step, as one checked list.
+-- Worked cases 9, 11 and 12 of document 01, and those of document 02's (i), (iii) and (iv), through the definition of a step, as one checked list.
 -- Assumes nothing.
 use Prim.Native.Nat.{ℕ, zero, suc, _-_}
 use mathlib.Core.Path.{_≡_, refl}
@@ -38,7 +38,7 @@ use Rattle.sending.specs.Sending.{layFrom, layAll, noLaid, laidFrom, laidOf}
 use Rattle.sending.specs.Acks.{resultOf, reasonOf, severalIn, ackV, ackOf, acksOf}
 use Rattle.desk.specs.Desks.{deskOk}
 use Rattle.desk.specs.Orders.{namesDispatchers, markingAnswer, endAnswer, moveAnswer, acceptAnswer, decideAnswer, sentAnswer, messageAnswer, partyOk, setUpOk, admitAnswer, setUpAnswer, rejectAnswer, cancelAnswer, answerOf}
-use Rattle.desk.specs.Steps.{deskAfter, plainStep, plainArea, acksFor, acksStep, acksArea, stepBy, areaBy, stepOf, areaAfter}
+use Rattle.desk.specs.Steps.{ackFor, setsMark, deskAfter, plainStep, plainArea, acksFor, acksStep, acksArea, stepBy, areaBy, stepOf, areaAfter}
 use Rattle.desk.specs.declared.Answer.{Answer}
 use Rattle.desk.specs.declared.Answer.the-variants as answer
 use Rattle.desk.specs.declared.Desk.{Desk}
@@ -91,6 +91,10 @@ accept-5 = 0x25 ∷ 0x80 ∷ 0x02 ∷ 0x80 ∷ []
 
 abbrev pub reject-5 : List ℕ
 reject-5 = 0x26 ∷ 0x20 ∷ 0x02 ∷ 0x88 ∷ []
+
+-- DEACTIVATE of 1,001 to 1,004
+abbrev pub deactivate-four : List ℕ
+deactivate-four = 0x24 ∷ 0x9E ∷ 0x80 ∷ 0x01 ∷ 0xF4 ∷ 0xA0 ∷ 0x00 ∷ 0x7D ∷ 0x80 ∷ []
 
 -- INTERCEPTED, cause 0; REQUEST of call 100, cause 0, of call 5, causes 0 and 2
 abbrev pub intercepted : List ℕ
@@ -170,8 +174,27 @@ cases =
     ∷ on (desk []) [] (0x26 ∷ 0x40 ∷ 0x00 ∷ []) (event.Message 0 17) (answer.Refused (refusal 8)) [] (desk []) noneMarked (untouched 300)
     ∷ on (desk []) restricted [] (setUp-5 32) (answer.Refused (refusal 16)) [] (desk []) noneMarked (untouched 300)
     ∷ on (desk (at-5 1 32 ∷ [])) [] [] (event.Cancel 5) (answer.Refused (refusal 1)) [] (desk (at-5 1 32 ∷ [])) noneMarked (untouched 300)
+    -- document 02, (i): DEACTIVATE of case 9's users with its records, of which 1,001 and 1,004 are active and have a call that waits: the
+    -- same masks in DEACTIVATE ACKs, the marks of 1,001 and 1,002 become clear, and the calls stay
+    ∷ on (desk (then-5 0 1 2 ∷ [])) (user 1001 0 true ∷ user 1002 0 false ∷ user 1004 1 true ∷ []) deactivate-four (event.Message 0 67)
+    answer.Acks (73 ∷ 80 ∷ 80 ∷ []) (desk (then-5 0 1 2 ∷ [])) (marked false (true ∷ true ∷ []))
+    ((0x24 ∷ 0xBE ∷ 0x80 ∷ 0x01 ∷ 0xF4 ∷ 0xA0 ∷ 0x00 ∷ 0x7D ∷ 0x9C ∷ 0x80 ∷ []) ++ untouched 90
+    ++ (0x24 ∷ 0xBE ∷ 0x80 ∷ 0x01 ∷ 0xF4 ∷ 0xA0 ∷ 0x00 ∷ 0x7D ∷ 0x92 ∷ 0x01 ∷ []) ++ untouched 90
+    ++ (0x24 ∷ 0xBE ∷ 0x80 ∷ 0x01 ∷ 0xF4 ∷ 0xA0 ∷ 0x00 ∷ 0x7D ∷ 0x91 ∷ 0x02 ∷ []) ++ untouched 90)
+    -- from post 1 only 1,004 is accepted; of nobody's records all four have one outcome, so one ACK without a mask
+    ∷ on (desk []) (user 1001 0 true ∷ user 1002 0 false ∷ user 1004 1 true ∷ []) deactivate-four (event.Message 1 67)
+    answer.Acks (73 ∷ 80 ∷ 80 ∷ []) (desk []) (marked false (false ∷ false ∷ true ∷ []))
+    ((0x24 ∷ 0xBE ∷ 0x80 ∷ 0x01 ∷ 0xF4 ∷ 0xA0 ∷ 0x00 ∷ 0x7D ∷ 0x91 ∷ 0x80 ∷ []) ++ untouched 90
+    ++ (0x24 ∷ 0xBE ∷ 0x80 ∷ 0x01 ∷ 0xF4 ∷ 0xA0 ∷ 0x00 ∷ 0x7D ∷ 0x92 ∷ 0x01 ∷ []) ++ untouched 90
+    ++ (0x24 ∷ 0xBE ∷ 0x80 ∷ 0x01 ∷ 0xF4 ∷ 0xA0 ∷ 0x00 ∷ 0x7D ∷ 0x9C ∷ 0x02 ∷ []) ++ untouched 90)
+    ∷ on (desk []) [] deactivate-four (event.Message 0 67) answer.Acks (76 ∷ []) (desk []) (marked false [])
+    ((0x24 ∷ 0xBE ∷ 0x80 ∷ 0x01 ∷ 0xF4 ∷ 0xA0 ∷ 0x00 ∷ 0x7D ∷ 0x80 ∷ 0x10 ∷ []) ++ untouched 290)
+    -- 13: what would be ACTIVATE's O-bit; 15 where a record is not good; 8: DEACTIVATE ACK from a post
+    ∷ on (desk []) [] deactivate-four (event.Message 0 68) (answer.Refused (refusal 13)) [] (desk []) noneMarked (untouched 300)
+    ∷ on (desk []) (user 1001 2 true ∷ []) deactivate-four (event.Message 0 67) (answer.Refused (refusal 15)) [] (desk []) noneMarked (untouched 300)
+    ∷ on (desk []) [] (0x24 ∷ 0xBE ∷ 0x80 ∷ 0x01 ∷ 0xF4 ∷ 0xA0 ∷ 0x00 ∷ 0x7D ∷ 0x88 ∷ []) (event.Message 0 69) (answer.Refused (refusal 8)) [] (desk []) noneMarked (untouched 300)
     ∷ []
 
 pub cases-right : list.map gives cases ≡ list.map wants cases
-unfolding bitAt fieldAt withDigit binary setBit putBits spare both number vecRead flag every sum meaningOk meaningIn airOk shareOk shareIn sharesOk profileOk sample sampleMeanings sampleShare kindC extensionC addressC addressesIn allowedIn nobodies placesC rangeOk endsOk addressesC rangeC groupC noGroup oneGroup spanIn spanOf maskC maskedC resultC elements elementOf widths widthOf blank ackV table rowIn row.rowOf partsC puts gets eachC optionsC putOptions getOptions firstParts bodyC isKnown isCarried headerC messageC wholeOf lengthOk readBits readOf bitsOf padded layOf placeIn noPlaces waitsAt heldOf usedOf freeOf owedOf owedAll owedOthers loadOf admitsOf secondOk callOk apart aloneAt underCeiling placesOk lowestFrom hasCall placeOf lowestFree takeOf clearOf moveOf identityOf later identityIn identityAt countOf each identitiesOf rowOf is recordFrom recordOf recordOk allOk recordsOk stateOf restricts partyOf restrictedOf isRestricted postFor secondOf outcomeOf outcomesOf has maskOf someOf sortedOf acceptedOf unmarked nobodyMarked noMarks withMark markAll marksOf layFrom layAll noLaid laidFrom laidOf resultOf reasonOf severalIn ackOf acksOf deskOk namesDispatchers markingAnswer endAnswer moveAnswer acceptAnswer decideAnswer sentAnswer messageAnswer partyOk setUpOk admitAnswer setUpAnswer rejectAnswer cancelAnswer answerOf deskAfter plainStep plainArea acksFor acksStep acksArea stepBy areaBy stepOf areaAfter
+unfolding bitAt fieldAt withDigit binary setBit putBits spare both number vecRead flag every sum meaningOk meaningIn airOk shareOk shareIn sharesOk profileOk sample sampleMeanings sampleShare kindC extensionC addressC addressesIn allowedIn nobodies placesC rangeOk endsOk addressesC rangeC groupC noGroup oneGroup spanIn spanOf maskC maskedC resultC elements elementOf widths widthOf blank ackV table rowIn row.rowOf partsC puts gets eachC optionsC putOptions getOptions firstParts bodyC isKnown isCarried headerC messageC wholeOf lengthOk readBits readOf bitsOf padded layOf placeIn noPlaces waitsAt heldOf usedOf freeOf owedOf owedAll owedOthers loadOf admitsOf secondOk callOk apart aloneAt underCeiling placesOk lowestFrom hasCall placeOf lowestFree takeOf clearOf moveOf identityOf later identityIn identityAt countOf each identitiesOf rowOf is recordFrom recordOf recordOk allOk recordsOk stateOf restricts partyOf restrictedOf isRestricted postFor secondOf outcomeOf outcomesOf has maskOf someOf sortedOf acceptedOf unmarked nobodyMarked noMarks withMark markAll marksOf layFrom layAll noLaid laidFrom laidOf resultOf reasonOf severalIn ackOf acksOf deskOk namesDispatchers markingAnswer endAnswer moveAnswer acceptAnswer decideAnswer sentAnswer messageAnswer partyOk setUpOk admitAnswer setUpAnswer rejectAnswer cancelAnswer answerOf ackFor setsMark deskAfter plainStep plainArea acksFor acksStep acksArea stepBy areaBy stepOf areaAfter
 cases-right = refl

@@ -142,6 +142,10 @@ module _ (d : Desk) (rows : List Record) (n : ℕ) where
     unfolding markingAnswer
     marking-first given = before (ltb room 300) 14 _ _ (before (not (recordsOk rows n (postsOf d))) 15 _ _ (last given 21 answer.Acks refl))
 
+    unnamed-first : numberOf (markingAnswer d rows n room false) ≡ firstOf ((14, ltb room 300) ∷ (15, not (recordsOk rows n (postsOf d))) ∷ [])
+    unfolding markingAnswer
+    unnamed-first = before (ltb room 300) 14 _ _ (last (not (recordsOk rows n (postsOf d))) 15 answer.Acks refl)
+
     interrogate-first : numberOf (interrogateAnswer d rows n post v) ≡ firstOf ((15, not (recordsOk rows n (postsOf d))) ∷ [])
     unfolding interrogateAnswer
     interrogate-first = last (not (recordsOk rows n (postsOf d))) 15 _ refl
@@ -156,7 +160,7 @@ module _ (d : Desk) (rows : List Record) (n : ℕ) where
     abbrev place : ℕ
     place = placeOf (placesOf d) (identifierIn v) .place
 
-    -- the types that are carried are the five that posts send and the seven that they don't
+    -- the types that are carried are the six that posts send and the eight that they don't
     sent-first : isCarried (v .pdu) ≡ true → numberOf (sentAnswer d rows n room post v) ≡ firstOf (notSent v ∷ typeOrder d rows n room post v)
     unfolding sentAnswer refusal firstOf table
     sent-first h =
@@ -165,18 +169,24 @@ module _ (d : Desk) (rows : List Record) (n : ℕ) where
           (
             refl,
             (
-              interrogate-first,
+              unnamed-first,
               (
                 refl,
                 (
-                  refl,
+                  interrogate-first,
                   (
-                    decide-first (acceptAnswer d place) (noPlaceThere d place) (accept-first place),
+                    refl,
                     (
                       refl,
                       (
-                        refl,
-                        (decide-first answer.Diverted [] refl, (refl, (decide-first answer.Rejected [] refl, (refl, tt)))),
+                        decide-first (acceptAnswer d place) (noPlaceThere d place) (accept-first place),
+                        (
+                          refl,
+                          (
+                            refl,
+                            (decide-first answer.Diverted [] refl, (refl, (decide-first answer.Rejected [] refl, (refl, tt)))),
+                          ),
+                        ),
                       ),
                     ),
                   ),
@@ -189,15 +199,16 @@ module _ (d : Desk) (rows : List Record) (n : ℕ) where
       where
         By : ℕ → Type 0
         By t =
-            numberOf (cond (eqb t 2) (markingAnswer d rows n room (namesDispatchers (d .profile .air) v)) (cond (eqb t 8) (interrogateAnswer d rows n post v)
+            numberOf (cond (eqb t 2) (markingAnswer d rows n room (namesDispatchers (d .profile .air) v)) (cond (eqb t 4) (markingAnswer d rows n room false) (cond (eqb t 8) (interrogateAnswer d rows n post v)
             (cond (eqb t 12) (decideAnswer d room post (identifierIn v) (acceptAnswer d place)) (cond (eqb t 15) (decideAnswer d room post (identifierIn v) answer.Diverted)
-            (cond (eqb t 17) (decideAnswer d room post (identifierIn v) answer.Rejected) (answer.Refused (refusal 8)))))))
-            ≡ firstOf ((8, eqb t 3 || (eqb t 10 || (eqb t 11 || (eqb t 13 || (eqb t 14 || (eqb t 16 || eqb t 18))))))
+            (cond (eqb t 17) (decideAnswer d room post (identifierIn v) answer.Rejected) (answer.Refused (refusal 8))))))))
+            ≡ firstOf ((8, eqb t 3 || (eqb t 5 || (eqb t 10 || (eqb t 11 || (eqb t 13 || (eqb t 14 || (eqb t 16 || eqb t 18)))))))
             ∷ cond (eqb t 2) ((14, ltb room 300) ∷ (15, not (recordsOk rows n (postsOf d))) ∷ (21, namesDispatchers (d .profile .air) v) ∷ [])
+            (cond (eqb t 4) ((14, ltb room 300) ∷ (15, not (recordsOk rows n (postsOf d))) ∷ [])
             (cond (eqb t 8) ((15, not (recordsOk rows n (postsOf d))) ∷ [])
             (cond (eqb t 12) ((14, ltb room 300) ∷ (19, not (waits d (identifierIn v))) ∷ (20, not (waitsHere d post (identifierIn v))) ∷ noPlaceThere d place)
             (cond (eqb t 15) ((14, ltb room 300) ∷ (19, not (waits d (identifierIn v))) ∷ (20, not (waitsHere d post (identifierIn v))) ∷ [])
-            (cond (eqb t 17) ((14, ltb room 300) ∷ (19, not (waits d (identifierIn v))) ∷ (20, not (waitsHere d post (identifierIn v))) ∷ []) [])))))
+            (cond (eqb t 17) ((14, ltb room 300) ∷ (19, not (waits d (identifierIn v))) ∷ (20, not (waitsHere d post (identifierIn v))) ∷ []) []))))))
 
   after-reading : (room post : ℕ) (g : List Ground) (r : Read Value) → Told g r → ((v : Value) (p : ℕ) → r ≡ got v p → isCarried (v .pdu) ≡ true)
       → numberOf (readAnswer r (λ v. sentAnswer d rows n room post v)) ≡ firstOf (g ++ afterwards r (λ v p. notSent v ∷ typeOrder d rows n room post v))

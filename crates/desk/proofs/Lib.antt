@@ -18,3 +18,4 @@ pub mod Reuse
 pub mod LaidLaws
 pub mod Outputs
 pub mod Marked
+pub mod Requests

@@ -1,9 +1,11 @@
 -- A request to change marks: its order, ground by ground, and its ACKs. Assumes nothing.
 use Prim.Native.Nat.{ℕ, zero, suc, _≤_, _<_}
 use mathlib.Core.Path.{_≡_, refl, sym, ap, _∙_, subst}
-use mathlib.Core.Bool.{Bool, true, false}
+use mathlib.Core.Bool.{Bool, true, false, cond}
 use mathlib.Core.List.{List, [], _∷_}
+use mathlib.Core.Logic.{⊎-elim}
 use native.Mathlib.Omega.{arith}
+use lib.Dec.{eqb}
 use lib.ListN.{length}
 use borrow.Author.Tests.{lt-ltb, le-ltb}
 use Rattle.codec.specs.Stops.{refusal}
@@ -35,7 +37,7 @@ use Rattle.sending.specs.declared.Laid.{Laid}
 use Rattle.sending.proofs.SentLaws.{all-sent}
 use Rattle.sending.proofs.AckLaws.{Request, acks-send, acks-few}
 use Rattle.desk.specs.Orders.{postsOf, markingAnswer}
-use Rattle.desk.specs.Steps.{valueBy, askedIn, askedOf, acksFor, acksStep, acksArea}
+use Rattle.desk.specs.Steps.{valueBy, ackFor, askedIn, askedOf, acksFor, acksStep, acksArea}
 use Rattle.desk.specs.declared.Answer.the-variants as answer
 use Rattle.desk.specs.declared.Desk.{Desk}
 use Rattle.desk.specs.declared.Event.{Event}
@@ -64,8 +66,12 @@ module _ (d : Desk) (rows : List Record) (n room : ℕ) (given : Bool) where
 
 -- by ACKs
 pub asked-ack : (v : Value) → rowOf (askedIn v .ack) ≡ ackRow
-unfolding rowOf rowIn table
-asked-ack v = refl
+unfolding ackFor rowOf rowIn table
+asked-ack v = go (eqb (v .pdu) 2)
+  where
+    go : (b : Bool) → rowOf (cond b 3 5) ≡ ackRow
+    go true = refl
+    go false = refl
 
 pub event-ack : (p : Profile) (l : List ℕ) (e : Event) → rowOf (askedOf p l e .ack) ≡ ackRow
 event-ack p l (event.Message post bits) = asked-ack (valueBy (readOf p l bits))
@@ -74,12 +80,13 @@ event-ack p l (event.Reject post identifier) = asked-ack noValue
 event-ack p l (event.Cancel identifier) = asked-ack noValue
 
 -- of good users, in a valid message
-activate-users : (air : Air) (v : Value) → bodyC air 2 .ok v ≡ true → groupC air false .ok (v .users) ≡ true
-unfolding bodyC rowOf rowIn table firstParts
-activate-users air v z = begins-users air 2 [] (dispatchers ∷ []) v z
-
 pub marking-users : (air : Air) (v : Value) → validOf air v ≡ true → Marking v → groupC air false .ok (v .users) ≡ true
-marking-users air v ok e = activate-users air v (subst (λ (t : ℕ). bodyC air t .ok v ≡ true) e (valid-body air v ok))
+unfolding bodyC rowOf rowIn table firstParts
+marking-users air v ok m =
+    ⊎-elim (λ e. begins-users air 2 [] (dispatchers ∷ []) v (body 2 e)) (λ e. begins-users air 4 [] [] v (body 4 e)) m
+  where
+    body : (t : ℕ) → v .pdu ≡ t → bodyC air t .ok v ≡ true
+    body t e = subst (λ (u : ℕ). bodyC air u .ok v ≡ true) e (valid-body air v ok)
 
 -- what is taken out of such a message
 pub asked-good : (air : Air) (v : Value) (x : Asked) → x ≡ askedIn v → groupC air false .ok (v .users) ≡ true

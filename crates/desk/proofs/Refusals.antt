@@ -49,7 +49,7 @@ unfolding refusal published
 one-known = refl
 
 module _ (d : Desk) (rows : List Record) (n : ℕ) (l area : List ℕ) (e : Event) where
-  -- a refusal leaves everything as it stood: of an ACTIVATE too, of which no mark is set
+  -- a refusal leaves everything as it stood: of a request to change marks too, of which no mark changes
   pub refused-keeps : (s : Stop) → stepOf d rows n l area e .answer ≡ answer.Refused s → Kept d area (stepOf d rows n l area e) (areaAfter d rows n l area e)
   unfolding stepOf areaAfter keeps
   refused-keeps s h =
@@ -126,11 +126,11 @@ module _ (d : Desk) (rows : List Record) (n : ℕ) (l area : List ℕ) (e : Even
   pub exact-8 : Exact 8
   exact-8 = exact 8 (omega arith)
 
-  -- ACTIVATE, ACCEPT, DIVERT, REJECT, set-up, reject, cancel
+  -- ACTIVATE, DEACTIVATE, ACCEPT, DIVERT, REJECT, set-up, reject, cancel
   pub exact-14 : Exact 14
   exact-14 = exact 14 (omega arith)
 
-  -- ACTIVATE, INTERROGATE, set-up
+  -- ACTIVATE, DEACTIVATE, INTERROGATE, set-up
   pub exact-15 : Exact 15
   exact-15 = exact 15 (omega arith)
 

@@ -27,10 +27,10 @@ use Rattle.desk.specs.declared.Event.the-variants as event
 abbrev pub noSuchPost : Desk → ℕ → Ground
 noSuchPost d post = (2, not (ltb post (postsOf d)))
 
--- a type that posts don't send: 3, 10, 13, 16; of document 02, (iv), 11, 14, 18
+-- a type that posts don't send: 3, 10, 13, 16; of document 02, (i) 5, (iv) 11, 14, 18
 abbrev pub notSent : Value → Ground
 notSent v =
-    (8, eqb (v .pdu) 3 || (eqb (v .pdu) 10 || (eqb (v .pdu) 11 || (eqb (v .pdu) 13 || (eqb (v .pdu) 14 || (eqb (v .pdu) 16 || eqb (v .pdu) 18))))))
+    (8, eqb (v .pdu) 3 || (eqb (v .pdu) 5 || (eqb (v .pdu) 10 || (eqb (v .pdu) 11 || (eqb (v .pdu) 13 || (eqb (v .pdu) 14 || (eqb (v .pdu) 16 || eqb (v .pdu) 18)))))))
 
 -- output shorter than 300 bytes
 abbrev pub shortArea : ℕ → Ground
@@ -87,15 +87,16 @@ dispatchersGiven d v = (21, namesDispatchers (d .profile .air) v)
 
 -- ---- the orders, call by call
 
--- after the type: ACTIVATE 14, 15, 21; INTERROGATE 15; ACCEPT 14, 19, 20, and 18 for a move; DIVERT and REJECT 14, 19, 20
+-- after the type: ACTIVATE 14, 15, 21; DEACTIVATE 14, 15; INTERROGATE 15; ACCEPT 14, 19, 20, and 18 for a move; DIVERT and REJECT 14, 19, 20
 abbrev pub typeOrder : Desk → List Record → ℕ → ℕ → ℕ → Value → List Ground
 typeOrder d rows n room post v =
     cond (eqb (v .pdu) 2) (shortArea room ∷ badRecords d rows n ∷ dispatchersGiven d v ∷ [])
+    (cond (eqb (v .pdu) 4) (shortArea room ∷ badRecords d rows n ∷ [])
     (cond (eqb (v .pdu) 8) (badRecords d rows n ∷ [])
     (cond (eqb (v .pdu) 12)
     (shortArea room ∷ notWaiting d (identifierIn v) ∷ waitsElsewhere d post (identifierIn v) ∷ noPlaceThere d (placeOf (placesOf d) (identifierIn v) .place))
     (cond (eqb (v .pdu) 15) (shortArea room ∷ notWaiting d (identifierIn v) ∷ waitsElsewhere d post (identifierIn v) ∷ [])
-    (cond (eqb (v .pdu) 17) (shortArea room ∷ notWaiting d (identifierIn v) ∷ waitsElsewhere d post (identifierIn v) ∷ []) []))))
+    (cond (eqb (v .pdu) 17) (shortArea room ∷ notWaiting d (identifierIn v) ∷ waitsElsewhere d post (identifierIn v) ∷ []) [])))))
 
 -- a post's message: 2, reading, 8, then by its type
 unfoldable pub messageOrder : Desk → List Record → ℕ → List ℕ → ℕ → ℕ → ℕ → List Ground

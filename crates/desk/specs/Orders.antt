@@ -53,7 +53,7 @@ someoneBy kind.FirstLast = true
 unfoldable pub namesDispatchers : Air → Value → Bool
 namesDispatchers air v = both (givenAt 0 v) (someoneBy (meaningIn (air .meanings) (v .dispatchers .range) .kind))
 
--- a request to change marks: 14, 15, and 21 where dispatcher addresses are given
+-- a request to change marks, ACTIVATE or DEACTIVATE: 14, 15, and 21 where dispatcher addresses are given
 unfoldable pub markingAnswer : Desk → List Record → ℕ → ℕ → Bool → Answer
 markingAnswer d rows n room given =
     unless (ltb room 300) 14 (unless (not (recordsOk rows n (postsOf d))) 15 (unless given 21 answer.Acks))
@@ -82,14 +82,15 @@ acceptAnswer d place =
 unfoldable pub decideAnswer : Desk → ℕ → ℕ → ℕ → Answer → Answer
 decideAnswer d room post identifier ended = unless (ltb room 300) 14 (endAnswer d post identifier ended)
 
--- by the type; 8 for those that posts don't send
+-- by the type; 8 for those that posts don't send. DEACTIVATE has no option, so it names no dispatcher
 unfoldable pub sentAnswer : Desk → List Record → ℕ → ℕ → ℕ → Value → Answer
 sentAnswer d rows n room post v =
     cond (eqb (v .pdu) 2) (markingAnswer d rows n room (namesDispatchers (d .profile .air) v))
+    (cond (eqb (v .pdu) 4) (markingAnswer d rows n room false)
     (cond (eqb (v .pdu) 8) (interrogateAnswer d rows n post v)
     (cond (eqb (v .pdu) 12) (decideAnswer d room post (identifierIn v) (acceptAnswer d (placeOf (placesOf d) (identifierIn v) .place)))
     (cond (eqb (v .pdu) 15) (decideAnswer d room post (identifierIn v) answer.Diverted)
-    (cond (eqb (v .pdu) 17) (decideAnswer d room post (identifierIn v) answer.Rejected) (answer.Refused (refusal 8))))))
+    (cond (eqb (v .pdu) 17) (decideAnswer d room post (identifierIn v) answer.Rejected) (answer.Refused (refusal 8)))))))
 
 abbrev pub readAnswer : Read Value → (Value → Answer) → Answer
 readAnswer (got v n) after = after v

@@ -2,6 +2,7 @@
 use Prim.Native.Nat.{ℕ}
 use mathlib.Core.Bool.{Bool, true, false, cond}
 use mathlib.Core.List.{List, [], _∷_}
+use lib.Dec.{eqb}
 use lib.ListN.{take, length}
 use Rattle.codec.specs.Codec.{Read, got, no}
 use Rattle.codec.specs.Stops.{refusal}
@@ -47,10 +48,16 @@ abbrev pub valueBy : Read Value → Value
 valueBy (got v n) = v
 valueBy (no s) = noValue
 
--- what it asks, where it is a request to change marks: of these users, answered by ACKs of this type, that their mark becomes this. ACTIVATE
--- sets the mark and gets ACTIVATE ACKs
+-- a request to change marks: ACTIVATE is answered by ACTIVATE ACKs and sets the mark, DEACTIVATE by DEACTIVATE ACKs and clears it
+unfoldable pub ackFor : ℕ → ℕ
+ackFor t = cond (eqb t 2) 3 5
+
+unfoldable pub setsMark : ℕ → Bool
+setsMark t = eqb t 2
+
+-- what such a message asks: of these users, by ACKs of this type, that their mark becomes this
 abbrev pub askedIn : Value → Asked
-askedIn v = record { users = v .users; ack = 3; mark = true }
+askedIn v = record { users = v .users; ack = ackFor (v .pdu); mark = setsMark (v .pdu) }
 
 -- what an event asks
 abbrev pub askedOf : Profile → List ℕ → Event → Asked

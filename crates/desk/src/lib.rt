@@ -1,9 +1,9 @@
 // The call desk of one network (document 01, "User records and waiting calls"): what each call is answered and does, by value.
 //
 // `step` takes the desk, the records and an event, and answers the step: the answer, the messages laid in the output area, the desk
-// afterwards and the records whose mark is set. It equals `stepOf`, and the area afterwards `areaAfter`, for every input (specs/Orders
+// afterwards and the records whose mark changes. It equals `stepOf`, and the area afterwards `areaAfter`, for every input (specs/Orders
 // has each call's order of refusals, specs/Steps what follows from an answer). The files: ending (how a waiting call ends), setup,
-// posted (a post's message by its type), marking (ACTIVATE).
+// posted (a post's message by its type), marking (ACTIVATE and DEACTIVATE).
 ghost use mathlib.Core.Path.{_≡_};
 ghost use Rattle.places.specs.Held.{noPlaces};
 ghost use Rattle.desk.specs.Desks.{openOf, deskOk};

@@ -1,4 +1,4 @@
-// A request to change marks: ACTIVATE.
+// A request to change marks: ACTIVATE, DEACTIVATE.
 ghost use mathlib.Core.Path.{_≡_};
 ghost use mathlib.Core.Bool.{true, false};
 ghost use Prim.Native.Nat.{_≤_};
@@ -59,10 +59,17 @@ fn asked_in(value: Value) -> Asked
     ensures { λ r. ⌜ r ≡ askedIn value ⌝ }
 {
     let users = value.users;
+    if value.pdu == 2 {
+        return Asked {
+            users: users,
+            ack: 3,
+            mark: true,
+        };
+    }
     Asked {
         users: users,
-        ack: 3,
-        mark: true,
+        ack: 5,
+        mark: false,
     }
 }
 

@@ -63,6 +63,9 @@ fn sent(
         let given = marking::names_dispatchers(air, value);
         return marking::change(desk, rows, count, post, value, given, out);
     }
+    if pdu == 4 {
+        return marking::change(desk, rows, count, post, value, false, out);
+    }
     if pdu == 8 {
         return interrogate(desk, rows, count, post, value);
     }

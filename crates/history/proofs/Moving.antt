@@ -77,12 +77,12 @@ count-none test h (x ∷ w) = let z : one (test x) ≡ 0 = ap one (h x) in omega
 pub sent-accept : (d : Desk) (c : Call) (room post : ℕ) (v : Value) → v .pdu ≡ 12
     → sentAnswer d (c .rows) (c .count) room post v ≡ decideAnswer d room post (identifierIn v) (acceptAnswer d (placeOf (placesOf d) (identifierIn v) .place))
 unfolding sentAnswer
-sent-accept d c room post v e = rw (ap (λ (k : ℕ). eqb k 2) e, ap (λ (k : ℕ). eqb k 8) e, ap (λ (k : ℕ). eqb k 12) e) refl
+sent-accept d c room post v e = rw (ap (λ (k : ℕ). eqb k 2) e, ap (λ (k : ℕ). eqb k 4) e, ap (λ (k : ℕ). eqb k 8) e, ap (λ (k : ℕ). eqb k 12) e) refl
 
 pub sent-divert : (d : Desk) (c : Call) (room post : ℕ) (v : Value) → v .pdu ≡ 15
     → sentAnswer d (c .rows) (c .count) room post v ≡ decideAnswer d room post (identifierIn v) answer.Diverted
 unfolding sentAnswer
-sent-divert d c room post v e = rw (ap (λ (k : ℕ). eqb k 2) e, ap (λ (k : ℕ). eqb k 8) e, ap (λ (k : ℕ). eqb k 12) e, ap (λ (k : ℕ). eqb k 15) e) refl
+sent-divert d c room post v e = rw (ap (λ (k : ℕ). eqb k 2) e, ap (λ (k : ℕ). eqb k 4) e, ap (λ (k : ℕ). eqb k 8) e, ap (λ (k : ℕ). eqb k 12) e, ap (λ (k : ℕ). eqb k 15) e) refl
 
 module _ (d : Desk) (room post identifier : ℕ) (a : Answer) (roomy : 300 ≤ room) where
   pub decide-19 : waits d identifier ≡ false → decideAnswer d room post identifier a ≡ answer.Refused (refusal 19)
