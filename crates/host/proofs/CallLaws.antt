@@ -20,9 +20,14 @@ use Rattle.desk.specs.declared.Event.{Event}
 use Rattle.desk.specs.declared.marking.Asked.{Asked}
 use Rattle.desk.proofs.Marked.{marked-exactly, marked-to}
 use Rattle.desk.proofs.Outputs.{unfilled-stays, sent-read}
+use Rattle.desk.proofs.Requests.{acks-stay}
 use Rattle.host.specs.Lending.{loadedOf, markAs, stepOn, Called}
 use Rattle.host.specs.declared.Told.{Told}
 use Rattle.host.proofs.HostLaws.{loaded-lent, marked-at}
+
+-- record i, one of the first 128, is the accepted record of one of the identities that a call names
+abbrev pub acceptedIn : Desk → List Record → List ℕ → Event → ℕ → Bool
+acceptedIn d rows l e i = both (ltb i 128) (wanted (take 128 rows) (postOf e) (identitiesOf (d .profile .air) (askedOf (d .profile) l e .users)) i)
 
 module _ (d : Desk) (rows : List Record) (l area : List ℕ) (e : Event) (t : Told) (d₁ : Desk) (rows₁ : List Record) (area₁ : List ℕ) (c : Called d rows l area e t d₁ rows₁ area₁) where
   laid-is : t .laid ≡ stepOn d rows l area e .laid
@@ -40,16 +45,16 @@ module _ (d : Desk) (rows : List Record) (l area : List ℕ) (e : Event) (t : To
       subst (λ (x : Laid). ReadBack (d .profile) x area₁ 0 (sentBy d (loadedOf rows) (length rows) l (length area) e)) (sym laid-is)
       (subst (λ (m : List ℕ). ReadBack (d .profile) (stepOn d rows l area e .laid) m 0 (sentBy d (loadedOf rows) (length rows) l (length area) e)) (sym (c .output)) (sent-read d (loadedOf rows) (length rows) l area e))
 
-  -- the identities that it names, and the records of theirs that are accepted, among the first 128
+  -- the waiting calls stay where a request is carried out
+  pub call-stays : isAcks (t .answer) ≡ true → d₁ ≡ d
+  call-stays h = c .desk ∙ acks-stay d (loadedOf rows) (length rows) l area e (sym (ap (λ (x : Told). isAcks (x .answer)) (c .told)) ∙ h)
+
   abbrev asked : Asked
   asked = askedOf (d .profile) l e
 
-  abbrev accepted : ℕ → Bool
-  accepted i = both (ltb i 128) (wanted (take 128 rows) (postOf e) (identitiesOf (d .profile .air) (asked .users)) i)
-
   -- record i is the one at entry, with its mark as the call asks exactly if the call is a request that was carried out and i is the accepted
   -- record of one of the identities that it names
-  pub call-marks : (i : ℕ) → i < length rows → rowOf rows₁ i ≡ cond (both (isAcks (t .answer)) (accepted i)) (markAs (asked .mark) (rowOf rows i)) (rowOf rows i)
+  pub call-marks : (i : ℕ) → i < length rows → rowOf rows₁ i ≡ cond (both (isAcks (t .answer)) (acceptedIn d rows l e i)) (markAs (askedOf (d .profile) l e .mark) (rowOf rows i)) (rowOf rows i)
   unfolding both
   call-marks i h =
       marked-at d rows l area e t d₁ rows₁ area₁ c i h
@@ -66,7 +71,8 @@ module _ (d : Desk) (rows : List Record) (l area : List ℕ) (e : Event) (t : To
       named a rs = both (isAcks a) (both (ltb i 128) (wanted rs (postOf e) (identitiesOf (d .profile .air) (asked .users)) i))
 
       go : (b : Bool) → isAcks (t .answer) ≡ b
-          → cond (both b (accepted i)) (markAs (stepOn d rows l area e .marks .mark) (rowOf rows i)) (rowOf rows i) ≡ cond (both b (accepted i)) (markAs (asked .mark) (rowOf rows i)) (rowOf rows i)
+          → cond (both b (acceptedIn d rows l e i)) (markAs (stepOn d rows l area e .marks .mark) (rowOf rows i)) (rowOf rows i)
+          ≡ cond (both b (acceptedIn d rows l e i)) (markAs (asked .mark) (rowOf rows i)) (rowOf rows i)
       go true z =
-          ap (λ (m : Bool). cond (accepted i) (markAs m (rowOf rows i)) (rowOf rows i)) (marked-to d (loadedOf rows) (length rows) l area e (sym (ap isAcks answer-is) ∙ z))
+          ap (λ (m : Bool). cond (acceptedIn d rows l e i) (markAs m (rowOf rows i)) (rowOf rows i)) (marked-to d (loadedOf rows) (length rows) l area e (sym (ap isAcks answer-is) ∙ z))
       go false z = refl

@@ -4,3 +4,4 @@ pub mod Again
 pub mod Shared
 pub mod HostLaws
 pub mod CallLaws
+pub mod Releases

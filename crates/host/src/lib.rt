@@ -1,5 +1,5 @@
 // One call of the host on what it lends (document 01, "User records and waiting calls"): the desk, the user records, the message and the
-// output area. Nothing is decided here. The records are loaded, desk's `step` is taken by value, the desk is stored and the marks are set.
+// output area. Nothing is decided here. The records are loaded, desk's `step` is taken by value, the desk is stored and the marks are written.
 //
 // The functions on lent records or a lent desk (`set_mark`, `set_marks`, `load`, `call`) are proved by walks, the others as everywhere.
 ghost use mathlib.Core.Path.{_≡_};

@@ -1,4 +1,4 @@
--- The outcomes of ACTIVATE, and the masks of its ACKs: document 01, "User records and waiting calls".
+-- The outcomes of ACTIVATE and DEACTIVATE, and the masks of their ACKs: document 01, "User records and waiting calls".
 use Prim.Native.Nat.{ℕ}
 use mathlib.Core.Bool.{Bool, false, cond, _||_}
 use mathlib.Core.List.{List, [], _∷_, map}

@@ -1,4 +1,4 @@
-// The outcomes of ACTIVATE, one for each identity of its group, and their masks.
+// The outcomes of ACTIVATE or DEACTIVATE, one for each identity of its group, and their masks.
 ghost use mathlib.Core.Path.{_≡_};
 ghost use lib.ListN.{take};
 ghost use Rattle.profile.specs.Counting.{one};
