@@ -5,6 +5,7 @@ use message::Address;
 use message::Group;
 use message::Value;
 
+mod deactivations;
 mod show;
 
 fn main() {
@@ -21,6 +22,7 @@ fn main() {
     requests_not_valid();
     options_not_valid();
     endings_not_valid();
+    deactivations::rows();
 }
 
 // ---- the rows
@@ -33,11 +35,15 @@ fn activates() {
 }
 
 fn acks() {
-    show::row(5, ack(four(), true, 0xC000_0000_0000_0000, 1, 0), 48);
-    show::row(6, ack(four(), true, 0x2000_0000_0000_0000, 0, 1), 48);
-    show::row(7, ack(four(), false, 0, 1, 0), 48);
-    show::row(8, ack(twice_and_one(), false, 0, 0, 127), 48);
-    show::row(9, ack(sixty_four(), true, 0xAAAA_AAAA_AAAA_AAAA, 0, 2), 48);
+    show::row(5, ack(3, four(), true, 0xC000_0000_0000_0000, 1, 0), 48);
+    show::row(6, ack(3, four(), true, 0x2000_0000_0000_0000, 0, 1), 48);
+    show::row(7, ack(3, four(), false, 0, 1, 0), 48);
+    show::row(8, ack(3, twice_and_one(), false, 0, 0, 127), 48);
+    show::row(
+        9,
+        ack(3, sixty_four(), true, 0xAAAA_AAAA_AAAA_AAAA, 0, 2),
+        48,
+    );
 }
 
 fn calls() {
@@ -61,11 +67,11 @@ fn sizes() {
 }
 
 fn acks_not_valid() {
-    show::row(24, ack(four(), true, 0xC800_0000_0000_0000, 1, 0), 12);
-    show::row(25, ack(four(), false, 0x8000_0000_0000_0000, 1, 0), 12);
+    show::row(24, ack(3, four(), true, 0xC800_0000_0000_0000, 1, 0), 12);
+    show::row(25, ack(3, four(), false, 0x8000_0000_0000_0000, 1, 0), 12);
     show::row(26, interrogate(address(1, 1001, 77)), 12);
     show::row(27, one_too_many(), 12);
-    show::row(28, ack(four(), false, 0, 1, 1), 12);
+    show::row(28, ack(3, four(), false, 0, 1, 1), 12);
 }
 
 fn activates_not_valid() {
@@ -250,8 +256,9 @@ fn activate(users: Group, option: bool, dispatchers: Group) -> Value {
     given(message::with_dispatchers(value, dispatchers), option)
 }
 
-fn ack(users: Group, masked: bool, mask: u64, result: u8, reason: u8) -> Value {
-    let value = message::with_users(message::blank(3), users);
+// ACTIVATE ACK or DEACTIVATE ACK.
+fn ack(pdu: u8, users: Group, masked: bool, mask: u64, result: u8, reason: u8) -> Value {
+    let value = message::with_users(message::blank(pdu), users);
     message::with_result(
         message::with_mask(value, masked, mask),
         result as u32,

@@ -98,6 +98,12 @@ fn say_name(pdu: u8) {
     if pdu == 3 {
         io::write_all(1, b"ACTIVATE ACK");
     }
+    if pdu == 4 {
+        io::write_all(1, b"DEACTIVATE");
+    }
+    if pdu == 5 {
+        io::write_all(1, b"DEACTIVATE ACK");
+    }
     if pdu == 8 {
         io::write_all(1, b"INTERROGATE");
     }
