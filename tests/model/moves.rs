@@ -1,6 +1,8 @@
 //! How often each thing that can befall a call of two posts came in a script, run on the model.
 //! It also says whether every one of them came at least once.
 
+mod events;
+
 use crate::desk::{posts_asked, restricted, Desk};
 use crate::event::print_events;
 use crate::line::lines_of;
@@ -12,142 +14,9 @@ use crate::profile::PLACES;
 use crate::records::Identity;
 use crate::replay::Replay;
 use crate::script::{read_script_line, Line};
+use events::{Event, EVENTS};
 use std::collections::BTreeSet;
 use std::io::{self, Write};
-
-#[derive(Clone, Copy)]
-enum Event {
-    Move,
-    MoveBelowCeiling,
-    MoveBelowReserveFull,
-    RefusedByCeiling,
-    RefusedByOwed,
-    FirstTooLate,
-    MovedAccepted,
-    MovedDiverted,
-    MovedRejected,
-    MovedCancelled,
-    PlaceAgain,
-    OwnSecond,
-    RecordsNameAnother,
-    Refused14,
-    RecordsNameNone,
-    TwoPosts,
-    OnePost,
-    SecondTooEarly,
-    EndedBeforeMove,
-    MoveBelowReserveOwed,
-    MoveByOwnPlace,
-    MoveFull,
-    MoveOwesFirst,
-    OwnSecondAtCeiling,
-    RefusedTwice,
-    RefusedThenMoved,
-    RefusedThenEnded,
-    FirstTooLateToEnd,
-    MovedAgain,
-    IdentifierAgain,
-    SecondNotThere,
-    NamedWhileFree,
-}
-
-const EVENTS: [(Event, &str); 32] = [
-    (Event::Move, "a move"),
-    (
-        Event::MoveBelowCeiling,
-        "a move to another post that is one below its ceiling",
-    ),
-    (
-        Event::MoveBelowReserveFull,
-        "a move to a post below its reserved number when no place is free but this one",
-    ),
-    (Event::RefusedByCeiling, "18 at a move by the ceiling"),
-    (
-        Event::RefusedByOwed,
-        "18 at a move by what is owed to the others",
-    ),
-    (
-        Event::FirstTooLate,
-        "20 for the first post's ACCEPT after the move",
-    ),
-    (Event::MovedAccepted, "a moved call accepted"),
-    (Event::MovedDiverted, "a moved call diverted"),
-    (Event::MovedRejected, "a moved call rejected"),
-    (Event::MovedCancelled, "a moved call cancelled"),
-    (Event::PlaceAgain, "a place of a moved call used again"),
-    (
-        Event::OwnSecond,
-        "an ACCEPT of a call whose second post is its own",
-    ),
-    (
-        Event::RecordsNameAnother,
-        "a move after the records changed, so that they name another second post",
-    ),
-    (Event::Refused14, "14 at a move"),
-    (
-        Event::RecordsNameNone,
-        "a move after the records changed, so that they name no second post",
-    ),
-    (Event::TwoPosts, "an admission with a second post"),
-    (
-        Event::OnePost,
-        "an admission of two restricted parties of one post",
-    ),
-    (
-        Event::SecondTooEarly,
-        "20 for the second post's ACCEPT before the move",
-    ),
-    (
-        Event::EndedBeforeMove,
-        "a call with a second post diverted, rejected or cancelled before it moved",
-    ),
-    (
-        Event::MoveBelowReserveOwed,
-        "a move to another post below its reserved number when all that is free is owed",
-    ),
-    (
-        Event::MoveByOwnPlace,
-        "a move that would be 18 if the call's own place weren't taken as free",
-    ),
-    (Event::MoveFull, "a move when no place is free but this one"),
-    (
-        Event::MoveOwesFirst,
-        "a move after which more is owed to the first post",
-    ),
-    (
-        Event::OwnSecondAtCeiling,
-        "a move to its own post when that is at its ceiling",
-    ),
-    (Event::RefusedTwice, "18 at a move of one call again"),
-    (
-        Event::RefusedThenMoved,
-        "a move of a call that had got 18 before",
-    ),
-    (
-        Event::RefusedThenEnded,
-        "a call diverted, rejected or cancelled where it stayed after 18",
-    ),
-    (
-        Event::FirstTooLateToEnd,
-        "20 for the first post's DIVERT, REJECT or reject after the move",
-    ),
-    (
-        Event::MovedAgain,
-        "a move of a moved call that was given a second post again",
-    ),
-    (
-        Event::IdentifierAgain,
-        "the identifier of a moved call used again",
-    ),
-    (
-        Event::SecondNotThere,
-        "1 by a second post that isn't there and nothing else",
-    ),
-    (
-        Event::NamedWhileFree,
-        "a call in a place that was given a second post while it was free",
-    ),
-];
 
 /// Prints the counts; false if something never came.
 pub fn count_moves(script: &[u8], out: &mut dyn Write) -> io::Result<bool> {

@@ -1,0 +1,38 @@
+//! What can befall a call of two posts, each in words; `moves` counts them.
+
+use crate::event::events;
+
+events! {
+    Move: "a move",
+    MoveBelowCeiling: "a move to another post that is one below its ceiling",
+    MoveBelowReserveFull: "a move to a post below its reserved number when no place is free but this one",
+    RefusedByCeiling: "18 at a move by the ceiling",
+    RefusedByOwed: "18 at a move by what is owed to the others",
+    FirstTooLate: "20 for the first post's ACCEPT after the move",
+    MovedAccepted: "a moved call accepted",
+    MovedDiverted: "a moved call diverted",
+    MovedRejected: "a moved call rejected",
+    MovedCancelled: "a moved call cancelled",
+    PlaceAgain: "a place of a moved call used again",
+    OwnSecond: "an ACCEPT of a call whose second post is its own",
+    RecordsNameAnother: "a move after the records changed, so that they name another second post",
+    Refused14: "14 at a move",
+    RecordsNameNone: "a move after the records changed, so that they name no second post",
+    TwoPosts: "an admission with a second post",
+    OnePost: "an admission of two restricted parties of one post",
+    SecondTooEarly: "20 for the second post's ACCEPT before the move",
+    EndedBeforeMove: "a call with a second post diverted, rejected or cancelled before it moved",
+    MoveBelowReserveOwed: "a move to another post below its reserved number when all that is free is owed",
+    MoveByOwnPlace: "a move that would be 18 if the call's own place weren't taken as free",
+    MoveFull: "a move when no place is free but this one",
+    MoveOwesFirst: "a move after which more is owed to the first post",
+    OwnSecondAtCeiling: "a move to its own post when that is at its ceiling",
+    RefusedTwice: "18 at a move of one call again",
+    RefusedThenMoved: "a move of a call that had got 18 before",
+    RefusedThenEnded: "a call diverted, rejected or cancelled where it stayed after 18",
+    FirstTooLateToEnd: "20 for the first post's DIVERT, REJECT or reject after the move",
+    MovedAgain: "a move of a moved call that was given a second post again",
+    IdentifierAgain: "the identifier of a moved call used again",
+    SecondNotThere: "1 by a second post that isn't there and nothing else",
+    NamedWhileFree: "a call in a place that was given a second post while it was free",
+}
