@@ -1,14 +1,13 @@
-//! What the counters of a script share: how the things that can come are named and printed, and
-//! the type of a message whose content may be faulty.
+//! What the counters of a script share: how the things that can come are named, and the type of a
+//! message whose content may be faulty.
 
 use crate::bits::Bits;
 use crate::profile::Profile;
-use std::io::{self, Write};
 
 /// Names each thing once: for the enum that is counted by, and for the table that is printed.
 macro_rules! events {
     ($($event:ident: $words:literal,)*) => {
-        #[derive(Clone, Copy)]
+        #[derive(Clone, Copy, PartialEq, Eq, PartialOrd, Ord)]
         pub enum Event {
             $($event),*
         }
@@ -18,19 +17,6 @@ macro_rules! events {
 }
 
 pub(crate) use events;
-
-/// Prints how often each thing came; false if one never did.
-pub fn print_events<'a>(
-    events: impl Iterator<Item = (u64, &'a str)>,
-    out: &mut dyn Write,
-) -> io::Result<bool> {
-    let mut complete = true;
-    for (times, words) in events {
-        writeln!(out, "{times:9} {words}")?;
-        complete &= times > 0;
-    }
-    Ok(complete)
-}
 
 /// The SS type and the PDU type of a message whose header is whole.
 pub fn header_of(bytes: &[u8], length: usize) -> Option<(u32, u32)> {

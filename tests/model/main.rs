@@ -5,6 +5,7 @@ mod ack;
 mod activate;
 mod bits;
 mod count;
+mod counter;
 mod crossing;
 mod deactivations;
 mod desk;

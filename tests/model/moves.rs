@@ -3,31 +3,19 @@
 
 mod events;
 
+use crate::counter::{count_script, Counter, Step};
 use crate::desk::{posts_asked, restricted, Desk};
-use crate::event::print_events;
-use crate::line::lines_of;
 use crate::message::{read, Message};
-use crate::places::{
-    admits, all_owed, free, held, owed, place_of, places_keep_rules, without, Call, Places,
-};
-use crate::profile::PLACES;
+use crate::places::{admits, all_owed, free, held, owed, places_keep_rules, without, Call, Places};
 use crate::records::Identity;
-use crate::replay::Replay;
-use crate::script::{read_script_line, Line};
+use crate::script::Line;
 use events::{Event, EVENTS};
 use std::collections::BTreeSet;
 use std::io::{self, Write};
 
 /// Prints the counts; false if something never came.
 pub fn count_moves(script: &[u8], out: &mut dyn Write) -> io::Result<bool> {
-    let mut watch = Watch::new();
-    for line in lines_of(script) {
-        watch.run(line);
-    }
-    let counted = EVENTS
-        .iter()
-        .map(|(event, words)| (watch.counts[*event as usize], *words));
-    print_events(counted, out)
+    count_script(EVENTS, Watch::look, script, out)
 }
 
 /// What the desk doesn't keep of the call in a place, or of what was there before.
@@ -53,68 +41,43 @@ enum Asking {
     Cancel,
 }
 
-struct Watch {
-    replay: Replay,
-    pasts: [Past; PLACES as usize],
+#[derive(Default)]
+struct Kept {
     /// Identifiers of moved calls that have ended, each until it is used again.
     ended: BTreeSet<u32>,
-    counts: [u64; EVENTS.len()],
 }
 
+type Watch = Counter<Event, Past, Kept>;
+
 impl Watch {
-    fn new() -> Self {
-        Watch {
-            replay: Replay::new(),
-            pasts: [Past::default(); PLACES as usize],
-            ended: BTreeSet::new(),
-            counts: [0; EVENTS.len()],
-        }
-    }
-
-    fn count(&mut self, event: Event) {
-        self.counts[event as usize] += 1;
-    }
-
-    fn count_if(&mut self, came: bool, event: Event) {
-        if came {
-            self.count(event);
-        }
-    }
-
-    fn run(&mut self, line: &[u8]) {
-        let before = self.replay.desk.clone();
-        let answer = self.replay.run(line).unwrap_or_default();
-        match read_script_line(line) {
-            Some(Line::Profile(_)) if answer.is_empty() => {
-                self.pasts = [Past::default(); PLACES as usize];
-                self.ended.clear();
-            }
-            Some(Line::Place { place, .. }) => self.used(place, Past::default()),
-            Some(Line::Unplace { place }) if before.places[place].is_some() => {
+    fn look(&mut self, line: Line, step: Step) {
+        let before = &step.before.desk;
+        match line {
+            Line::Profile(_) if step.answer.is_empty() => self.kept.ended.clear(),
+            Line::Place { place, .. } => self.used(place, Past::default()),
+            Line::Unplace { place } if before.places[place].is_some() => {
                 self.pasts[place] = Past::default();
             }
-            Some(Line::Second { place, .. }) => self.named(&before, place),
-            Some(Line::SetUp {
+            Line::Second { place, .. } => self.named(before, place),
+            Line::SetUp {
                 caller,
                 called,
                 identifier,
                 ..
-            }) => self.set_up(caller, called, identifier, &answer),
-            Some(Line::Reject { post, identifier }) => {
-                self.asked(&before, Asking::Reject(post), identifier, &answer);
+            } => self.set_up(step, caller, called, identifier),
+            Line::Reject { post, identifier } => {
+                self.asked(step, Asking::Reject(post), identifier);
             }
-            Some(Line::Cancel { identifier }) => {
-                self.asked(&before, Asking::Cancel, identifier, &answer);
-            }
-            Some(Line::Post { post, bits, bytes }) => match read(&before.profile, &bytes, bits) {
+            Line::Cancel { identifier } => self.asked(step, Asking::Cancel, identifier),
+            Line::Post { post, bits, bytes } => match read(&before.profile, &bytes, bits) {
                 Ok(Message::Accept { identifier }) => {
-                    self.asked(&before, Asking::Accept(post), identifier, &answer);
+                    self.asked(step, Asking::Accept(post), identifier);
                 }
                 Ok(Message::Divert { identifier }) => {
-                    self.asked(&before, Asking::Divert(post), identifier, &answer);
+                    self.asked(step, Asking::Divert(post), identifier);
                 }
                 Ok(Message::Reject { identifier, .. }) => {
-                    self.asked(&before, Asking::Reject(post), identifier, &answer);
+                    self.asked(step, Asking::Reject(post), identifier);
                 }
                 _ => {}
             },
@@ -139,16 +102,15 @@ impl Watch {
         }
     }
 
-    fn set_up(&mut self, caller: Identity, called: Identity, identifier: u32, answer: &str) {
-        if !answer.starts_with("admitted") {
+    fn set_up(&mut self, step: Step, caller: Identity, called: Identity, identifier: u32) {
+        if !step.answer.starts_with("admitted") {
             return;
         }
-        let places = &self.replay.desk.places;
-        let place = place_of(places, identifier).expect("an admitted call waits");
-        let has_second = places[place].map_or(false, |call| call.second.is_some());
+        let (place, call) = step.admitted(identifier);
+        let has_second = call.second.is_some();
         let both_restricted = [caller, called]
             .iter()
-            .all(|party| restricted(&self.replay.records, *party).is_some());
+            .all(|party| restricted(&step.after.records, *party).is_some());
 
         self.count_if(has_second, Event::TwoPosts);
         self.count_if(
@@ -156,7 +118,7 @@ impl Watch {
             Event::OnePost,
         );
         self.count_if(self.pasts[place].ended, Event::PlaceAgain);
-        let again = self.ended.remove(&identifier);
+        let again = self.kept.ended.remove(&identifier);
         self.count_if(again, Event::IdentifierAgain);
         let past = Past {
             parties: if has_second {
@@ -169,20 +131,23 @@ impl Watch {
         self.used(place, past);
     }
 
-    fn asked(&mut self, before: &Desk, asking: Asking, identifier: u32, answer: &str) {
+    fn asked(&mut self, step: Step, asking: Asking, identifier: u32) {
+        let answer = step.answer;
         if answer == "refused 1" {
-            self.count_if(only_seconds_damage(before), Event::SecondNotThere);
+            self.count_if(
+                only_seconds_damage(&step.before.desk),
+                Event::SecondNotThere,
+            );
             return;
         }
-        let place = match place_of(&before.places, identifier) {
-            Some(place) => place,
+        let (place, call) = match step.waiting(identifier) {
+            Some(waiting) => waiting,
             None => return,
         };
-        let call = before.places[place].expect("a call waits there");
         let past = self.pasts[place];
         match (asking, answer.split(' ').next(), call.second) {
             (Asking::Accept(_), Some("moved"), Some(second)) => {
-                self.moved(before, place, call, second);
+                self.moved(step, place, call, second);
             }
             (_, Some("proceed" | "diverted" | "rejected" | "cancelled"), _) => {
                 self.ended(place, call, answer);
@@ -195,7 +160,7 @@ impl Watch {
                 self.count_if(past.left == Some(post), Event::FirstTooLateToEnd);
             }
             (Asking::Accept(_), _, Some(second)) if answer == "refused 18" => {
-                self.refused(before, place, second);
+                self.refused(&step.before.desk, place, second);
             }
             (Asking::Accept(post), _, Some(_)) if answer == "refused 14" => {
                 self.count_if(post == call.post, Event::Refused14);
@@ -204,7 +169,8 @@ impl Watch {
         }
     }
 
-    fn moved(&mut self, before: &Desk, place: usize, call: Call, second: u32) {
+    fn moved(&mut self, step: Step, place: usize, call: Call, second: u32) {
+        let before = &step.before.desk;
         let profile = &before.profile;
         let rest = without(&before.places, place);
         let share = &profile.posts[second as usize];
@@ -232,7 +198,7 @@ impl Watch {
         );
         self.count_if(no_other_free, Event::MoveFull);
         self.count_if(
-            owed_to_first(&self.replay.desk.places) > owed_to_first(&before.places),
+            owed_to_first(&step.after.desk.places) > owed_to_first(&before.places),
             Event::MoveOwesFirst,
         );
         self.count_if(own, Event::OwnSecond);
@@ -243,7 +209,7 @@ impl Watch {
         self.count_if(past.got_18, Event::RefusedThenMoved);
         self.count_if(past.left.is_some(), Event::MovedAgain);
         if let Some((caller, called)) = past.parties {
-            match posts_asked(&self.replay.records, caller, called) {
+            match posts_asked(&step.after.records, caller, called) {
                 Some((_, Some(now))) => self.count_if(now != second, Event::RecordsNameAnother),
                 _ => self.count(Event::RecordsNameNone),
             }
@@ -276,7 +242,7 @@ impl Watch {
                 Some("rejected") => Event::MovedRejected,
                 _ => Event::MovedCancelled,
             });
-            self.ended.insert(call.identifier);
+            self.kept.ended.insert(call.identifier);
         }
         self.count_if(!moved && call.second.is_some(), Event::EndedBeforeMove);
         self.count_if(past.got_18, Event::RefusedThenEnded);

@@ -12,6 +12,7 @@ use crate::script::{read_script_line, Line, MOST_OUTPUT};
 use std::io::{self, Write};
 
 /// The desk and what is lent to it from line to line.
+#[derive(Clone)]
 pub struct Replay {
     pub desk: Desk,
     pub records: Vec<Record>,

@@ -5,27 +5,17 @@
 mod events;
 mod posts;
 
+use crate::counter::{count_script, Counter, Step};
 use crate::desk::Desk;
-use crate::event::print_events;
-use crate::line::lines_of;
-use crate::places::{place_of, places_keep_rules, Call};
-use crate::profile::PLACES;
+use crate::places::{places_keep_rules, Call};
 use crate::records::Identity;
-use crate::replay::Replay;
-use crate::script::{read_script_line, Line, MOST_OUTPUT};
+use crate::script::Line;
 use events::{Event, EVENTS};
 use std::io::{self, Write};
 
 /// Prints the counts; false if something never came.
 pub fn count_requests(script: &[u8], out: &mut dyn Write) -> io::Result<bool> {
-    let mut watch = Watch::new();
-    for line in lines_of(script) {
-        watch.run(line);
-    }
-    let counted = EVENTS
-        .iter()
-        .map(|(event, words)| (watch.counts[*event as usize], *words));
-    print_events(counted, out)
+    count_script(EVENTS, Watch::look, script, out)
 }
 
 /// What the desk doesn't keep of the call in a place, or of what was there before.
@@ -42,101 +32,35 @@ struct Past {
     named: bool,
 }
 
-/// The desk and the output area as a line found them.
-struct Before {
-    desk: Desk,
-    output_bytes: usize,
-}
-
-impl Before {
-    fn output_is_short(&self) -> bool {
-        self.output_bytes < MOST_OUTPUT
-    }
-
-    /// One byte short is what tells the bound.
-    fn output_is_one_short(&self) -> bool {
-        self.output_bytes == MOST_OUTPUT - 1
-    }
-
-    fn waiting(&self, identifier: u32) -> Option<(usize, Call)> {
-        let place = place_of(&self.desk.places, identifier)?;
-        Some((place, self.desk.places[place]?))
-    }
-
-    /// Whether the desk isn't sound and would be if every call had a cause of 0.
-    fn only_causes_damage(&self) -> bool {
-        let Desk { profile, places } = &self.desk;
-        let mut mended = *places;
-        for call in mended.iter_mut().flatten() {
-            call.cause = 0;
-        }
-        !places_keep_rules(profile, places) && places_keep_rules(profile, &mended)
-    }
-}
-
-struct Watch {
-    replay: Replay,
-    pasts: [Past; PLACES as usize],
-    counts: [u64; EVENTS.len()],
-}
+type Watch = Counter<Event, Past, ()>;
 
 impl Watch {
-    fn new() -> Self {
-        Watch {
-            replay: Replay::new(),
-            pasts: [Past::default(); PLACES as usize],
-            counts: [0; EVENTS.len()],
-        }
-    }
-
-    fn count(&mut self, event: Event) {
-        self.counts[event as usize] += 1;
-    }
-
-    fn count_if(&mut self, came: bool, event: Event) {
-        if came {
-            self.count(event);
-        }
-    }
-
-    fn run(&mut self, line: &[u8]) {
-        let before = Before {
-            desk: self.replay.desk.clone(),
-            output_bytes: self.replay.output_bytes,
-        };
-        let answer = self.replay.run(line).unwrap_or_default();
-        match read_script_line(line) {
-            Some(Line::Profile(_)) if answer.is_empty() => {
-                self.pasts = [Past::default(); PLACES as usize];
-            }
-            Some(Line::Place { place, .. }) => {
-                let there = before.desk.places[place];
+    fn look(&mut self, line: Line, step: Step) {
+        let before = &step.before.desk;
+        match line {
+            Line::Place { place, .. } => {
+                let there = before.places[place];
                 let had_cause = there.map_or(false, |call| call.cause != 0);
                 self.count_if(had_cause, Event::PutAnew);
                 self.used(place);
             }
-            Some(Line::Unplace { place }) if before.desk.places[place].is_some() => {
+            Line::Unplace { place } if before.places[place].is_some() => {
                 self.pasts[place] = Past::default();
             }
-            Some(Line::Cause { place, cause }) => self.given(&before, place, cause),
-            Some(Line::Dump) => self.dumped(&before.desk),
-            Some(Line::SetUp {
+            Line::Cause { place, cause } => self.given(before, place, cause),
+            Line::Dump => self.dumped(before),
+            Line::SetUp {
                 caller,
                 called,
                 identifier,
                 cause,
-            }) => {
-                let with_cause = line.split(|byte| *byte == b' ').count() == 7;
+            } => {
                 let parties_fit = [caller, called].iter().all(party_fits);
-                self.set_up(&before, parties_fit, identifier, cause, with_cause, &answer);
+                self.set_up(step, parties_fit, identifier, cause);
             }
-            Some(Line::Reject { post, identifier }) => {
-                self.plain_reject(&before, post, identifier, &answer);
-            }
-            Some(Line::Cancel { identifier }) => self.cancel(&before, identifier, &answer),
-            Some(Line::Post { post, bits, bytes }) => {
-                self.message(&before, post, &bytes, bits, &answer);
-            }
+            Line::Reject { post, identifier } => self.plain_reject(step, post, identifier),
+            Line::Cancel { identifier } => self.cancel(step, identifier),
+            Line::Post { post, bits, bytes } => self.message(step, post, &bytes, bits),
             _ => {}
         }
     }
@@ -147,8 +71,8 @@ impl Watch {
         self.pasts[place] = Past::default();
     }
 
-    fn given(&mut self, before: &Before, place: usize, cause: u32) {
-        match before.desk.places[place] {
+    fn given(&mut self, before: &Desk, place: usize, cause: u32) {
+        match before.places[place] {
             None => {
                 self.count(Event::CauseOfFree);
                 self.pasts[place].named = true;
@@ -173,36 +97,28 @@ impl Watch {
         }
     }
 
-    fn set_up(
-        &mut self,
-        before: &Before,
-        parties_fit: bool,
-        identifier: u32,
-        cause: u32,
-        with_cause: bool,
-        answer: &str,
-    ) {
+    fn set_up(&mut self, step: Step, parties_fit: bool, identifier: u32, cause: u32) {
         let cause_alone = parties_fit && identifier < 1 << 14 && cause >= 32;
-        match answer {
-            "refused 1" => self.count_if(before.only_causes_damage(), Event::Damage1SetUp),
+        match step.answer {
+            "refused 1" => self.damaged(step, Event::Damage1SetUp),
             "refused 16" if cause_alone => {
                 self.count(Event::SetUp16);
                 self.count_if(cause % 256 < 32, Event::SetUp16LowBitsGood);
-                self.count_if(before.output_is_short(), Event::SetUp16Before14);
+                self.count_if(step.output_was_short(), Event::SetUp16Before14);
             }
             "refused 14" => {
-                self.count_if(cause != 0 && before.output_is_one_short(), Event::SetUp14);
+                self.count_if(cause != 0 && step.output_was_one_short(), Event::SetUp14);
             }
             "free" => self.count_if(cause != 0, Event::FreeWith),
-            _ if answer.starts_with("admitted") => self.admitted(identifier, cause, with_cause),
+            answer if answer.starts_with("admitted") => self.admitted(step, identifier, cause),
             _ => {}
         }
     }
 
-    fn admitted(&mut self, identifier: u32, cause: u32, with_cause: bool) {
-        let places = &self.replay.desk.places;
-        let place = place_of(places, identifier).expect("an admitted call waits");
-        let has_second = places[place].map_or(false, |call| call.second.is_some());
+    fn admitted(&mut self, step: Step, identifier: u32, cause: u32) {
+        let (place, call) = step.admitted(identifier);
+        let has_second = call.second.is_some();
+        let with_cause = step.written.split(|byte| *byte == b' ').count() == 7;
         let last_cause = self.pasts[place].last_cause;
         self.count_if(!with_cause, Event::AdmittedWithout);
         self.count_if(with_cause && cause == 0, Event::AdmittedWith0);
@@ -217,19 +133,18 @@ impl Watch {
         self.used(place);
     }
 
-    fn plain_reject(&mut self, before: &Before, post: u32, identifier: u32, answer: &str) {
+    fn plain_reject(&mut self, step: Step, post: u32, identifier: u32) {
         let too_wide = identifier >= 1 << 14;
-        let short = before.output_is_short();
-        let waiting = before.waiting(identifier);
-        match (answer, waiting) {
-            ("refused 1", _) => self.count_if(before.only_causes_damage(), Event::Damage1Reject),
+        let short = step.output_was_short();
+        match (step.answer, step.waiting(identifier)) {
+            ("refused 1", _) => self.damaged(step, Event::Damage1Reject),
             ("refused 2", _) => self.count_if(too_wide && short, Event::Plain2Before16),
             ("refused 16", _) => self.count_if(short, Event::Plain16Before14),
             ("refused 14", None) => self.count(Event::Plain14Before19),
             ("refused 14", Some((_, call))) if call.post != post => {
                 self.count(Event::Plain14Before20);
             }
-            ("refused 14", _) => self.count_if(before.output_is_one_short(), Event::Plain14),
+            ("refused 14", _) => self.count_if(step.output_was_one_short(), Event::Plain14),
             ("refused 19", _) => self.count(Event::Plain19),
             ("refused 20", _) => self.count(Event::Plain20),
             (_, Some((place, call))) => {
@@ -242,12 +157,12 @@ impl Watch {
         }
     }
 
-    fn cancel(&mut self, before: &Before, identifier: u32, answer: &str) {
-        match (answer, before.waiting(identifier)) {
-            ("refused 1", _) => self.count_if(before.only_causes_damage(), Event::Damage1Cancel),
-            ("refused 16", _) => self.count_if(before.output_is_short(), Event::Cancel16Before14),
+    fn cancel(&mut self, step: Step, identifier: u32) {
+        match (step.answer, step.waiting(identifier)) {
+            ("refused 1", _) => self.damaged(step, Event::Damage1Cancel),
+            ("refused 16", _) => self.count_if(step.output_was_short(), Event::Cancel16Before14),
             ("refused 14", None) => self.count(Event::Cancel14Before19),
-            ("refused 14", _) => self.count_if(before.output_is_one_short(), Event::Cancel14),
+            ("refused 14", _) => self.count_if(step.output_was_one_short(), Event::Cancel14),
             ("refused 19", _) => self.count(Event::Cancel19),
             (_, Some((place, call))) => {
                 let moved = self.pasts[place].left.is_some();
@@ -261,6 +176,11 @@ impl Watch {
         }
     }
 
+    /// A call got 1.
+    fn damaged(&mut self, step: Step, event: Event) {
+        self.count_if(only_causes_damage(&step.before.desk), event);
+    }
+
     fn ended(&mut self, place: usize, call: Call) {
         self.pasts[place] = Past {
             last_cause: Some(call.cause),
@@ -271,4 +191,14 @@ impl Watch {
 
 fn party_fits(party: &Identity) -> bool {
     party.ssi < 1 << 24 && party.extension < 1 << 24
+}
+
+/// Whether the desk isn't sound and would be if every call had a cause of 0.
+fn only_causes_damage(desk: &Desk) -> bool {
+    let Desk { profile, places } = desk;
+    let mut mended = *places;
+    for call in mended.iter_mut().flatten() {
+        call.cause = 0;
+    }
+    !places_keep_rules(profile, places) && places_keep_rules(profile, &mended)
 }

@@ -1,14 +1,15 @@
 //! Calls that wait while a party's mark is cleared, and what is asked of released users, counted.
 
 use super::events::Event;
-use super::{Before, Past, Watch};
+use super::{Past, Watch};
+use crate::counter::Step;
 use crate::desk::restricted;
-use crate::places::place_of;
 use crate::records::{record_of, Identity};
+use crate::replay::Replay;
 
 impl Watch {
     /// The calls one of whose parties this DEACTIVATE released.
-    pub(super) fn released_calls(&mut self, before: &Before, post: u32, identities: &[Identity]) {
+    pub(super) fn released_calls(&mut self, before: &Replay, post: u32, identities: &[Identity]) {
         let records = &before.records;
         let is_released = |party: Identity| {
             identities.contains(&party)
@@ -39,15 +40,15 @@ impl Watch {
 
     pub(super) fn set_up(
         &mut self,
-        before: &Before,
+        step: Step,
         caller: Identity,
         called: Identity,
         identifier: u32,
-        answer: &str,
     ) {
-        let caller_released = self.released.contains(&caller);
-        let called_released = self.released.contains(&called);
-        if answer == "free" {
+        let before = step.before;
+        let caller_released = self.kept.released.contains(&caller);
+        let called_released = self.kept.released.contains(&called);
+        if step.answer == "free" {
             let both = caller_released && called_released && caller != called;
             let waits = (0..self.pasts.len()).any(|place| {
                 before.desk.places[place].is_some()
@@ -57,18 +58,17 @@ impl Watch {
             self.count_if(both, Event::FreeBothReleased);
             self.count_if(waits, Event::FreeWhileWaiting);
         }
-        if !answer.starts_with("admitted") {
+        if !step.answer.starts_with("admitted") {
             return;
         }
         let again = |party: &Identity| {
-            self.again.contains(party) && restricted(&before.records, *party).is_some()
+            self.kept.again.contains(party) && restricted(&before.records, *party).is_some()
         };
         let by_mark_again = again(&caller) || again(&called);
         self.count_if(by_mark_again, Event::AdmittedAgain);
         self.count_if(caller_released, Event::CallerReleasedAdmitted);
         self.count_if(called_released, Event::CalledReleasedAdmitted);
-        let places = &self.replay.desk.places;
-        let place = place_of(places, identifier).expect("an admitted call waits");
+        let (place, _) = step.admitted(identifier);
         self.pasts[place] = Past {
             parties: Some((caller, called)),
             ..Past::default()
@@ -76,38 +76,38 @@ impl Watch {
     }
 
     pub(super) fn interrogated(&mut self, user: Identity, answer: &str) {
-        let released = self.released.contains(&user);
+        let released = self.kept.released.contains(&user);
         match answer {
             "state not-active" => self.count_if(released, Event::StateReleased),
             "state other-post" => self.count_if(released, Event::StateOtherPost),
-            "state active" => self.count_if(self.again.contains(&user), Event::StateAgain),
+            "state active" => self.count_if(self.kept.again.contains(&user), Event::StateAgain),
             _ => {}
         }
     }
 
-    pub(super) fn accepted(&mut self, before: &Before, identifier: u32, answer: &str) {
-        let (place, call) = match before.waiting(identifier) {
+    pub(super) fn accepted(&mut self, step: Step, identifier: u32) {
+        let (place, call) = match step.waiting(identifier) {
             Some(waiting) => waiting,
             None => return,
         };
         let past = self.pasts[place];
-        if answer.starts_with("moved") {
+        if step.answer.starts_with("moved") {
             self.count_if(past.any_released(), Event::ReleasedMoved);
             // Only a call that went to another post counts as moved from here on.
             self.pasts[place].moved |= call.second != Some(call.post);
-        } else if answer.starts_with("proceed") {
+        } else if step.answer.starts_with("proceed") {
             self.count_if(past.any_released() && past.moved, Event::MovedAccepted);
             self.count_if(past.released == [true; 2], Event::BothAccepted);
-            self.ended(before, identifier, Event::ReleasedAccepted, answer);
+            self.ended(step, identifier, Event::ReleasedAccepted);
         }
     }
 
     /// The call waits no more, unless this was refused.
-    pub(super) fn ended(&mut self, before: &Before, identifier: u32, event: Event, answer: &str) {
-        if answer.starts_with("refused") {
+    pub(super) fn ended(&mut self, step: Step, identifier: u32, event: Event) {
+        if step.answer.starts_with("refused") {
             return;
         }
-        if let Some((place, _)) = before.waiting(identifier) {
+        if let Some((place, _)) = step.waiting(identifier) {
             self.count_if(self.pasts[place].any_released(), event);
             self.pasts[place] = Past::default();
         }

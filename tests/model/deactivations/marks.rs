@@ -1,10 +1,11 @@
 //! What a DEACTIVATE or an ACTIVATE that was carried out did to whom, counted.
 
 use super::events::Event;
-use super::{Before, Watch};
+use super::Watch;
 use crate::message::{meaning_of, Group};
 use crate::profile::{Meaning, Profile};
 use crate::records::{identities_of, identity_of, record_of, Identity, Record};
+use crate::replay::Replay;
 
 /// What came of one identity, with the number of its record as it was before.
 #[derive(Clone, Copy, PartialEq, Eq)]
@@ -15,7 +16,7 @@ enum Came {
 }
 
 impl Watch {
-    pub(super) fn deactivated(&mut self, before: &Before, post: u32, users: &Group) {
+    pub(super) fn deactivated(&mut self, before: &Replay, post: u32, users: &Group) {
         let profile = &before.desk.profile;
         let identities = identities_of(profile, users);
         let came: Vec<Came> = identities
@@ -32,28 +33,28 @@ impl Watch {
         self.released_calls(before, post, &identities);
         let cleared = self.release(before, &identities, &came);
         let now = (false, post, users.clone());
-        match &self.last {
+        match &self.kept.last {
             Some((true, last_post, last_users)) if *last_post == post && last_users == users => {
                 self.count_if(cleared, Event::AfterActivate);
             }
             Some(last) if *last == now => self.count(Event::AfterDeactivate),
             _ => {}
         }
-        self.last = Some(now);
+        self.kept.last = Some(now);
     }
 
-    pub(super) fn activated(&mut self, before: &Before, post: u32, users: &Group) {
+    pub(super) fn activated(&mut self, before: &Replay, post: u32, users: &Group) {
         for identity in identities_of(&before.desk.profile, users) {
             if let Came::Accepted(_) = came_of(&before.records, identity, post) {
-                if self.released.remove(&identity) {
+                if self.kept.released.remove(&identity) {
                     self.count(Event::MarkedAgain);
-                    self.again.insert(identity);
+                    self.kept.again.insert(identity);
                 }
             }
         }
-        let same = self.last == Some((false, post, users.clone()));
+        let same = self.kept.last == Some((false, post, users.clone()));
         self.count_if(same, Event::ActivateAfter);
-        self.last = Some((true, post, users.clone()));
+        self.kept.last = Some((true, post, users.clone()));
     }
 
     /// Counts the mix, and gives how many different outcomes there were but for U = N.
@@ -111,7 +112,7 @@ impl Watch {
         }
     }
 
-    fn marks(&mut self, before: &Before, identities: &[Identity], came: &[Came]) {
+    fn marks(&mut self, before: &Replay, identities: &[Identity], came: &[Came]) {
         let records = &before.records;
         let (mut set, mut clear) = (false, false);
         for (identity, came) in identities.iter().zip(came) {
@@ -147,14 +148,14 @@ impl Watch {
     }
 
     /// Notes whose mark was cleared; false if nobody's was.
-    fn release(&mut self, before: &Before, identities: &[Identity], came: &[Came]) -> bool {
+    fn release(&mut self, before: &Replay, identities: &[Identity], came: &[Came]) -> bool {
         let mut cleared = false;
         for (identity, came) in identities.iter().zip(came) {
             if let Came::Accepted(number) = came {
                 // Of an identity that comes twice the first one clears the mark.
-                if before.records[*number].active && self.released.insert(*identity) {
+                if before.records[*number].active && self.kept.released.insert(*identity) {
                     self.count(Event::Cleared);
-                    self.again.remove(identity);
+                    self.kept.again.remove(identity);
                     cleared = true;
                 }
             }

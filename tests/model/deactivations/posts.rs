@@ -2,47 +2,43 @@
 
 use super::events::Event;
 use super::reading::not_read;
-use super::{Before, Watch};
+use super::Watch;
 use crate::ack::{Ack, AckResult};
+use crate::counter::Step;
 use crate::event::{header_of, pdu_type_of};
 use crate::message::{read, Message};
 use crate::records::{record_of, records_keep_rules, Identity, Record, MOST_RECORDS};
+use crate::replay::Replay;
 
 impl Watch {
-    pub(super) fn message(
-        &mut self,
-        before: &Before,
-        post: u32,
-        bytes: &[u8],
-        bits: usize,
-        answer: &str,
-    ) {
-        let profile = &before.desk.profile;
+    pub(super) fn message(&mut self, step: Step, post: u32, bytes: &[u8], bits: usize) {
+        let profile = &step.before.desk.profile;
+        let answer = step.answer;
         let carried_out = answer.starts_with("acks");
         match (read(profile, bytes, bits), answer) {
             (Ok(Message::Deactivate { users }), _) if carried_out => {
-                self.deactivated(before, post, &users);
+                self.deactivated(step.before, post, &users);
             }
             (Ok(Message::Activate { users, .. }), _) if carried_out => {
-                self.activated(before, post, &users);
+                self.activated(step.before, post, &users);
             }
             (Ok(Message::Deactivate { users }), _) => {
                 let identities = crate::records::identities_of(profile, &users);
-                self.refused(before, post, &identities, answer);
+                self.refused(step, post, &identities);
             }
-            (Ok(Message::DeactivateAck(ack)), "refused 8") => self.ack_from_post(before, &ack),
+            (Ok(Message::DeactivateAck(ack)), "refused 8") => self.ack_from_post(step, &ack),
             (Ok(Message::DeactivateAck(_)), "refused 1") => self.count(Event::Damage1Ack),
             (Ok(Message::DeactivateAck(_)), "refused 2") => self.count(Event::Post2Before8),
             (Ok(Message::Interrogate { user }), _) => {
                 let identity = crate::records::identity_of(profile, &user);
                 self.interrogated(identity, answer);
             }
-            (Ok(Message::Accept { identifier }), _) => self.accepted(before, identifier, answer),
+            (Ok(Message::Accept { identifier }), _) => self.accepted(step, identifier),
             (Ok(Message::Divert { identifier }), _) => {
-                self.ended(before, identifier, Event::ReleasedDiverted, answer);
+                self.ended(step, identifier, Event::ReleasedDiverted);
             }
             (Ok(Message::Reject { identifier, .. }), _) => {
-                self.ended(before, identifier, Event::ReleasedByMessage, answer);
+                self.ended(step, identifier, Event::ReleasedByMessage);
             }
             (Err(5), "refused 5") => match header_of(bytes, bits) {
                 Some((_, 4)) => self.count(Event::Request5),
@@ -52,7 +48,7 @@ impl Watch {
             (Err(refusal), _) => {
                 let pdu_type = pdu_type_of(profile, bytes, bits);
                 if answer == format!("refused {refusal}") {
-                    self.not_read(before, bytes, bits, pdu_type, refusal);
+                    self.not_read(step, bytes, bits, pdu_type, refusal);
                 } else if answer == "refused 2" {
                     self.count_if(pdu_type == Some(4), Event::Post2BeforeReading);
                 }
@@ -62,13 +58,13 @@ impl Watch {
     }
 
     /// A DEACTIVATE that reads well and is refused all the same.
-    fn refused(&mut self, before: &Before, post: u32, identities: &[Identity], answer: &str) {
-        let short = before.output_is_short();
-        let unsound = before.records_are_unsound();
-        match answer {
+    fn refused(&mut self, step: Step, post: u32, identities: &[Identity]) {
+        let short = step.output_was_short();
+        let unsound = step.records_were_unsound();
+        match step.answer {
             "refused 1" => {
                 self.count(Event::Damage1);
-                let not_there = post as usize >= before.desk.profile.posts.len();
+                let not_there = post as usize >= step.before.desk.profile.posts.len();
                 self.count_if(not_there, Event::Damage1Before2);
             }
             "refused 2" => {
@@ -77,13 +73,12 @@ impl Watch {
                 self.count_if(unsound, Event::Post2Before15);
             }
             "refused 14" => {
-                // One byte short is what tells the bound.
-                self.count_if(before.output_bytes == 299, Event::Output14);
+                self.count_if(step.output_was_one_short(), Event::Output14);
                 self.count_if(unsound, Event::Output14Before15);
             }
             "refused 15" => {
-                self.unsound_by(before);
-                let records = &before.records;
+                self.unsound_by(step.before);
+                let records = &step.before.records;
                 let would_clear = identities.iter().any(|identity| {
                     record_of(records, *identity).map_or(false, |number| {
                         records[number].post == post && records[number].active
@@ -96,7 +91,7 @@ impl Watch {
     }
 
     /// Which ground of 15 it was, where it was just one.
-    fn unsound_by(&mut self, before: &Before) {
+    fn unsound_by(&mut self, before: &Replay) {
         let profile = &before.desk.profile;
         if before.records.len() > MOST_RECORDS {
             let mended = &before.records[..MOST_RECORDS];
@@ -115,7 +110,7 @@ impl Watch {
         }
     }
 
-    fn ack_from_post(&mut self, before: &Before, ack: &Ack) {
+    fn ack_from_post(&mut self, step: Step, ack: &Ack) {
         self.count(match ack.result {
             AckResult::Accepted => Event::Ack8,
             AckResult::NotAccepted { .. } => Event::Ack8Reason,
@@ -124,13 +119,13 @@ impl Watch {
             Some(_) => Event::Ack8Mask,
             None => Event::Ack8NoMask,
         });
-        self.count_if(before.output_is_short(), Event::Ack8Before14);
-        self.count_if(before.records_are_unsound(), Event::Ack8Before15);
+        self.count_if(step.output_was_short(), Event::Ack8Before14);
+        self.count_if(step.records_were_unsound(), Event::Ack8Before15);
     }
 
     fn not_read(
         &mut self,
-        before: &Before,
+        step: Step,
         bytes: &[u8],
         bits: usize,
         pdu_type: Option<u32>,
@@ -142,14 +137,14 @@ impl Watch {
             (Some(9), 7) => self.count(Event::Type9),
             // 3 may come before the header is looked at.
             (Some(pdu_type @ (4 | 5)), 4..=13) => {
-                let profile = &before.desk.profile;
+                let profile = &step.before.desk.profile;
                 if let Some(event) = not_read(profile, bytes, bits, pdu_type, refusal) {
                     self.count(event);
                 }
                 let request = pdu_type == 4;
-                self.count_if(request && before.output_is_short(), Event::ReadingBefore14);
+                self.count_if(request && step.output_was_short(), Event::ReadingBefore14);
                 self.count_if(
-                    request && before.records_are_unsound(),
+                    request && step.records_were_unsound(),
                     Event::ReadingBefore15,
                 );
             }

@@ -1,37 +1,31 @@
 //! What posts send about waiting calls, counted.
 
 use super::events::Event;
-use super::{Before, Watch};
+use super::Watch;
+use crate::counter::Step;
 use crate::event::pdu_type_of;
 use crate::message::{read, Message};
-use crate::records::records_keep_rules;
 use crate::request::Options;
 
 impl Watch {
-    pub(super) fn message(
-        &mut self,
-        before: &Before,
-        post: u32,
-        bytes: &[u8],
-        bits: usize,
-        answer: &str,
-    ) {
-        let profile = &before.desk.profile;
+    pub(super) fn message(&mut self, step: Step, post: u32, bytes: &[u8], bits: usize) {
+        let profile = &step.before.desk.profile;
+        let answer = step.answer;
         if answer == "refused 1" {
-            self.count_if(before.only_causes_damage(), Event::Damage1Message);
+            self.damaged(step, Event::Damage1Message);
             return;
         }
         match read(profile, bytes, bits) {
             Ok(Message::Reject { identifier, cause }) => {
-                self.reject_message(before, post, identifier, cause, answer);
+                self.reject_message(step, post, identifier, cause);
             }
             Ok(Message::Accept { identifier }) => {
-                self.accept_or_divert(before, identifier, answer);
+                self.accept_or_divert(step, identifier);
             }
             Ok(Message::Divert { identifier }) => {
-                self.accept_or_divert(before, identifier, answer);
+                self.accept_or_divert(step, identifier);
             }
-            Ok(message) if answer == "refused 8" => self.not_sent_by_posts(before, &message),
+            Ok(message) if answer == "refused 8" => self.not_sent_by_posts(step, &message),
             Err(refusal) if answer == format!("refused {refusal}") => {
                 if let Some(pdu_type) = pdu_type_of(profile, bytes, bits) {
                     self.not_read(pdu_type, refusal);
@@ -41,21 +35,14 @@ impl Watch {
         }
     }
 
-    fn reject_message(
-        &mut self,
-        before: &Before,
-        post: u32,
-        identifier: u32,
-        cause: u32,
-        answer: &str,
-    ) {
-        match (answer, before.waiting(identifier)) {
+    fn reject_message(&mut self, step: Step, post: u32, identifier: u32, cause: u32) {
+        match (step.answer, step.waiting(identifier)) {
             ("refused 2", _) => self.count(Event::Message2),
             ("refused 14", None) => self.count(Event::Message14Before19),
             ("refused 14", Some((_, call))) if call.post != post => {
                 self.count(Event::Message14Before20);
             }
-            ("refused 14", _) => self.count_if(before.output_is_one_short(), Event::Message14),
+            ("refused 14", _) => self.count_if(step.output_was_one_short(), Event::Message14),
             ("refused 19", _) => self.count(Event::Message19),
             ("refused 20", Some((place, call))) => {
                 self.count(Event::Message20);
@@ -64,7 +51,6 @@ impl Watch {
             }
             (_, Some((place, call))) => {
                 let moved = self.pasts[place].left.is_some();
-                let records_good = records_keep_rules(&before.desk.profile, &self.replay.records);
                 let other = cause != call.cause;
                 self.count(Event::Message);
                 self.count_if(other && cause == 0, Event::MessageWith0);
@@ -72,21 +58,21 @@ impl Watch {
                 self.count_if(cause == 31, Event::MessageWith31);
                 self.count_if(moved, Event::MessageMoved);
                 self.count_if(!moved && call.second.is_some(), Event::MessageTwoPosts);
-                self.count_if(!records_good, Event::MessageBadRecords);
+                self.count_if(step.records_were_unsound(), Event::MessageBadRecords);
                 self.ended(place, call);
             }
             _ => {}
         }
     }
 
-    fn accept_or_divert(&mut self, before: &Before, identifier: u32, answer: &str) {
-        let (place, call) = match before.waiting(identifier) {
+    fn accept_or_divert(&mut self, step: Step, identifier: u32) {
+        let (place, call) = match step.waiting(identifier) {
             Some(waiting) => waiting,
             None => return,
         };
         let past = self.pasts[place];
         let with = call.cause != 0;
-        match answer.split(' ').next() {
+        match step.answer.split(' ').next() {
             Some("moved") => {
                 self.count_if(!with, Event::MovedWith0);
                 self.count_if(with, Event::MovedWith);
@@ -107,7 +93,7 @@ impl Watch {
                 self.count_if(with, Event::DivertedWith);
                 self.ended(place, call);
             }
-            _ if answer == "refused 18" => {
+            _ if step.answer == "refused 18" => {
                 self.count_if(with, Event::Refused18With);
                 self.pasts[place].got_18 = true;
             }
@@ -115,7 +101,7 @@ impl Watch {
         }
     }
 
-    fn not_sent_by_posts(&mut self, before: &Before, message: &Message) {
+    fn not_sent_by_posts(&mut self, step: Step, message: &Message) {
         let event = match message {
             Message::Request { options, .. } if *options == Options::default() => Event::Request8,
             Message::Request { options, .. } if all_seven(options) => Event::Request8All,
@@ -128,7 +114,7 @@ impl Watch {
             _ => return,
         };
         self.count(event);
-        self.count_if(before.output_is_short(), Event::Refused8Before14);
+        self.count_if(step.output_was_short(), Event::Refused8Before14);
     }
 
     fn not_read(&mut self, pdu_type: u32, refusal: u8) {
