@@ -155,17 +155,21 @@ fn ack(dice: &mut Dice, profile: &Profile, users: Group) -> Ack {
     }
 }
 
-/// Nothing if the profile has no range value that users may have.
+/// Nothing if the profile has no range for them.
 fn users(dice: &mut Dice, profile: &Profile) -> Option<Group> {
-    let ranges: Vec<u32> = (0..16)
+    group(dice, profile, &user_ranges(profile))
+}
+
+/// The range values that users may have; a profile need not have one.
+pub fn user_ranges(profile: &Profile) -> Vec<u32> {
+    (0..16)
         .filter(|range| {
             matches!(
                 meaning_of(profile, *range),
                 Meaning::List(_) | Meaning::FirstAndLast
             )
         })
-        .collect();
-    group(dice, profile, &ranges)
+        .collect()
 }
 
 /// Nothing also where the dice leave the option out.

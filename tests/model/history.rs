@@ -13,9 +13,9 @@ mod profiles;
 mod scene;
 
 use crate::dice::Dice;
-use crate::message::meaning_of;
+use crate::draw::user_ranges;
 use crate::places::Call;
-use crate::profile::{sample, Meaning, Profile};
+use crate::profile::sample;
 use crate::records::MOST_RECORDS;
 use crate::replay::Replay;
 use crate::script::{read_script_line, Line};
@@ -100,7 +100,7 @@ impl Source {
     }
 
     fn draw_line(&mut self) -> Vec<u8> {
-        if self.history_left == 0 || !has_user_range(&self.replay.desk.profile) {
+        if self.history_left == 0 || user_ranges(&self.replay.desk.profile).is_empty() {
             return self.new_history();
         }
         self.history_left -= 1;
@@ -159,13 +159,4 @@ fn is_record_over_most(line: &[u8]) -> bool {
         Some(Line::Record { number, .. }) => number >= MOST_RECORDS,
         _ => false,
     }
-}
-
-fn has_user_range(profile: &Profile) -> bool {
-    (0..16).any(|range| {
-        matches!(
-            meaning_of(profile, range),
-            Meaning::List(_) | Meaning::FirstAndLast
-        )
-    })
 }

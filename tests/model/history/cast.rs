@@ -1,6 +1,7 @@
 //! The identities that one history is about, few enough to meet again and again.
 
 use crate::dice::Dice;
+use crate::draw::user_ranges;
 use crate::message::{meaning_of, Address, Group, MOST_IDENTITIES};
 use crate::profile::{Meaning, Profile};
 use crate::records::{Identity, Record};
@@ -147,13 +148,5 @@ fn range_from(dice: &mut Dice, first: Address) -> Vec<Address> {
 
 /// A range value that users may have; the profile has one.
 fn user_range(dice: &mut Dice, profile: &Profile) -> u32 {
-    let ranges: Vec<u32> = (0..16)
-        .filter(|range| {
-            matches!(
-                meaning_of(profile, *range),
-                Meaning::List(_) | Meaning::FirstAndLast
-            )
-        })
-        .collect();
-    dice.pick(&ranges)
+    dice.pick(&user_ranges(profile))
 }

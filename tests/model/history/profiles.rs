@@ -1,6 +1,5 @@
 //! Profiles for the histories, with shares that fill up, and lines of profiles that break a rule.
 
-use super::has_user_range;
 use crate::dice::Dice;
 use crate::draw;
 use crate::layout::profile_bytes;
@@ -23,7 +22,7 @@ pub fn draw(dice: &mut Dice) -> Profile {
             profile.meanings[1] = Meaning::List(1);
             profile.meanings[2] = Meaning::List(2);
         }
-        if has_user_range(&profile) {
+        if !draw::user_ranges(&profile).is_empty() {
             return profile;
         }
     }
