@@ -1,22 +1,22 @@
-//! What the counters of a script share: how the things that can come are named, and the type of a
-//! message whose content may be faulty.
+//! How things are named that are counted or checked one by one, and the type of a message whose
+//! content may be faulty.
 
 use crate::bits::Bits;
 use crate::profile::Profile;
 
 /// Names each thing once: for the enum that is counted by, and for the table that is printed.
-macro_rules! events {
-    ($($event:ident: $words:literal,)*) => {
+macro_rules! named {
+    ($kind:ident, $all:ident: $($name:ident: $words:literal,)*) => {
         #[derive(Clone, Copy, PartialEq, Eq, PartialOrd, Ord)]
-        pub enum Event {
-            $($event),*
+        pub enum $kind {
+            $($name),*
         }
 
-        pub const EVENTS: &[(Event, &str)] = &[$((Event::$event, $words)),*];
+        pub const $all: &[($kind, &str)] = &[$(($kind::$name, $words)),*];
     };
 }
 
-pub(crate) use events;
+pub(crate) use named;
 
 /// The SS type and the PDU type of a message whose header is whole.
 pub fn header_of(bytes: &[u8], length: usize) -> Option<(u32, u32)> {

@@ -5,6 +5,7 @@ mod deactivation_laws;
 mod deactivation_scripts;
 mod deactivations;
 mod desk;
+mod laws;
 mod layouts;
 mod ledger;
 mod move_scripts;

@@ -1,8 +1,8 @@
 //! What can come of request (i), each in words; `deactivations` counts them.
 
-use crate::event::events;
+use crate::event::named;
 
-events! {
+named! { Event, EVENTS:
     AllAccepted: "a DEACTIVATE with one outcome, accepted",
     AllU: "one outcome, no record",
     AllN: "one outcome, another post's",

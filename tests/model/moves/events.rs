@@ -1,8 +1,8 @@
 //! What can befall a call of two posts, each in words; `moves` counts them.
 
-use crate::event::events;
+use crate::event::named;
 
-events! {
+named! { Event, EVENTS:
     Move: "a move",
     MoveBelowCeiling: "a move to another post that is one below its ceiling",
     MoveBelowReserveFull: "a move to a post below its reserved number when no place is free but this one",

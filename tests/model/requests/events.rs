@@ -1,8 +1,8 @@
 //! What can come of request (iv), each in words; `requests` counts them.
 
-use crate::event::events;
+use crate::event::named;
 
-events! {
+named! { Event, EVENTS:
     AdmittedWithout: "an admission by a line without a cause",
     AdmittedWith0: "an admission by a line with a cause of 0",
     AdmittedWith: "an admission with a cause other than 0",

@@ -1,10 +1,12 @@
 //! Laws of DEACTIVATE over long histories: its answer told a second way, from records and users
 //! alone, and beside ACTIVATE's on copies of desk and records.
 
+use super::laws::{enough, Laws};
 use super::Report;
 use crate::ack::Ack;
 use crate::bits::Refusal;
 use crate::desk::{Answer, Desk, Lent};
+use crate::event::named;
 use crate::history::Source;
 use crate::message::{read, Group, Message};
 use crate::profile::Profile;
@@ -16,67 +18,45 @@ use std::io;
 
 const SEEDS: [u64; 3] = [13, 14, 15];
 const LINES_OF_HISTORY: usize = 20_000;
-/// So many of each at least, or the laws say little.
-const FEWEST: usize = 100;
 
-/// Which laws have held so far, and on how many.
-struct Laws {
-    as_told: bool,
-    refused_as_activate: bool,
-    acks_as_activate: bool,
-    masks_part: bool,
-    only_accepted_cleared: bool,
-    calls_stay: bool,
-    marks_after_activate: bool,
+named! { Law, LAWS:
+    AsTold: "is answered as told from records and users",
+    RefusedAsActivate: "is refused as ACTIVATE is",
+    AcksAsActivate: "has ACTIVATE's ACKs but for the type",
+    MasksPart: "has masks that part the identities",
+    OnlyAcceptedCleared: "clears the accepted marks and changes nothing else of the records",
+    CallsStay: "leaves every waiting call",
+    MarksAfterActivate: "after an ACTIVATE of its users leaves what it leaves without one",
+}
+
+/// What the histories showed so far, on how many.
+#[derive(Default)]
+struct Seen {
+    laws: Laws<Law>,
     carried_out: usize,
     refused: usize,
     with_masks: usize,
 }
 
 pub(super) fn histories(report: &mut Report) -> io::Result<()> {
-    let mut laws = Laws {
-        as_told: true,
-        refused_as_activate: true,
-        acks_as_activate: true,
-        masks_part: true,
-        only_accepted_cleared: true,
-        calls_stay: true,
-        marks_after_activate: true,
-        carried_out: 0,
-        refused: 0,
-        with_masks: 0,
-    };
+    let mut seen = Seen::default();
     for seed in SEEDS {
-        laws.follow(seed);
+        seen.follow(seed);
     }
     let lines = SEEDS.len() * LINES_OF_HISTORY;
     let all = format!("desk: {lines} lines: DEACTIVATE");
-    for (law, good) in [
-        ("is answered as told from records and users", laws.as_told),
-        ("is refused as ACTIVATE is", laws.refused_as_activate),
-        (
-            "has ACTIVATE's ACKs but for the type",
-            laws.acks_as_activate,
-        ),
-        ("has masks that part the identities", laws.masks_part),
-        (
-            "clears the accepted marks and changes nothing else of the records",
-            laws.only_accepted_cleared,
-        ),
-        ("leaves every waiting call", laws.calls_stay),
-        (
-            "after an ACTIVATE of its users leaves what it leaves without one",
-            laws.marks_after_activate,
-        ),
-    ] {
-        report.check(&format!("{all} {law}"), good)?;
-    }
-    let (carried_out, with_masks, refused) = (laws.carried_out, laws.with_masks, laws.refused);
+    seen.laws.check(report, &all, LAWS)?;
+    let Seen {
+        carried_out,
+        refused,
+        with_masks,
+        ..
+    } = seen;
     report.check(
         &format!(
             "{all} carried out {carried_out} times, {with_masks} with masks, refused {refused}"
         ),
-        carried_out >= FEWEST && with_masks >= FEWEST && refused >= FEWEST,
+        enough(&[carried_out, with_masks, refused]),
     )
 }
 
@@ -111,7 +91,7 @@ fn try_message(
     tried
 }
 
-impl Laws {
+impl Seen {
     fn follow(&mut self, seed: u64) {
         let mut source = Source::new(seed);
         let mut replay = Replay::new();
@@ -148,26 +128,31 @@ impl Laws {
         };
         let cleared = tried(records, &deactivate);
         let marked = tried(records, &activate);
-        self.refused_as_activate &= match (&cleared.answer, &marked.answer) {
+        let as_activate = match (&cleared.answer, &marked.answer) {
             (Err(one), Err(other)) => {
                 one == other && answer == format!("refused {one}") && cleared.records == records
             }
             (Ok(_), Ok(_)) => answer.starts_with("acks"),
             _ => false,
         };
+        self.laws.hold(Law::RefusedAsActivate, as_activate);
         if cleared.answer.is_err() {
             self.refused += 1;
             return;
         }
         self.carried_out += 1;
-        self.as_told &= answer == told(&desk.profile, records, post, users);
-        self.acks_as_activate &= same_but_type(&desk.profile, &cleared, &marked);
+        let told = told(&desk.profile, records, post, users);
+        self.laws.hold(Law::AsTold, answer == told);
+        let same = same_but_type(&desk.profile, &cleared, &marked);
+        self.laws.hold(Law::AcksAsActivate, same);
         self.masks(&desk.profile, &cleared, users);
-        self.calls_stay &= cleared.desk == *desk;
-        self.only_accepted_cleared &= cleared.records == without_marks(desk, records, post, users);
+        self.laws.hold(Law::CallsStay, cleared.desk == *desk);
+        let wanted = without_marks(desk, records, post, users);
+        self.laws
+            .hold(Law::OnlyAcceptedCleared, cleared.records == wanted);
         let after = tried(&marked.records, &deactivate);
-        self.marks_after_activate &=
-            after.records == cleared.records && after.output == cleared.output;
+        let same = after.records == cleared.records && after.output == cleared.output;
+        self.laws.hold(Law::MarksAfterActivate, same);
     }
 
     fn masks(&mut self, profile: &Profile, tried: &Tried, users: &Group) {
@@ -182,7 +167,8 @@ impl Laws {
             ones.count() == 1
         });
         self.with_masks += usize::from(!one);
-        self.masks_part &= same_users && (one || (acks.len() > 1 && part));
+        let good = same_users && (one || (acks.len() > 1 && part));
+        self.laws.hold(Law::MasksPart, good);
     }
 }
 

@@ -3,6 +3,7 @@
 
 use super::deactivation_laws::histories;
 use super::desk::check_script;
+use super::laws::enough;
 use super::Report;
 use crate::desk::{Answer, Desk, Lent};
 use crate::dice::Dice;
@@ -16,8 +17,6 @@ use crate::write::{bytes_of, elements};
 use std::io;
 
 const FAULTY_MESSAGES: usize = 20_000;
-/// So many of each at least, or the law says little.
-const FEWEST: usize = 100;
 
 pub fn check(report: &mut Report) -> io::Result<()> {
     for (what, script, answers) in super::deactivation_scripts::SCRIPTS {
@@ -105,7 +104,7 @@ fn read_as_activate(report: &mut Report) -> io::Result<()> {
     }
     report.check(
         &format!("{whole} DEACTIVATE and ACK read as ACTIVATE's are, {refused} refused so"),
-        good && whole >= FEWEST && refused >= FEWEST,
+        good && enough(&[whole, refused]),
     )
 }
 

@@ -2,8 +2,10 @@
 //! counted up by an admission, down by an end, and by both at a move. The model's own places are
 //! only compared with it.
 
+use super::laws::{enough, Laws};
 use super::Report;
 use crate::desk::{Answer, Desk, Lent};
+use crate::event::named;
 use crate::hex::hex_of;
 use crate::history::Source;
 use crate::message::{read, Message};
@@ -17,62 +19,48 @@ use std::io;
 
 const SEEDS: [u64; 3] = [7, 8, 9];
 const LINES_OF_HISTORY: usize = 20_000;
-/// So many of each at least, or the laws say little.
-const FEWEST: usize = 100;
+
+named! { Law, LAWS:
+    PlacesTold: "what waits is what answers say",
+    SharesKept: "no post over its ceiling, held and owed at most 32",
+    AcceptsCounted: "every ACCEPT is answered as counted",
+    ReserveOpen: "a move to a post below its reserved number is never refused",
+    OwnOpen: "a move to its own post is never refused",
+    EndAndAdmission: "a move is answered as an end and an admission are",
+    RequestWritten: "a move writes REQUEST, with the call's cause, and no byte more",
+}
 
 pub(super) struct Ledger {
     places: Places,
     held: [u32; 256],
 }
 
-/// Which laws have held so far, and on how many moves and refused moves.
-struct Laws {
-    places_told: bool,
-    shares_kept: bool,
-    accepts_counted: bool,
-    reserve_open: bool,
-    own_open: bool,
-    end_and_admission: bool,
-    request_written: bool,
+/// What the histories showed so far, of how many moves and refused moves.
+#[derive(Default)]
+struct Seen {
+    laws: Laws<Law>,
     moves: usize,
     by_ceiling: usize,
     by_owed: usize,
 }
 
 pub fn check(report: &mut Report) -> io::Result<()> {
-    let mut laws = Laws::new();
+    let mut seen = Seen::default();
     for seed in SEEDS {
-        laws.follow(seed);
+        seen.follow(seed);
     }
     let lines = SEEDS.len() * LINES_OF_HISTORY;
-    let all = format!("desk: {lines} lines, told from the history");
-    for (law, good) in [
-        ("what waits is what answers say", laws.places_told),
-        (
-            "no post over its ceiling, held and owed at most 32",
-            laws.shares_kept,
-        ),
-        ("every ACCEPT is answered as counted", laws.accepts_counted),
-        (
-            "a move to a post below its reserved number is never refused",
-            laws.reserve_open,
-        ),
-        ("a move to its own post is never refused", laws.own_open),
-        (
-            "a move is answered as an end and an admission are",
-            laws.end_and_admission,
-        ),
-        (
-            "a move writes REQUEST, with the call's cause, and no byte more",
-            laws.request_written,
-        ),
-    ] {
-        report.check(&format!("{all}: {law}"), good)?;
-    }
-    let (moves, by_ceiling, by_owed) = (laws.moves, laws.by_ceiling, laws.by_owed);
+    let all = format!("desk: {lines} lines, told from the history:");
+    seen.laws.check(report, &all, LAWS)?;
+    let Seen {
+        moves,
+        by_ceiling,
+        by_owed,
+        ..
+    } = seen;
     report.check(
-        &format!("{all}: {moves} moves, 18 by a ceiling {by_ceiling}, by what is owed {by_owed}"),
-        moves >= FEWEST && by_ceiling >= FEWEST && by_owed >= FEWEST,
+        &format!("{all} {moves} moves, 18 by a ceiling {by_ceiling}, by what is owed {by_owed}"),
+        enough(&[moves, by_ceiling, by_owed]),
     )
 }
 
@@ -297,22 +285,7 @@ fn marked(records: &[Record], party: Identity) -> Option<u32> {
     None
 }
 
-impl Laws {
-    fn new() -> Self {
-        Laws {
-            places_told: true,
-            shares_kept: true,
-            accepts_counted: true,
-            reserve_open: true,
-            own_open: true,
-            end_and_admission: true,
-            request_written: true,
-            moves: 0,
-            by_ceiling: 0,
-            by_owed: 0,
-        }
-    }
-
+impl Seen {
     fn follow(&mut self, seed: u64) {
         let mut source = Source::new(seed);
         let mut replay = Replay::new();
@@ -329,16 +302,19 @@ impl Laws {
             if let Some((post, identifier)) = accept_of(&before.profile, &line) {
                 let long_enough = replay.output_bytes >= 300;
                 let wanted = ledger.accept(&before.profile, post, identifier, long_enough);
-                self.accepts_counted &= answer == wanted.words(&before.profile);
+                let as_counted = answer == wanted.words(&before.profile);
+                self.laws.hold(Law::AcceptsCounted, as_counted);
                 if let Accept::Moved(second, _) | Accept::Refused18(second) = wanted {
                     self.judge(&ledger, &before, post, second, &answer);
                     self.try_on_copies(&before, post, identifier, second, &answer);
                 }
             }
             ledger.note(&before.profile, &replay.records, &line, &answer);
-            self.places_told &= ledger.places == replay.desk.places;
+            let as_told = ledger.places == replay.desk.places;
+            self.laws.hold(Law::PlacesTold, as_told);
             if sound && !answer.is_empty() {
-                self.shares_kept &= fit(&replay.desk.profile, &ledger.held);
+                let kept = fit(&replay.desk.profile, &ledger.held);
+                self.laws.hold(Law::SharesKept, kept);
             }
         }
     }
@@ -347,8 +323,10 @@ impl Laws {
         let share = &before.profile.posts[second as usize];
         let held = ledger.held[second as usize] - u32::from(first == second);
         let refused = answer == "refused 18";
-        self.reserve_open &= !(refused && held < share.reserved);
-        self.own_open &= !(refused && first == second);
+        let below_reserve = held < share.reserved;
+        self.laws
+            .hold(Law::ReserveOpen, !(refused && below_reserve));
+        self.laws.hold(Law::OwnOpen, !(refused && first == second));
         match (refused, held >= share.ceiling) {
             (false, _) => self.moves += 1,
             (true, true) => self.by_ceiling += 1,
@@ -383,7 +361,8 @@ impl Laws {
             Ok(_) => (false, 0),
             Err(refusal) => (answer == format!("refused {refusal}"), 0),
         };
-        self.request_written &= same && output[written..].iter().all(|byte| *byte == 0xAA);
+        let rest_left = output[written..].iter().all(|byte| *byte == 0xAA);
+        self.laws.hold(Law::RequestWritten, same && rest_left);
 
         let mut copy = before.clone();
         let user = Record {
@@ -404,11 +383,12 @@ impl Laws {
         };
         let admitted = copy.set_up(lent, party(0), party(1), identifier, 0);
         let moved = answer.starts_with("moved");
-        self.end_and_admission &= ended == Ok(Answer::Cancelled { post, bits: 25 })
+        let same = ended == Ok(Answer::Cancelled { post, bits: 25 })
             && match admitted {
                 Ok(Answer::Admitted { post, .. }) => moved && post == second,
                 Ok(_) => false,
                 Err(refusal) => answer == format!("refused {refusal}"),
             };
+        self.laws.hold(Law::EndAndAdmission, same);
     }
 }

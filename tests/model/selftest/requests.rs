@@ -2,6 +2,7 @@
 //! histories answer, told from lines and answers alone by the ledger.
 
 use super::desk::check_script;
+use super::laws::enough;
 use super::ledger::{request_hex, Ledger};
 use super::Report;
 use crate::desk::{Answer, Desk, Lent};
@@ -16,8 +17,6 @@ use std::io;
 
 const SEEDS: [u64; 2] = [10, 11];
 const LINES_OF_HISTORY: usize = 20_000;
-/// So many of each at least, or the law says little.
-const FEWEST: usize = 100;
 
 pub fn check(report: &mut Report) -> io::Result<()> {
     for (what, script, answers) in super::request_scripts::SCRIPTS {
@@ -123,15 +122,12 @@ fn histories(report: &mut Report) -> io::Result<()> {
         differ,
     } = told;
     let lines = SEEDS.len() * LINES_OF_HISTORY;
-    let enough = [rejects, messages, cancels, admissions]
-        .iter()
-        .all(|count| *count >= FEWEST);
     report.check(
         &format!(
             "desk: {lines} lines, told from the history: {rejects} rejects, {messages} REJECT \
              messages, {cancels} cancels and {admissions} admissions are answered as counted"
         ),
-        enough && differ == 0,
+        enough(&[rejects, messages, cancels, admissions]) && differ == 0,
     )
 }
 

@@ -1,0 +1,39 @@
+//! Laws that are tried on line after line of long histories.
+
+use super::Report;
+use std::collections::BTreeSet;
+use std::io;
+
+/// Those that were broken so far.
+pub struct Laws<L> {
+    broken: BTreeSet<L>,
+}
+
+impl<L> Default for Laws<L> {
+    fn default() -> Self {
+        let broken = BTreeSet::new();
+        Laws { broken }
+    }
+}
+
+impl<L: Ord> Laws<L> {
+    /// One try: a law that is broken once stays broken.
+    pub fn hold(&mut self, law: L, good: bool) {
+        if !good {
+            self.broken.insert(law);
+        }
+    }
+
+    /// A check for each of all the laws.
+    pub fn check(&self, report: &mut Report, of: &str, all: &[(L, &str)]) -> io::Result<()> {
+        for (law, words) in all {
+            report.check(&format!("{of} {words}"), !self.broken.contains(law))?;
+        }
+        Ok(())
+    }
+}
+
+/// A law that was tried less often says little.
+pub fn enough(tries: &[usize]) -> bool {
+    tries.iter().all(|times| *times >= 100)
+}
