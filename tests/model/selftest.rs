@@ -8,6 +8,7 @@ mod desk;
 mod laws;
 mod layouts;
 mod ledger;
+mod move_laws;
 mod move_scripts;
 mod moves;
 mod reading;
@@ -42,7 +43,7 @@ pub fn selftest(out: &mut dyn Write) -> io::Result<bool> {
     layouts::check(&mut report)?;
     desk::check(&mut report)?;
     moves::check(&mut report)?;
-    ledger::check(&mut report)?;
+    move_laws::check(&mut report)?;
     requests::check(&mut report)?;
     deactivations::check(&mut report)?;
     Ok(report.all_good)
