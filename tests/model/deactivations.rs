@@ -8,10 +8,11 @@ mod marks;
 mod posts;
 mod reading;
 
-use crate::counter::{count_script, Counter, Step};
+use crate::counter::{count_script, Counter};
 use crate::message::Group;
 use crate::records::{Identity, Record};
 use crate::script::Line;
+use crate::step::Step;
 use events::{Event, EVENTS};
 use std::collections::BTreeSet;
 use std::io::{self, Write};

@@ -33,6 +33,7 @@ mod rounds;
 mod script;
 mod selftest;
 mod shapes;
+mod step;
 mod suite;
 mod table;
 mod tally;

@@ -3,12 +3,13 @@
 
 mod events;
 
-use crate::counter::{count_script, Counter, Step};
+use crate::counter::{count_script, Counter};
 use crate::desk::{posts_asked, restricted, Desk};
 use crate::message::{read, Message};
 use crate::places::{admits, all_owed, free, held, owed, places_keep_rules, without, Call, Places};
 use crate::records::Identity;
 use crate::script::Line;
+use crate::step::Step;
 use events::{Event, EVENTS};
 use std::collections::BTreeSet;
 use std::io::{self, Write};

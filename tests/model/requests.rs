@@ -5,11 +5,12 @@
 mod events;
 mod posts;
 
-use crate::counter::{count_script, Counter, Step};
+use crate::counter::{count_script, Counter};
 use crate::desk::Desk;
 use crate::places::{places_keep_rules, Call};
 use crate::records::Identity;
 use crate::script::Line;
+use crate::step::Step;
 use events::{Event, EVENTS};
 use std::io::{self, Write};
 

@@ -2,10 +2,10 @@
 
 use super::events::Event;
 use super::{Past, Watch};
-use crate::counter::Step;
 use crate::desk::restricted;
 use crate::records::{record_of, Identity};
 use crate::replay::Replay;
+use crate::step::Step;
 
 impl Watch {
     /// The calls one of whose parties this DEACTIVATE released.

@@ -4,11 +4,11 @@ use super::events::Event;
 use super::reading::not_read;
 use super::Watch;
 use crate::ack::{Ack, AckResult};
-use crate::counter::Step;
 use crate::event::{header_of, pdu_type_of};
 use crate::message::{read, Message};
 use crate::records::{record_of, records_keep_rules, Identity, Record, MOST_RECORDS};
 use crate::replay::Replay;
+use crate::step::Step;
 
 impl Watch {
     pub(super) fn message(&mut self, step: Step, post: u32, bytes: &[u8], bits: usize) {

@@ -2,10 +2,10 @@
 
 use super::events::Event;
 use super::Watch;
-use crate::counter::Step;
 use crate::event::pdu_type_of;
 use crate::message::{read, Message};
 use crate::request::Options;
+use crate::step::Step;
 
 impl Watch {
     pub(super) fn message(&mut self, step: Step, post: u32, bytes: &[u8], bits: usize) {

@@ -1,23 +1,22 @@
 //! Laws of DEACTIVATE over long histories: its answer told a second way, from records and users
 //! alone, and beside ACTIVATE's on copies of desk and records.
 
-use super::laws::{enough, Laws};
+use super::laws::{enough, run_history, Laws, LINES_OF_HISTORY};
 use super::Report;
 use crate::ack::Ack;
 use crate::bits::Refusal;
 use crate::desk::{Answer, Desk, Lent};
 use crate::event::named;
-use crate::history::Source;
 use crate::message::{read, Group, Message};
 use crate::profile::Profile;
 use crate::records::{identities_of, Identity, Record};
 use crate::replay::Replay;
-use crate::script::{read_script_line, Line};
+use crate::script::Line;
+use crate::step::Step;
 use crate::write::{bits_of, bytes_of};
 use std::io;
 
 const SEEDS: [u64; 3] = [13, 14, 15];
-const LINES_OF_HISTORY: usize = 20_000;
 
 named! { Law, LAWS:
     AsTold: "is answered as told from records and users",
@@ -93,29 +92,24 @@ fn try_message(
 
 impl Seen {
     fn follow(&mut self, seed: u64) {
-        let mut source = Source::new(seed);
-        let mut replay = Replay::new();
-        for _ in 0..LINES_OF_HISTORY {
-            let line = source.next_line();
-            let (desk, records) = (replay.desk.clone(), replay.records.clone());
-            let answer = replay.run(&line).unwrap_or_default();
-            if let Some(Line::Post { post, bits, bytes }) = read_script_line(&line) {
-                if let Ok(Message::Deactivate { users }) = read(&desk.profile, &bytes, bits) {
-                    self.judge(&desk, &records, replay.output_bytes, post, &users, &answer);
+        run_history(seed, |line, step| {
+            if let Line::Post { post, bits, bytes } = line {
+                if let Ok(Message::Deactivate { users }) =
+                    read(&step.before.desk.profile, &bytes, bits)
+                {
+                    self.judge(step, post, &users);
                 }
             }
-        }
+        });
     }
 
-    fn judge(
-        &mut self,
-        desk: &Desk,
-        records: &[Record],
-        output_bytes: usize,
-        post: u32,
-        users: &Group,
-        answer: &str,
-    ) {
+    fn judge(&mut self, step: Step, post: u32, users: &Group) {
+        let Replay {
+            desk,
+            records,
+            output_bytes,
+        } = step.before;
+        let answer = step.answer;
         let deactivate = Message::Deactivate {
             users: users.clone(),
         };
@@ -124,13 +118,13 @@ impl Seen {
             dispatchers: None,
         };
         let tried = |records: &[Record], message: &Message| {
-            try_message(desk, records, output_bytes, post, message)
+            try_message(desk, records, *output_bytes, post, message)
         };
         let cleared = tried(records, &deactivate);
         let marked = tried(records, &activate);
         let as_activate = match (&cleared.answer, &marked.answer) {
             (Err(one), Err(other)) => {
-                one == other && answer == format!("refused {one}") && cleared.records == records
+                one == other && answer == format!("refused {one}") && cleared.records == *records
             }
             (Ok(_), Ok(_)) => answer.starts_with("acks"),
             _ => false,

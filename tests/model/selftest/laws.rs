@@ -1,8 +1,18 @@
 //! Laws that are tried on line after line of long histories.
 
 use super::Report;
+use crate::history::Source;
+use crate::script::Line;
+use crate::step::{run_lines, Step};
 use std::collections::BTreeSet;
 use std::io;
+
+pub const LINES_OF_HISTORY: usize = 20_000;
+
+pub fn run_history(seed: u64, look: impl FnMut(Line, Step)) {
+    let mut source = Source::new(seed);
+    run_lines((0..LINES_OF_HISTORY).map(|_| source.next_line()), look);
+}
 
 /// Those that were broken so far.
 pub struct Laws<L> {

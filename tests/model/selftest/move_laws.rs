@@ -1,23 +1,20 @@
 //! Laws of moves over long histories, as the ledger tells them. The model's own places are only
 //! compared with it.
 
-use super::laws::{enough, Laws};
+use super::laws::{enough, run_history, Laws, LINES_OF_HISTORY};
 use super::ledger::{fit, Accept, Ledger};
 use super::Report;
 use crate::desk::{Answer, Desk, Lent};
 use crate::event::named;
 use crate::hex::hex_of;
-use crate::history::Source;
 use crate::message::{read, Message};
 use crate::profile::Profile;
 use crate::records::{Identity, Record};
-use crate::replay::Replay;
-use crate::script::{read_script_line, Line};
+use crate::script::Line;
 use crate::write::{bits_of, bytes_of};
 use std::io;
 
 const SEEDS: [u64; 3] = [7, 8, 9];
-const LINES_OF_HISTORY: usize = 20_000;
 
 named! { Law, LAWS:
     PlacesTold: "what waits is what answers say",
@@ -71,36 +68,28 @@ fn accept_of(profile: &Profile, line: &Line) -> Option<(u32, u32)> {
 
 impl Seen {
     fn follow(&mut self, seed: u64) {
-        let mut source = Source::new(seed);
-        let mut replay = Replay::new();
         let mut ledger = Ledger::new();
-        for _ in 0..LINES_OF_HISTORY {
-            let line = source.next_line();
-            let before = replay.desk.clone();
+        run_history(seed, |line, step| {
+            let (before, after, answer) = (&step.before.desk, &step.after.desk, step.answer);
             let sound = ledger.is_sound(&before.profile);
-            let answer = replay.run(&line).unwrap_or_default();
-            let line = match read_script_line(&line) {
-                Some(line) => line,
-                None => continue,
-            };
             if let Some((post, identifier)) = accept_of(&before.profile, &line) {
-                let long_enough = replay.output_bytes >= 300;
+                let long_enough = step.before.output_bytes >= 300;
                 let wanted = ledger.accept(&before.profile, post, identifier, long_enough);
                 let as_counted = answer == wanted.words(&before.profile);
                 self.laws.hold(Law::AcceptsCounted, as_counted);
                 if let Accept::Moved(second, _) | Accept::Refused18(second) = wanted {
-                    self.judge(&ledger, &before, post, second, &answer);
-                    self.try_on_copies(&before, post, identifier, second, &answer);
+                    self.judge(&ledger, before, post, second, answer);
+                    self.try_on_copies(before, post, identifier, second, answer);
                 }
             }
-            ledger.note(&before.profile, &replay.records, &line, &answer);
-            let as_told = ledger.places == replay.desk.places;
-            self.laws.hold(Law::PlacesTold, as_told);
+            ledger.note(&before.profile, &step.after.records, &line, answer);
+            self.laws
+                .hold(Law::PlacesTold, ledger.places == after.places);
             if sound && !answer.is_empty() {
-                let kept = fit(&replay.desk.profile, &ledger.held);
+                let kept = fit(&after.profile, &ledger.held);
                 self.laws.hold(Law::SharesKept, kept);
             }
-        }
+        });
     }
 
     fn judge(&mut self, ledger: &Ledger, before: &Desk, first: u32, second: u32, answer: &str) {

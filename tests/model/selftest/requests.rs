@@ -2,21 +2,18 @@
 //! histories answer, told from lines and answers alone by the ledger.
 
 use super::desk::check_script;
-use super::laws::enough;
+use super::laws::{enough, run_history, LINES_OF_HISTORY};
 use super::ledger::{request_hex, Ledger};
 use super::Report;
 use crate::desk::{Answer, Desk, Lent};
-use crate::history::Source;
 use crate::message::{read, Message};
 use crate::places::Call;
 use crate::profile::{sample, Profile};
 use crate::records::{Identity, Record};
-use crate::replay::Replay;
-use crate::script::{read_script_line, Line};
+use crate::script::Line;
 use std::io;
 
 const SEEDS: [u64; 2] = [10, 11];
-const LINES_OF_HISTORY: usize = 20_000;
 
 pub fn check(report: &mut Report) -> io::Result<()> {
     for (what, script, answers) in super::request_scripts::SCRIPTS {
@@ -133,34 +130,26 @@ fn histories(report: &mut Report) -> io::Result<()> {
 
 impl Told {
     fn follow(&mut self, seed: u64) {
-        let mut source = Source::new(seed);
-        let mut replay = Replay::new();
         let mut ledger = Ledger::new();
-        for _ in 0..LINES_OF_HISTORY {
-            let line = source.next_line();
-            let profile = replay.desk.profile.clone();
-            let long_enough = replay.output_bytes >= 300;
-            let answer = replay.run(&line).unwrap_or_default();
-            let line = match read_script_line(&line) {
-                Some(line) => line,
-                None => continue,
-            };
-            if let Some(wanted) = self.wanted(&ledger, &profile, &line, long_enough) {
+        run_history(seed, |line, step| {
+            let (profile, answer) = (&step.before.desk.profile, step.answer);
+            let long_enough = step.before.output_bytes >= 300;
+            if let Some(wanted) = self.wanted(&ledger, profile, &line, long_enough) {
                 self.differ += usize::from(answer != wanted);
             }
-            ledger.note(&profile, &replay.records, &line, &answer);
+            ledger.note(profile, &step.after.records, &line, answer);
             if let (Line::SetUp { identifier, .. }, true) = (&line, answer.starts_with("admitted"))
             {
                 self.admissions += 1;
                 let wanted = ledger.waiting(*identifier).map(|(place, call)| {
                     // INTERCEPTED: type 10, cause 0, an O-bit of 0 and seven spare bits.
                     let intercepted = profile.ss_type << 18 | 10 << 13;
-                    let request = request_hex(&profile, &call);
+                    let request = request_hex(profile, &call);
                     format!("admitted {} {place} {intercepted:06X} {request}", call.post)
                 });
-                self.differ += usize::from(Some(answer) != wanted);
+                self.differ += usize::from(Some(answer) != wanted.as_deref());
             }
-        }
+        });
     }
 
     /// The answer to a reject, a cancel or a REJECT message that reads well; the grounds of
