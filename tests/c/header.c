@@ -20,6 +20,20 @@ static unsigned long checks, failures;
 
 static const uint8_t zeros[CAD_VALUE_BYTES] = {0};
 
+/* A value is written in so many bits, as these bytes where they are given, and what was written is read as the value. */
+static void round_trip(const uint8_t *profile, const uint8_t *value, size_t bits, const uint8_t *bytes)
+{
+    uint8_t read[241], message[CAD_MESSAGE_BYTES];
+    unsigned long before = failures;
+    size_t written = 77;
+    CHECK(cad_write(profile, 39, value, 241, message, sizeof message, &written) == CAD_DONE && written == bits);
+    CHECK(bytes == NULL || memcmp(message, bytes, (bits + 7) / 8) == 0);
+    CHECK(cad_read(profile, 39, message, (bits + 7) / 8, bits, read, sizeof read) == CAD_DONE);
+    CHECK(memcmp(read, value, sizeof read) == 0);
+    if (failures != before)
+        printf("header.c: that was %s of %lu bits\n", cad_pdu_name(cad_value_pdu(value)), (unsigned long)bits);
+}
+
 /* Under this profile range 0 is nobody, 1 to 3 are lists, 7 is a list of fifteen, 15 is first and last; home is 0x0A0B0C. */
 static void home_profile(uint8_t *profile)
 {
@@ -424,10 +438,7 @@ static void deactivation(void)
     cad_profile_sample(profile);
 
     four_users(value, CAD_DEACTIVATE);
-    CHECK(cad_write(profile, sizeof profile, value, sizeof value, message, sizeof message, &bits) == CAD_DONE);
-    CHECK(bits == 67 && memcmp(message, request, sizeof request) == 0);
-    CHECK(cad_read(profile, sizeof profile, request, sizeof request, 67, read, sizeof read) == CAD_DONE);
-    CHECK(memcmp(read, value, sizeof value) == 0);
+    round_trip(profile, value, 67, request);
     CHECK(cad_read(profile, sizeof profile, request, sizeof request, 66, read, sizeof read) == CAD_REFUSED_SHORT);
     CHECK(cad_read(profile, sizeof profile, request, sizeof request, 68, read, sizeof read) == CAD_REFUSED_LEFT_OVER);
     for (k = 16; k < 241; k++) {
@@ -438,20 +449,15 @@ static void deactivation(void)
 
     four_users(value, CAD_DEACTIVATE_ACK);
     cad_value_set_result(value, 1);
-    CHECK(cad_write(profile, sizeof profile, value, sizeof value, message, sizeof message, &bits) == CAD_DONE);
-    CHECK(bits == 69 && memcmp(message, all, sizeof all) == 0);
-    CHECK(cad_read(profile, sizeof profile, all, sizeof all, 69, read, sizeof read) == CAD_DONE);
-    CHECK(memcmp(read, value, sizeof value) == 0);
+    round_trip(profile, value, 69, all);
     cad_value_set_reason(value, 1);
     CHECK(cad_write(profile, sizeof profile, value, sizeof value, message, sizeof message, &bits) == CAD_REFUSED_VALUE);
 
     four_users(value, CAD_DEACTIVATE_ACK);
     cad_value_set_mask_bit(value, 2, 1);
     cad_value_set_reason(value, 1);
-    CHECK(cad_write(profile, sizeof profile, value, sizeof value, message, sizeof message, &bits) == CAD_DONE);
-    CHECK(bits == 80 && memcmp(message, third, sizeof third) == 0);
+    round_trip(profile, value, 80, third);
     CHECK(cad_read(profile, sizeof profile, third, sizeof third, 80, read, sizeof read) == CAD_DONE);
-    CHECK(memcmp(read, value, sizeof value) == 0);
     CHECK(cad_value_is_ack(read) && cad_value_masked(read) && cad_value_result(read) == 0 && cad_value_reason(read) == 1);
     for (k = 0; k < 5; k++)
         CHECK(cad_value_mask_bit(read, k) == (k == 2));
@@ -470,15 +476,11 @@ static void deactivation(void)
     cad_value_set_user_range(value, 7);
     for (k = 0; k < 15; k++)
         cad_value_set_user(value, k, cad_address_other(k, 0xFFFFFF - k));
-    CHECK(cad_write(profile, sizeof profile, value, sizeof value, message, sizeof message, &bits) == CAD_DONE && bits == 765);
-    CHECK(cad_read(profile, sizeof profile, message, sizeof message, bits, read, sizeof read) == CAD_DONE);
-    CHECK(memcmp(read, value, sizeof value) == 0);
+    round_trip(profile, value, 765, NULL);
     value[CAD_VALUE_PDU] = CAD_DEACTIVATE_ACK;
     cad_value_set_mask_bit(value, 14, 1);
     cad_value_set_reason(value, 127);
-    CHECK(cad_write(profile, sizeof profile, value, sizeof value, message, sizeof message, &bits) == CAD_DONE && bits == 789);
-    CHECK(cad_read(profile, sizeof profile, message, sizeof message, bits, read, sizeof read) == CAD_DONE);
-    CHECK(memcmp(read, value, sizeof value) == 0);
+    round_trip(profile, value, 789, NULL);
 }
 
 /* The two functions themselves, where the header's words meet them; the differential test is elsewhere. */
@@ -492,10 +494,7 @@ static void functions(void)
     unsigned k;
     cad_profile_sample(profile);
     four_users(value, CAD_ACTIVATE);
-    CHECK(cad_write(profile, sizeof profile, value, sizeof value, message, sizeof message, &bits) == CAD_DONE);
-    CHECK(bits == 68 && memcmp(message, case_8, sizeof case_8) == 0);
-    CHECK(cad_read(profile, sizeof profile, case_8, sizeof case_8, 68, read, sizeof read) == CAD_DONE);
-    CHECK(memcmp(read, value, sizeof value) == 0);
+    round_trip(profile, value, 68, case_8);
 
     /* a REQUEST with all its options, and what each of them may not be: over 1, over its width, given and absent */
     cad_value_start(value, CAD_REQUEST);
@@ -508,10 +507,8 @@ static void functions(void)
     cad_value_set_called_area(value, 2);
     cad_value_set_calling_service(value, 1);
     cad_value_set_called_service(value, 2);
-    CHECK(cad_write(profile, sizeof profile, value, sizeof value, message, sizeof message, &bits) == CAD_DONE);
-    CHECK(bits == 150 && memcmp(message, request, sizeof request) == 0);
+    round_trip(profile, value, 150, request);
     CHECK(cad_read(profile, sizeof profile, request, sizeof request, 150, read, sizeof read) == CAD_DONE);
-    CHECK(memcmp(read, value, sizeof value) == 0);
     CHECK(cad_write(profile, sizeof profile, value, sizeof value - 1, message, sizeof message, &bits) == CAD_REFUSED_VALUE);
     CHECK(cad_read(profile, sizeof profile, request, sizeof request, 150, read, sizeof read - 1) == CAD_REFUSED_ROOM);
     for (k = 0; k < 7; k++) {
@@ -561,10 +558,7 @@ static void functions(void)
         cad_value_set_user(value, k, cad_address_other(k, k));
         cad_value_set_dispatcher(value, k, cad_address_other(k, 0xFFFFFF - k));
     }
-    CHECK(cad_write(profile, sizeof profile, value, sizeof value, message, sizeof message, &bits) == CAD_DONE);
-    CHECK(bits == CAD_MESSAGE_BITS);
-    CHECK(cad_read(profile, sizeof profile, message, sizeof message, bits, read, sizeof read) == CAD_DONE);
-    CHECK(memcmp(read, value, sizeof value) == 0);
+    round_trip(profile, value, CAD_MESSAGE_BITS, NULL);
     CHECK(cad_write(profile, sizeof profile, value, sizeof value, message, sizeof message - 1, &bits) == CAD_REFUSED_ROOM);
 
     cad_value_start(read, 0);

@@ -1,6 +1,6 @@
 -- Which answers each call can give, and that the step's answer is the one that the call's order gives. Assumes nothing.
 use Prim.Native.Nat.{ℕ}
-use mathlib.Core.Path.{_≡_, refl}
+use mathlib.Core.Path.{_≡_, refl, sym, ap, _∙_}
 use mathlib.Core.Bool.{Bool, true, false, not, cond}
 use mathlib.Core.List.{List, [], _∷_}
 use mathlib.Core.Logic.{_⊎_, inl, inr}
@@ -11,7 +11,7 @@ use borrow.Author.Tests.{eqb-true, le-leb, leb-true}
 use Rattle.codec.specs.Codec.{Read, got, no, both}
 use Rattle.codec.specs.Stops.{refusal, published}
 use Rattle.codec.specs.declared.Stop.{Stop}
-use Rattle.codec.proofs.Good.{both-true, both-left, both-right}
+use Rattle.codec.proofs.Good.{both-true, both-left, both-right, not-both}
 use Rattle.profile.specs.Rules.{profileOk}
 use Rattle.message.specs.Values.{identifierIn}
 use Rattle.message.specs.Reading.{readOf, isReading}
@@ -26,13 +26,13 @@ use Rattle.records.specs.declared.Record.{Record}
 use Rattle.desk.specs.Desks.{deskOk}
 use Rattle.desk.specs.Grounds.{waits, waitsHere}
 use Rattle.desk.specs.Orders.{unless, postsOf, placesOf, namesDispatchers, markingAnswer, interrogateAnswer, endAnswer, moveAnswer, acceptAnswer, decideAnswer, sentAnswer, readAnswer, messageAnswer, identifierOk, setUpOk, admitAnswer, partyAnswer, setUpAnswer, rejectAnswer, postAt, cancelAnswer, eventAnswer, answerOf}
-use Rattle.desk.specs.Steps.{Spoken, plainStep, acksStep, stepBy, stepOf}
-use Rattle.desk.specs.declared.marking.Asked.{Asked}
+use Rattle.desk.specs.Steps.{Spoken, askedOf, spokenOf, plainStep, acksStep, isAcks, stepBy, postOf, stepOf}
 use Rattle.desk.specs.declared.Answer.{Answer}
 use Rattle.desk.specs.declared.Answer.the-variants as answer
 use Rattle.desk.specs.declared.Desk.{Desk}
 use Rattle.desk.specs.declared.Event.{Event}
 use Rattle.desk.specs.declared.Event.the-variants as event
+use Rattle.desk.specs.declared.marking.Asked.{Asked}
 
 by-answer : (d : Desk) (rows : List Record) (post : ℕ) (asked : Asked) (spoken : Spoken) (a : Answer) → stepBy d rows post asked spoken a .answer ≡ a
 unfolding stepBy plainStep acksStep
@@ -51,6 +51,18 @@ by-answer d rows post asked spoken (answer.Moved p) = refl
 pub step-answer : (d : Desk) (rows : List Record) (n : ℕ) (l area : List ℕ) (e : Event) → stepOf d rows n l area e .answer ≡ answerOf d rows n l (length area) e
 unfolding stepOf
 step-answer d rows n l area e = by-answer d (take n rows) _ _ _ (answerOf d rows n l (length area) e)
+
+-- and where that is ACKs the step is what a request does that is carried out
+pub step-acks : (d : Desk) (rows : List Record) (n : ℕ) (l area : List ℕ) (e : Event) → isAcks (stepOf d rows n l area e .answer) ≡ true
+    → stepOf d rows n l area e ≡ acksStep d (take n rows) (postOf e) (askedOf (d .profile) l e)
+unfolding stepOf stepBy
+step-acks d rows n l area e h = by-acks (isAcks (answerOf d rows n l (length area) e)) (sym (ap isAcks (step-answer d rows n l area e)) ∙ h)
+  where
+    by-acks : (b : Bool) → b ≡ true
+        → cond b (acksStep d (take n rows) (postOf e) (askedOf (d .profile) l e)) (plainStep d (spokenOf (d .profile) (take n rows) l e) (answerOf d rows n l (length area) e))
+        ≡ acksStep d (take n rows) (postOf e) (askedOf (d .profile) l e)
+    by-acks true z = refl
+    by-acks false z = not-both z
 
 -- ---- a message that was read, by its type
 

@@ -11,7 +11,6 @@ use lib.ListN.{length, getD, take, length-set, length-replicate, getD-replicate,
 use borrow.Author.Tests.{lt-ltb, le-ltb}
 use Rattle.bits.proofs.SetLaws.{lt-or}
 use Rattle.codec.specs.Codec.{both}
-use Rattle.codec.proofs.Good.{not-both}
 use Rattle.records.specs.Identities.{identitiesOf}
 use Rattle.records.specs.Marking.{acceptedOf, unmarked, nobodyMarked, noMarks, withBy, withMark, markAll, marksOf, wanted}
 use Rattle.records.specs.declared.Identity.{Identity}
@@ -25,7 +24,8 @@ use Rattle.desk.specs.Steps.{askedOf, spokenOf, plainStep, acksStep, isA
 use Rattle.desk.specs.declared.Answer.{Answer}
 use Rattle.desk.specs.declared.Desk.{Desk}
 use Rattle.desk.specs.declared.Event.{Event}
-use Rattle.desk.proofs.AnswerLaws.{step-answer}
+use Rattle.desk.specs.declared.Stepped.{Stepped}
+use Rattle.desk.proofs.AnswerLaws.{step-answer, step-acks}
 
 -- ---- there are 128 marks
 
@@ -77,10 +77,7 @@ module _ (d : Desk) (rows : List Record) (n : ℕ) (l area : List ℕ) (e : Even
 
   -- and then the mark becomes what the request asks
   pub marked-to : isAcks (stepOf d rows n l area e .answer) ≡ true → stepOf d rows n l area e .marks .mark ≡ askedOf (d .profile) l e .mark
-  unfolding stepOf stepBy acksStep
-  marked-to h = go (isAcks (answerOf d rows n l (length area) e)) (sym (ap isAcks (step-answer d rows n l area e)) ∙ h)
-    where
-      go : (b : Bool) → b ≡ true
-          → cond b (acksStep d (take n rows) (postOf e) (askedOf (d .profile) l e)) (plainStep d (spokenOf (d .profile) (take n rows) l e) (answerOf d rows n l (length area) e)) .marks .mark ≡ askedOf (d .profile) l e .mark
-      go true z = marks-to (askedOf (d .profile) l e .mark) (take n rows) (postOf e) (identitiesOf (d .profile .air) (askedOf (d .profile) l e .users))
-      go false z = not-both z
+  unfolding acksStep
+  marked-to h =
+      ap (λ (s : Stepped). s .marks .mark) (step-acks d rows n l area e h)
+      ∙ marks-to (askedOf (d .profile) l e .mark) (take n rows) (postOf e) (identitiesOf (d .profile .air) (askedOf (d .profile) l e .users))

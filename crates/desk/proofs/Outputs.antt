@@ -38,12 +38,12 @@ use Rattle.desk.specs.Grounds.{waits, waitsHere}
 use Rattle.desk.specs.Orders.{unless, postsOf, placesOf, markingAnswer, interrogateAnswer, endAnswer, moveAnswer, acceptAnswer, decideAnswer, sentAnswer, readAnswer, messageAnswer, identifierOk, setUpOk, admitAnswer, partyAnswer, setUpAnswer, rejectAnswer, postAt, cancelAnswer, eventAnswer, answerOf}
 use Rattle.desk.specs.Steps.{Spoken, named, askedIn, saidIn, valueBy, askedOf, spokenOf, messagesBy, plainStep, plainArea, acksFor, acksStep, acksArea, isAcks, stepBy, areaBy, postOf, stepOf, areaAfter}
 use Rattle.desk.specs.Outputs.{messagesFor, sentBy, Unfilled, ReadBack}
-use Rattle.desk.specs.declared.marking.Asked.{Asked}
 use Rattle.desk.specs.declared.Answer.{Answer}
 use Rattle.desk.specs.declared.Answer.the-variants as answer
 use Rattle.desk.specs.declared.Desk.{Desk}
 use Rattle.desk.specs.declared.Event.{Event}
 use Rattle.desk.specs.declared.Event.the-variants as event
+use Rattle.desk.specs.declared.marking.Asked.{Asked}
 use Rattle.desk.proofs.MarkingLaws.{asked-ack, marking-users, request}
 use Rattle.desk.proofs.AnswerLaws.{by-type}
 use Rattle.desk.proofs.EndLaws.{waits-first}

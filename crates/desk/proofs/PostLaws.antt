@@ -27,10 +27,10 @@ use Rattle.places.specs.Spots.{placeOf}
 use Rattle.desk.specs.Desks.{deskOk}
 use Rattle.desk.specs.Orders.{postsOf, placesOf, unless, interrogateAnswer, endAnswer, decideAnswer, sentAnswer, readAnswer, messageAnswer, identifierOk, setUpOk, admitAnswer, partyAnswer, setUpAnswer, rejectAnswer, cancelAnswer}
 use Rattle.desk.specs.Steps.{Spoken, askedIn, saidIn, valueBy, isAcks, plainStep, plainArea, acksStep, acksArea, stepBy, areaBy, keeps}
-use Rattle.desk.specs.declared.marking.Asked.{Asked}
 use Rattle.desk.specs.declared.Answer.{Answer}
 use Rattle.desk.specs.declared.Answer.the-variants as answer
 use Rattle.desk.specs.declared.Desk.{Desk}
+use Rattle.desk.specs.declared.marking.Asked.{Asked}
 use Rattle.desk.specs.declared.Stepped.{Stepped}
 use Rattle.desk.proofs.KeepLaws.{refused-plain, state-plain}
 

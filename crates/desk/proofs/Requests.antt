@@ -2,10 +2,9 @@
 -- that holds, and never refused with 21. Assumes nothing.
 use Prim.Native.Nat.{ℕ, _≤_}
 use mathlib.Core.Path.{_≡_, refl, sym, ap, _∙_}
-use mathlib.Core.Bool.{Bool, true, false, not, cond}
+use mathlib.Core.Bool.{Bool, true, false, not}
 use mathlib.Core.List.{List}
 use lib.Dec.{ltb}
-use lib.ListN.{length, take}
 use borrow.Author.Tests.{eq-eqb, ne-eqb, le-ltb}
 use native.Mathlib.Omega.{arith}
 use Rattle.codec.specs.Codec.{Read, got, no}
@@ -18,13 +17,14 @@ use Rattle.records.specs.declared.Record.{Record}
 use Rattle.desk.specs.Desks.{deskOk}
 use Rattle.desk.specs.Numbers.{numberOf}
 use Rattle.desk.specs.Orders.{unless, postsOf, markingAnswer, sentAnswer, readAnswer, messageAnswer, answerOf}
-use Rattle.desk.specs.Steps.{askedOf, spokenOf, plainStep, acksStep, isAcks, stepBy, postOf, stepOf}
+use Rattle.desk.specs.Steps.{acksStep, isAcks, stepOf}
 use Rattle.desk.specs.declared.Answer.{Answer}
 use Rattle.desk.specs.declared.Answer.the-variants as answer
 use Rattle.desk.specs.declared.Desk.{Desk}
 use Rattle.desk.specs.declared.Event.{Event}
 use Rattle.desk.specs.declared.Event.the-variants as event
-use Rattle.desk.proofs.AnswerLaws.{step-answer, by-type}
+use Rattle.desk.specs.declared.Stepped.{Stepped}
+use Rattle.desk.proofs.AnswerLaws.{step-acks, by-type}
 use Rattle.desk.proofs.EndLaws.{accept-plain}
 use Rattle.desk.proofs.Moves.{not-false}
 use Rattle.desk.proofs.PostLaws.{decide-plain, interrogate-plain}
@@ -34,13 +34,8 @@ use Rattle.desk.proofs.PostLaws.{decide-plain, interrogate-plain}
 module _ (d : Desk) (rows : List Record) (n : ℕ) (l area : List ℕ) (e : Event) where
   -- a request that is carried out, to set marks or to clear them, leaves the desk as it stood: every place, so every waiting call
   pub acks-stay : isAcks (stepOf d rows n l area e .answer) ≡ true → stepOf d rows n l area e .desk ≡ d
-  unfolding stepOf stepBy acksStep
-  acks-stay h = go (isAcks (answerOf d rows n l (length area) e)) (sym (ap isAcks (step-answer d rows n l area e)) ∙ h)
-    where
-      go : (b : Bool) → b ≡ true
-          → cond b (acksStep d (take n rows) (postOf e) (askedOf (d .profile) l e)) (plainStep d (spokenOf (d .profile) (take n rows) l e) (answerOf d rows n l (length area) e)) .desk ≡ d
-      go true z = refl
-      go false z = not-both z
+  unfolding acksStep
+  acks-stay h = ap (λ (s : Stepped). s .desk) (step-acks d rows n l area e h)
 
 -- ---- what held
 

@@ -20,12 +20,12 @@ use Rattle.desk.specs.Desks.{deskOk}
 use Rattle.desk.specs.Grounds.{waits, partyFor, setUpGrounds, isNew, isFreeCall}
 use Rattle.desk.specs.Orders.{unless, postsOf, placesOf, setUpOk, admitAnswer, partyAnswer, setUpAnswer, answerOf}
 use Rattle.desk.specs.Steps.{Spoken, spokenOf, callFor, effectBy, effectOf, deskAfter, plainStep, acksStep, stepBy, stepOf}
-use Rattle.desk.specs.declared.marking.Asked.{Asked}
 use Rattle.desk.specs.declared.Answer.{Answer}
 use Rattle.desk.specs.declared.Answer.the-variants as answer
 use Rattle.desk.specs.declared.Desk.{Desk}
 use Rattle.desk.specs.declared.Event.{Event}
 use Rattle.desk.specs.declared.Event.the-variants as event
+use Rattle.desk.specs.declared.marking.Asked.{Asked}
 use Rattle.desk.proofs.AnswerLaws.{step-answer, answer-ok}
 use Rattle.desk.proofs.SetUpLaws.{setup-identifier, setup-cause}
 

@@ -15,10 +15,10 @@ use Rattle.records.specs.declared.Record.{Record}
 use Rattle.sending.specs.declared.Laid.{Laid}
 use Rattle.desk.specs.Orders.{placesOf, answerOf}
 use Rattle.desk.specs.Steps.{Spoken, askedOf, spokenOf, messagesBy, acksFor, isAcks, postOf}
-use Rattle.desk.specs.declared.marking.Asked.{Asked}
 use Rattle.desk.specs.declared.Answer.{Answer}
 use Rattle.desk.specs.declared.Desk.{Desk}
 use Rattle.desk.specs.declared.Event.{Event}
+use Rattle.desk.specs.declared.marking.Asked.{Asked}
 
 -- what goes with an answer: the ACKs, or what any other answer sends
 abbrev pub messagesFor : Desk → List Record → ℕ → Asked → Spoken → Answer → List Value

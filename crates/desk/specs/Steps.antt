@@ -26,12 +26,12 @@ use Rattle.sending.specs.declared.Laid.{Laid}
 use Rattle.sending.specs.Acks.{acksOf}
 use Rattle.desk.specs.Notices.{intercepted, accepted, diverted, requestOf, rejectedWith, cancelOf}
 use Rattle.desk.specs.Orders.{placesOf, answerOf}
-use Rattle.desk.specs.declared.marking.Asked.{Asked}
 use Rattle.desk.specs.declared.Answer.{Answer}
 use Rattle.desk.specs.declared.Answer.the-variants as answer
 use Rattle.desk.specs.declared.Desk.{Desk}
 use Rattle.desk.specs.declared.Event.{Event}
 use Rattle.desk.specs.declared.Event.the-variants as event
+use Rattle.desk.specs.declared.marking.Asked.{Asked}
 use Rattle.desk.specs.declared.Stepped.{Stepped}
 
 -- ---- the desk afterwards
@@ -55,7 +55,7 @@ ackFor t = cond (eqb t 2) 3 5
 unfoldable pub setsMark : ℕ → Bool
 setsMark t = eqb t 2
 
--- what such a message asks: of these users, by ACKs of this type, that their mark becomes this
+-- what such a message asks: of these users, answered by ACKs of this type, that the mark of the accepted ones becomes this
 abbrev pub askedIn : Value → Asked
 askedIn v = record { users = v .users; ack = ackFor (v .pdu); mark = setsMark (v .pdu) }
 

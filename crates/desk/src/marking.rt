@@ -19,14 +19,14 @@ use profile::Kind;
 use profile::Meaning;
 use records::Record;
 
-// Of these users, by ACKs of this type, that their mark becomes this.
+// What a request asks: of these users, answered by ACKs of this type, that the mark of the accepted ones becomes `mark`.
 pub struct Asked {
     pub users: Group,
     pub ack: u8,
     pub mark: bool,
 }
 
-// `given`: dispatcher addresses are.
+// 14, 15, 21 where dispatcher addresses are given, or the request is carried out.
 pub(crate) fn change(
     desk: Desk,
     rows: [Record; 128],

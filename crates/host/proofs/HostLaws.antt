@@ -2,17 +2,16 @@
 -- and the outcome is decided. Assumes nothing.
 use Prim.Native.Nat.{ℕ, zero, suc, _<_}
 use mathlib.Core.Path.{_≡_, refl, sym, ap, _∙_}
-use mathlib.Core.Bool.{Bool, true, false, cond}
+use mathlib.Core.Bool.{Bool, false, cond}
 use mathlib.Core.List.{List, [], _∷_}
 use native.Mathlib.Omega.{arith}
 use lib.ListN.{length, getD, take, replicate}
 use Rattle.codec.specs.declared.Stop.{Stop}
 use Rattle.records.specs.Marking.{unmarked, nobodyMarked, noMarks}
-use Rattle.records.specs.Records.{noRecord, rowOf}
+use Rattle.records.specs.Records.{rowOf}
 use Rattle.records.specs.declared.Marks.{Marks}
 use Rattle.records.specs.declared.Record.{Record}
 use Rattle.sending.specs.Sending.{noLaid}
-use Rattle.desk.specs.declared.Answer.{Answer}
 use Rattle.desk.specs.declared.Answer.the-variants as answer
 use Rattle.desk.specs.declared.Desk.{Desk}
 use Rattle.desk.specs.declared.Event.{Event}

@@ -26,6 +26,7 @@ pub(crate) fn accepted(rows: [Record; 128], count: usize, post: u8, id: Identity
     }
 }
 
+// No record; the mark of those that come becomes `to`.
 pub(crate) fn nobody_marked(to: bool) -> Marks
     ensures { λ r. ⌜ r ≡ nobodyMarked to ⌝ }
 {
