@@ -4,6 +4,7 @@ use Rattle.records.proofs.records_ok as records-ok
 use Rattle.records.proofs.state_of as state-of
 use Rattle.records.proofs.restricted as restricted
 use Rattle.records.proofs.second as second
+use Rattle.records.proofs.judged_of as judged-of
 use Rattle.records.proofs.sorted_of as sorted-of
 use Rattle.records.proofs.marks_of as marks-of
 use Rattle.records.proofs.no_marks as no-marks
@@ -21,6 +22,9 @@ decides-restricted = record { says = restricted.Reads.Learnt; is = refl; one = �
 
 pub decides-second : Decides second.ended (λ M. second.spec)
 decides-second = record { says = second.Reads.Learnt; is = refl; one = λ κs a x y v w. same-answer }
+
+pub decides-judged-of : Decides judged-of.ended (λ M. judged-of.spec)
+decides-judged-of = record { says = judged-of.Reads.Learnt; is = refl; one = λ κs a x y v w. same-answer }
 
 pub decides-sorted-of : Decides sorted-of.ended (λ M. sorted-of.spec)
 decides-sorted-of = record { says = sorted-of.Reads.Learnt; is = refl; one = λ κs a x y v w. same-answer }

@@ -89,9 +89,10 @@ fn acks(
     let profile = desk.profile;
     let air = profile.air;
     let users = asked.users;
-    let sorted = records::sorted_of(air, users, rows, count, post);
+    let judged = records::judged_of(air, users, rows, count, post, asked.mark);
+    let sorted = judged.sorted;
+    let marks = judged.marks;
     let laid = sending::send_acks(profile, asked.ack, users, sorted, out);
-    let marks = records::marks_of(air, users, rows, count, post, asked.mark);
     Stepped {
         answer: Answer::Acks,
         laid: laid,

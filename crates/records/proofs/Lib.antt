@@ -3,5 +3,6 @@ pub mod RecordLaws
 pub mod PartyLaws
 pub mod OutcomeLaws
 pub mod MaskLaws
+pub mod JudgeLaws
 pub mod MarkLaws
 pub mod Cases

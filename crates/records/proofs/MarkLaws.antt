@@ -1,13 +1,13 @@
 -- The walk over the identities that marks records, and what it leaves. Assumes nothing.
 use Prim.Native.Nat.{ℕ, _+_, _<_, _≤_}
-use mathlib.Core.Path.{_≡_, refl, sym, ap, _∙_}
+use mathlib.Core.Path.{_≡_, refl, sym, _∙_}
 use mathlib.Core.Bool.{Bool, true, false, _||_, or-true, or-false, or-assoc}
 use mathlib.Core.List.{List, [], _∷_}
 use mathlib.Core.Logic.{⊎-elim}
 use native.Mathlib.Numerals.{add-one}
 use native.Mathlib.Omega.{arith}
 use lib.ListN.{length, getD, set, drop, length-set, length-replicate, getD-replicate, drop-of-length-le}
-use lib.Seq.{drop-cons, set-out, getD-set-same, getD-set-other}
+use lib.Seq.{drop-cons, getD-set-same, getD-set-other}
 use borrow.Author.Tests.{eq-eqb, ne-eqb}
 use Rattle.bits.proofs.SetLaws.{eq-or}
 use Rattle.profile.specs.declared.Air.{Air}
@@ -18,38 +18,18 @@ use Rattle.records.specs.declared.Marks.{Marks}
 use Rattle.records.specs.declared.search.Found.{Found}
 use Rattle.records.specs.declared.search.Found.the-variants as found
 use Rattle.records.specs.Identities.{noIdentity, identityAt, countOf, identitiesOf}
-use Rattle.records.specs.Records.{rowOf, recordOf}
 use Rattle.records.specs.Marking.{acceptedOf, unmarked, nobodyMarked, withBy, withMark, markAll, marksOf, isAt, wanted}
 use Rattle.records.proofs.IdentityLaws.{length-identities, identities-at}
 
--- ---- the accepted record of an identity
-
-module _ (f : Found) (rows : List Record) (id : Identity) (v : f ≡ recordOf rows id) where
-  pub acc-none : (post : ℕ) → f ≡ found.Nobody → found.Nobody ≡ acceptedOf rows post id
-  unfolding acceptedOf
-  acc-none post e = rw (← v, e)
-
-  module _ (i : ℕ) (r : Record) (w : r ≡ rowOf rows i) (post : ℕ) (e : f ≡ found.At i) where
-    pub acc-yes : r .post ≡ post → found.At i ≡ acceptedOf rows post id
-    unfolding acceptedOf
-    acc-yes h = rw (← v, e, ← w, eq-eqb (r .post) post h)
-
-    pub acc-no : (r .post ≡ post → ⊥) → found.Nobody ≡ acceptedOf rows post id
-    unfolding acceptedOf
-    acc-no h = rw (← v, e, ← w, ne-eqb (r .post) post h)
-
 -- ---- one more mark
-
-pub no-place : (at : List Bool) (i : ℕ) (to : Bool) → length at ≤ i → _≡_ {A = Marks} (record { at = at; mark = to }) (record { at = set at i true; mark = to })
-no-place at i to h = ap (λ (l : List Bool). record { at = l; mark = to }) (sym (set-out at i true h))
 
 pub with-none : (ms : Marks) (f : Found) → f ≡ found.Nobody → ms ≡ withMark ms f
 unfolding withMark
 with-none ms f e = rw e
 
-pub with-at : (ms r : Marks) (f : Found) (i : ℕ) → f ≡ found.At i → r ≡ record { at = set (ms .at) i true; mark = ms .mark } → r ≡ withMark ms f
+pub with-at : (ms : Marks) (f : Found) (i : ℕ) → f ≡ found.At i → _≡_ {A = Marks} (record { at = set (ms .at) i true; mark = ms .mark }) (withMark ms f)
 unfolding withMark
-with-at ms r f i e h = rw e h
+with-at ms f i e = rw e
 
 -- ---- the walk: what is left at identity i
 

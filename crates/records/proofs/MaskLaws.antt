@@ -85,8 +85,12 @@ module _ (class : ℕ) (os : List ℕ) where
     rest : fieldAt (λ k. one (has class os k)) (0 + n) (64 - n) ≡ 0
     rest = field-none (λ k. one (has class os k)) (0 + n) (64 - n) (λ i a b. past-none i (omega arith))
 
+    -- the bits of the n identities, and zeros
+    pub by-count : maskOf class os ≡ fieldAt (λ k. one (has class os k)) 0 n * 2 ^ (64 - n)
+    by-count = by-width ∙ field-split (λ k. one (has class os k)) 0 n (64 - n) ∙ rw rest (add-zero _)
+
     whole : maskOf class os / 2 ^ (64 - n) * 2 ^ (64 - n) ≡ maskOf class os
-    whole = rw front (sym (by-width ∙ field-split (λ k. one (has class os k)) 0 n (64 - n) ∙ rw rest (add-zero _)))
+    whole = rw front (sym by-count)
 
     -- a mask of n identities has no bit beyond the n-th
     pub mask-fits : maskC n .ok (maskOf class os) ≡ true

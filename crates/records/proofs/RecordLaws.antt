@@ -1,12 +1,12 @@
 -- The search for the record of an identity, a law for each turn and end of it, and what its answer says. Assumes nothing.
 use Prim.Native.Nat.{ℕ, zero, suc, _+_, _-_, _<_, _≤_}
-use mathlib.Core.Path.{_≡_, refl, sym, _∙_}
+use mathlib.Core.Path.{_≡_, refl, sym, _∙_, subst}
 use mathlib.Core.Bool.{Bool, true, false, cond}
 use mathlib.Core.List.{List, [], _∷_}
 use native.Mathlib.Numerals.{add-one}
 use native.Mathlib.Omega.{arith}
 use lib.Dec.{eqb}
-use lib.ListN.{length, length-take, getD, take, drop, drop-of-length-le, List·getD-eq-default}
+use lib.ListN.{length, length-take, getD, take, drop, drop-of-length-le}
 use lib.Seq.{drop-cons, getD-take}
 use borrow.Author.Tests.{eq-eqb, ne-eqb, eqb-true, le-leb, lt-leb}
 use Rattle.codec.specs.Codec.{both}
@@ -24,14 +24,6 @@ module _ (rows : List Record) (n i : ℕ) where
   pub row-in : i < n → getD rows i noRecord ≡ rowOf (take n rows) i
   unfolding rowOf
   row-in h = sym (getD-take n rows i noRecord h)
-
-  pub row-past : n ≤ i → noRecord ≡ rowOf (take n rows) i
-  unfolding rowOf
-  row-past h = sym (List·getD-eq-default (take n rows) noRecord (simp length-take (omega arith)))
-
-  pub row-over : length rows ≤ i → noRecord ≡ rowOf (take n rows) i
-  unfolding rowOf
-  row-over h = sym (List·getD-eq-default (take n rows) noRecord (simp length-take (omega arith)))
 
   module _ (h : i < length rows) (k : i < n) where
     in-rows : i < length (take n rows)
@@ -223,3 +215,15 @@ lowest-is rows id (found.At i) l =
 pub record-lowest : (rows : List Record) (id : Identity) → Lowest rows id (recordOf rows id)
 unfolding recordOf
 record-lowest rows id = lowest-is rows id (recordFrom 0 rows id) (lowest-from 0 rows id)
+
+-- ---- the record that is found is one of those lent
+
+module _ (f : Found) (rows : List Record) (n : ℕ) (id : Identity) (i : ℕ) (v : f ≡ recordOf (take n rows) id) (e : f ≡ found.At i) where
+  found-lt : i < length (take n rows)
+  found-lt = subst (λ (g : Found). Lowest (take n rows) id g) (sym v ∙ e) (record-lowest (take n rows) id) .0
+
+  pub found-in : i < length rows
+  found-in = omega (arith, found-lt, length-take n rows)
+
+  pub found-row : getD rows i noRecord ≡ rowOf (take n rows) i
+  found-row = row-in rows n i (omega (arith, found-lt, length-take n rows))

@@ -2,3 +2,4 @@ pub mod Identities
 pub mod Records
 pub mod Outcomes
 pub mod Marking
+pub mod Judging

@@ -1,10 +1,9 @@
 -- The outcomes of ACTIVATE and DEACTIVATE, and the masks of their ACKs: document 01, "User records and waiting calls".
 use Prim.Native.Nat.{ℕ}
-use mathlib.Core.Bool.{Bool, false, cond, _||_}
+use mathlib.Core.Bool.{Bool, false, not, cond, _||_}
 use mathlib.Core.List.{List, [], _∷_, map}
 use lib.Dec.{eqb, ltb}
-use lib.ListN.{getD, length, take, replicate}
-use lib.Seq.{sets}
+use lib.ListN.{getD, length}
 use Rattle.bits.specs.Fields.{fieldAt}
 use Rattle.codec.specs.Codec.{both}
 use Rattle.profile.specs.Counting.{one}
@@ -15,7 +14,6 @@ use Rattle.records.specs.declared.Identity.{Identity}
 use Rattle.records.specs.declared.Sorted.{Sorted}
 use Rattle.records.specs.declared.search.Found.{Found}
 use Rattle.records.specs.declared.search.Found.the-variants as found
-use Rattle.records.specs.declared.outcome.Outcomes.{Outcomes}
 use Rattle.records.specs.Identities.{identitiesOf}
 use Rattle.records.specs.Records.{rowOf, recordOf}
 
@@ -52,13 +50,6 @@ someOf class (o ∷ os) = eqb o class || someOf class os
 unfoldable pub sortedOf : List ℕ → Sorted
 sortedOf os = record { some = someOf 0 os ∷ someOf 1 os ∷ someOf 2 os ∷ []; mask = maskOf 0 os ∷ maskOf 1 os ∷ maskOf 2 os ∷ [] }
 
--- ---- outcomes as the code keeps them, in 64 places
-
-unfoldable pub zeros : List ℕ
-zeros = replicate 64 0
-
-unfoldable pub keptOf : List ℕ → Outcomes
-keptOf os = record { count = length os; list = sets zeros 0 os }
-
-abbrev pub listOf : Outcomes → List ℕ
-listOf o = take (o .count) (o .list)
+-- the same, by the masks alone: an outcome is there exactly if its mask is not 0
+unfoldable pub sortedBy : List ℕ → Sorted
+sortedBy masks = record { some = not (eqb (getD masks 0 0) 0) ∷ not (eqb (getD masks 1 0) 0) ∷ not (eqb (getD masks 2 0) 0) ∷ []; mask = masks }

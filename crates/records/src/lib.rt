@@ -2,7 +2,7 @@
 // the records. ACTIVATE and DEACTIVATE get the masks of their outcomes and which records to mark, INTERROGATE a state, set-up the restricted party's post.
 //
 // `rows` has room for 128 records; the first `count` are lent, and the others are never looked at. Every function takes every input,
-// also records that refusal 15 would name. The files go from small to large: identities, search, outcome, mark.
+// also records that refusal 15 would name. The files go from small to large: identities, search, outcome.
 ghost use mathlib.Core.Path.{_≡_};
 ghost use mathlib.Core.List.{[], _∷_};
 ghost use lib.ListN.{take};
@@ -10,13 +10,14 @@ ghost use Rattle.records.specs.Identities.{identityOf, identitiesOf};
 ghost use Rattle.records.specs.Records.{recordsOk, stateOf, restrictedOf, secondOf};
 ghost use Rattle.records.specs.Outcomes.{outcomesOf, sortedOf};
 ghost use Rattle.records.specs.Marking.{marksOf, noMarks};
+ghost use Rattle.records.specs.Judging.{judgedOf};
 use message::Address;
 use message::Group;
 use profile::Air;
 use profile::Profile;
+use search::Found;
 
 mod identities;
-mod mark;
 mod outcome;
 mod search;
 
@@ -51,6 +52,12 @@ pub struct Sorted {
 pub struct Marks {
     pub at: [bool; 128],
     pub mark: bool,
+}
+
+// What a request to change marks comes to: the outcomes of its identities, and the marks of the accepted ones.
+pub struct Judged {
+    pub sorted: Sorted,
+    pub marks: Marks,
 }
 
 // The ground of refusal 15 does not hold: at most 128 are lent, and each in use has a post below `posts` and numbers of 24 bits.
@@ -95,17 +102,59 @@ pub fn second(rows: [Record; 128], count: usize, caller: Identity, called: Ident
     other
 }
 
-// The outcomes of the group's identities for ACTIVATE or DEACTIVATE from a post, sorted.
+// What an ACTIVATE or DEACTIVATE of the group from a post comes to; the mark of the accepted ones becomes `to`. One walk over the
+// identities: each is searched for once, and the mask of its outcome gets its bit.
+pub fn judged_of(
+    air: Air,
+    group: Group,
+    rows: [Record; 128],
+    count: usize,
+    post: u8,
+    to: bool,
+) -> Judged
+    ensures { λ r. ⌜ r ≡ judgedOf to air group (take count rows) post ⌝ }
+{
+    let other = outcome::other_of(air);
+    let n = identities::count_of(air, group);
+    let mut masks = [0u64; 3];
+    let mut at = [false; 128];
+    let mut i: usize = 0;
+    while i < n {
+        let id = identities::identity_at(air, group, i);
+        let bit = outcome::bit_of(i);
+        i += 1;
+        match search::record_of(rows, count, id) {
+            Found::Nobody => {
+                masks[1] += bit;
+            }
+            Found::At(k) => {
+                let r = rows[k];
+                if r.post == post {
+                    masks[0] += bit;
+                    at[k] = true;
+                } else {
+                    masks[other] += bit;
+                }
+            }
+        }
+    }
+    let sorted = outcome::sorted_by(masks);
+    let marks = Marks { at: at, mark: to };
+    Judged {
+        sorted: sorted,
+        marks: marks,
+    }
+}
+
+// Of that the outcomes alone.
 pub fn sorted_of(air: Air, group: Group, rows: [Record; 128], count: usize, post: u8) -> Sorted
     ensures { λ r. ⌜ r ≡ sortedOf (outcomesOf air group (take count rows) post) ⌝ }
 {
-    let outcomes = outcome::outcomes_of(air, group, rows, count, post);
-    let n = outcomes.count;
-    let list = outcomes.list;
-    outcome::sort(list, n)
+    let judged = judged_of(air, group, rows, count, post, false);
+    judged.sorted
 }
 
-// The records whose mark becomes `to` by ACTIVATE or DEACTIVATE from a post: those of the accepted identities.
+// Of that the marks alone.
 pub fn marks_of(
     air: Air,
     group: Group,
@@ -116,20 +165,16 @@ pub fn marks_of(
 ) -> Marks
     ensures { λ r. ⌜ r ≡ marksOf to (take count rows) post (identitiesOf air group) ⌝ }
 {
-    let n = identities::count_of(air, group);
-    let mut marks = mark::nobody_marked(to);
-    let mut i: usize = 0;
-    while i < n {
-        let id = identities::identity_at(air, group, i);
-        marks = mark::with_mark(marks, mark::accepted(rows, count, post, id));
-        i += 1;
-    }
-    marks
+    let judged = judged_of(air, group, rows, count, post, to);
+    judged.marks
 }
 
 // None is changed.
 pub fn no_marks() -> Marks
     ensures { λ r. ⌜ r ≡ noMarks ⌝ }
 {
-    mark::nobody_marked(false)
+    Marks {
+        at: [false; 128],
+        mark: false,
+    }
 }

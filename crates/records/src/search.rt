@@ -2,7 +2,7 @@
 ghost use mathlib.Core.Path.{_≡_};
 ghost use Prim.Native.Nat.{_≤_};
 ghost use lib.ListN.{take};
-ghost use Rattle.records.specs.Records.{rowOf, is, recordOf, recordOk, allOk, stateOf, restricts, partyOf, restrictedOf};
+ghost use Rattle.records.specs.Records.{is, recordOf, recordOk, allOk, stateOf, restricts, partyOf, restrictedOf};
 use crate::Identity;
 use crate::Party;
 use crate::Record;
@@ -13,14 +13,6 @@ pub enum Found {
     Nobody,
     At(usize),
 }
-
-const NO_RECORD: Record = Record {
-    in_use: false,
-    ssi: 0,
-    extension: 0,
-    post: 0,
-    active: false,
-};
 
 pub(crate) const NO_PARTY: Party = Party {
     found: false,
@@ -57,18 +49,6 @@ pub(crate) fn record_of(rows: [Record; 128], count: usize, id: Identity) -> Foun
         i += 1;
     };
     found
-}
-
-// Record i of those lent.
-pub(crate) fn row_of(rows: [Record; 128], count: usize, i: usize) -> Record
-    ensures { λ r. ⌜ r ≡ rowOf (take count rows) i ⌝ }
-{
-    if i < count {
-        if i < Profile::RECORDS {
-            return rows[i];
-        }
-    }
-    NO_RECORD
 }
 
 // ---- refusal 15
@@ -111,7 +91,7 @@ pub(crate) fn state(rows: [Record; 128], count: usize, post: u8, id: Identity) -
     match record_of(rows, count, id) {
         Found::Nobody => 0,
         Found::At(i) => {
-            let r = row_of(rows, count, i);
+            let r = rows[i];
             if r.post != post {
                 return 1;
             }
