@@ -103,7 +103,7 @@ pub fn second(rows: [Record; 128], count: usize, caller: Identity, called: Ident
 }
 
 // What an ACTIVATE or DEACTIVATE of the group from a post comes to; the mark of the accepted ones becomes `to`. One walk over the
-// identities: each is searched for once, and the mask of its outcome gets its bit.
+// identities: each is searched for once, and the mask of its outcome (0 accepted, 1 failure U, `other` failure N) gets its bit.
 pub fn judged_of(
     air: Air,
     group: Group,
