@@ -1,9 +1,11 @@
 //! ACTIVATE ACK and DEACTIVATE ACK, which carry the same: the users, a mask or none, and the
 //! result with its reason. Read and written once for both.
 
-use crate::bits::{Bits, Refusal};
+use crate::bits::Bits;
+use crate::element::Element;
 use crate::message::{identity_count, read_users, Group};
 use crate::profile::Profile;
+use crate::refusal::Refusal;
 use crate::write::{put, put_group};
 
 #[derive(Clone, PartialEq, Eq, Debug)]
@@ -22,14 +24,15 @@ pub struct Ack {
 pub fn read_ack(profile: &Profile, bits: &mut Bits) -> Result<Ack, Refusal> {
     let users = read_users(profile, bits)?;
     let mut mask = None;
-    if bits.take(1)? == 1 {
-        mask = Some(bits.take_bits(identity_count(profile, &users))?);
+    if bits.take(Element::MaskPresent, 1)? == 1 {
+        let width = identity_count(profile, &users);
+        mask = Some(bits.take_bits(Element::Mask, width)?);
     }
-    let result = if bits.take(1)? == 1 {
+    let result = if bits.take(Element::Result, 1)? == 1 {
         AckResult::Accepted
     } else {
         AckResult::NotAccepted {
-            reason: bits.take(7)?,
+            reason: bits.take(Element::Reason, 7)?,
         }
     };
     Ok(Ack {

@@ -1,9 +1,10 @@
 //! A cursor over the bits of one message; the first bit is the top bit of byte 0.
 //! It takes one bit at a time: slow, and simple enough to be checked by eye.
 
-/// A number of document 01's table of refusals.
-pub type Refusal = u8;
+use crate::element::Element;
+use crate::refusal::Refusal;
 
+#[derive(Clone)]
 pub struct Bits<'a> {
     bytes: &'a [u8],
     length: usize,
@@ -24,22 +25,24 @@ impl<'a> Bits<'a> {
         self.length - self.next
     }
 
-    /// One element of `width` bits, refused whole where it reaches past the bit length.
-    pub fn take_bits(&mut self, width: usize) -> Result<Vec<bool>, Refusal> {
+    /// One element of `width` bits. Where it reaches past the bit length it is refused whole, with
+    /// its name and with the bit at which it would begin.
+    pub fn take_bits(&mut self, element: Element, width: usize) -> Result<Vec<bool>, Refusal> {
         if width > self.left() {
-            return Err(4);
+            let position = self.next;
+            return Err(Refusal::BrokeOff { position, element });
         }
-        let mut element = Vec::new();
+        let mut taken = Vec::new();
         for _ in 0..width {
-            element.push(self.take_one());
+            taken.push(self.take_one());
         }
-        Ok(element)
+        Ok(taken)
     }
 
     /// One element read as a number, most significant bit first.
-    pub fn take(&mut self, width: usize) -> Result<u32, Refusal> {
+    pub fn take(&mut self, element: Element, width: usize) -> Result<u32, Refusal> {
         let mut number = 0;
-        for bit in self.take_bits(width)? {
+        for bit in self.take_bits(element, width)? {
             number = 2 * number + u32::from(bit);
         }
         Ok(number)

@@ -7,11 +7,11 @@ pub use waiting::{posts_asked, restricted};
 
 use crate::ack::Ack;
 use crate::activate::{acks, set_marks};
-use crate::bits::Refusal;
 use crate::message::{read, Address, Group, Message};
 use crate::places::{places_keep_rules, Places, ALL_FREE};
 use crate::profile::Profile;
 use crate::records::{identities_of, identity_of, record_of, records_keep_rules, Record};
+use crate::refusal::Refusal::{self, Number};
 use crate::value::flat;
 use crate::write::write;
 
@@ -127,7 +127,7 @@ impl Desk {
             | Message::Accepted
             | Message::Cancel { .. }
             | Message::Diverted { .. }
-            | Message::Rejected { .. } => Err(8),
+            | Message::Rejected { .. } => Err(Number(8)),
         }
     }
 
@@ -190,9 +190,9 @@ impl Desk {
     }
 }
 
-fn refuse(ground: bool, number: Refusal) -> Result<(), Refusal> {
+fn refuse(ground: bool, number: u8) -> Result<(), Refusal> {
     if ground {
-        Err(number)
+        Err(Number(number))
     } else {
         Ok(())
     }

@@ -2,6 +2,7 @@
 //! content may be faulty.
 
 use crate::bits::Bits;
+use crate::element::Element;
 use crate::profile::Profile;
 
 /// Names each thing once: for the enum that is counted by, and for the table that is printed.
@@ -24,7 +25,8 @@ pub fn header_of(bytes: &[u8], length: usize) -> Option<(u32, u32)> {
         return None;
     }
     let mut header = Bits::new(bytes, length);
-    Some((header.take(6).ok()?, header.take(5).ok()?))
+    let ss_type = header.take(Element::SsType, 6).ok()?;
+    Some((ss_type, header.take(Element::PduType, 5).ok()?))
 }
 
 /// The type of a message whose header is whole and good.

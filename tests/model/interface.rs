@@ -1,45 +1,70 @@
 //! Reading and writing as a C program calls them, on numbers and byte buffers.
-//! The answer is 0 or the refusal's number; on a refusal nothing that was lent is changed.
+//! The answer is 0 or the refusal's number; on a refusal nothing that was lent is changed, but for
+//! the two numbers that come with a 4.
 
-use crate::bits::Refusal;
 use crate::layout::{read_profile, read_value, value_bytes, VALUE_BYTES};
 use crate::message::read;
+use crate::refusal::Refusal::{self, Number};
 use crate::value::flat;
 use crate::write::write;
 use std::slice;
 
 /// Reads a message; its value fills the first 241 bytes of the value area, which may be longer.
 pub fn cad_read(profile: &[u8], message: &[u8], bits: usize, value: &mut [u8]) -> u32 {
-    match try_read(profile, message, bits, value) {
-        Ok(()) => 0,
-        Err(refusal) => u32::from(refusal),
+    answer_of(try_read(profile, message, bits, value))
+}
+
+/// The same, and with a 4 also where the message broke off and the number of the element. With
+/// every other answer the two stay as they stood.
+pub fn cad_read_at(
+    profile: &[u8],
+    message: &[u8],
+    bits: usize,
+    value: &mut [u8],
+    position: &mut u32,
+    element: &mut u32,
+) -> u32 {
+    let outcome = try_read(profile, message, bits, value);
+    if let Err(Refusal::BrokeOff {
+        position: begins,
+        element: broken,
+    }) = outcome
+    {
+        *position = begins as u32;
+        *element = broken.number();
     }
+    answer_of(outcome)
 }
 
 /// Writes a value as a message and gives its bit length.
 pub fn cad_write(profile: &[u8], value: &[u8], message: &mut [u8], bits: &mut usize) -> u32 {
-    match try_write(profile, value, message) {
-        Ok(length) => {
-            *bits = length;
-            0
-        }
-        Err(refusal) => u32::from(refusal),
+    let outcome = try_write(profile, value, message);
+    if let Ok(length) = outcome {
+        *bits = length;
+    }
+    answer_of(outcome)
+}
+
+fn answer_of<T>(outcome: Result<T, Refusal>) -> u32 {
+    match outcome {
+        Ok(_) => 0,
+        Err(refusal) => u32::from(refusal.number()),
     }
 }
 
 fn try_read(profile: &[u8], message: &[u8], bits: usize, value: &mut [u8]) -> Result<(), Refusal> {
-    let profile = read_profile(profile).ok_or(1)?;
+    let profile = read_profile(profile).ok_or(Number(1))?;
     let message = read(&profile, message, bits)?;
     if value.len() < VALUE_BYTES {
-        return Err(14);
+        return Err(Number(14));
     }
     value[..VALUE_BYTES].copy_from_slice(&value_bytes(&flat(&message)));
     Ok(())
 }
 
 fn try_write(profile: &[u8], value: &[u8], message: &mut [u8]) -> Result<usize, Refusal> {
-    let profile = read_profile(profile).ok_or(1)?;
-    let value = read_value(value).ok_or(22)?;
+    let profile = read_profile(profile).ok_or(Number(1))?;
+    let value = read_value(value).ok_or(Number(22))?;
     write(&profile, &value, message)
 }
 
@@ -61,6 +86,30 @@ pub unsafe extern "C" fn model_cad_read(
         lent(message, message_len),
         bits,
         lent_to_write(value, value_len),
+    )
+}
+
+/// # Safety
+/// As for `model_cad_read`, and `position` and `element` lead to a number each.
+#[no_mangle]
+pub unsafe extern "C" fn model_cad_read_at(
+    profile: *const u8,
+    profile_len: usize,
+    message: *const u8,
+    message_len: usize,
+    bits: usize,
+    value: *mut u8,
+    value_len: usize,
+    position: *mut u32,
+    element: *mut u32,
+) -> u32 {
+    cad_read_at(
+        lent(profile, profile_len),
+        lent(message, message_len),
+        bits,
+        lent_to_write(value, value_len),
+        &mut *position,
+        &mut *element,
     )
 }
 

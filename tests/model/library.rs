@@ -2,10 +2,12 @@
 
 pub mod ack;
 pub mod bits;
+pub mod element;
 pub mod interface;
 pub mod layout;
 pub mod message;
 pub mod profile;
+pub mod refusal;
 pub mod request;
 pub mod value;
 pub mod write;

@@ -4,6 +4,7 @@
 use crate::line::{lines_of, read_line};
 use crate::message::read;
 use crate::profile::{sample, Profile};
+use crate::refusal::Refusal::{self, Number};
 use std::io::{self, Write};
 
 pub fn list(input: &[u8], out: &mut dyn Write) -> io::Result<()> {
@@ -17,10 +18,18 @@ pub fn list(input: &[u8], out: &mut dyn Write) -> io::Result<()> {
 fn answer(profile: &Profile, line: &[u8]) -> String {
     let outcome = match read_line(line) {
         Some((length, bytes)) => read(profile, &bytes, length),
-        None => Err(3),
+        None => Err(Number(3)),
     };
     match outcome {
         Ok(message) => message.name().to_string(),
-        Err(refusal) => format!("refused {refusal}"),
+        Err(refusal) => refused(refusal),
+    }
+}
+
+/// A 4 says where the message broke off; in which element is for the replay to say.
+fn refused(refusal: Refusal) -> String {
+    match refusal {
+        Refusal::BrokeOff { position, .. } => format!("refused 4 at {position}"),
+        Number(number) => format!("refused {number}"),
     }
 }

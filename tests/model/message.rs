@@ -1,9 +1,12 @@
 //! The messages that are carried and how one is read from a byte buffer and a bit length.
-//! Every refusal is given by document 01's number, in the order of its "Order" paragraph.
+//! Every refusal is given by document 01's number, in the order of its "Order" paragraph; a 4 says
+//! which element did not fit, and where it begins.
 
 use crate::ack::{read_ack, Ack};
-use crate::bits::{Bits, Refusal};
+use crate::bits::Bits;
+use crate::element::Element;
 use crate::profile::{Meaning, Profile};
+use crate::refusal::Refusal::{self, Number};
 use crate::request::{read_options, Options};
 
 pub const MOST_BITS: usize = 2048;
@@ -115,28 +118,28 @@ impl Message {
 
 pub fn read(profile: &Profile, bytes: &[u8], length: usize) -> Result<Message, Refusal> {
     if !profile.keeps_rules() {
-        return Err(1);
+        return Err(Number(1));
     }
     if length == 0 || length > MOST_BITS || length > 8 * bytes.len() {
-        return Err(3);
+        return Err(Number(3));
     }
     let mut bits = Bits::new(bytes, length);
     let message = read_elements(profile, &mut bits)?;
     if bits.left() > 0 {
-        return Err(13);
+        return Err(Number(13));
     }
     Ok(message)
 }
 
 fn read_elements(profile: &Profile, bits: &mut Bits) -> Result<Message, Refusal> {
     // The header is both fields: neither is judged before both are there.
-    let ss_type = bits.take(6)?;
-    let pdu_type = bits.take(5)?;
+    let ss_type = bits.take(Element::SsType, 6)?;
+    let pdu_type = bits.take(Element::PduType, 5)?;
     if ss_type != profile.ss_type {
-        return Err(5);
+        return Err(Number(5));
     }
     match pdu_type {
-        0 | 1 | 19..=31 => Err(6),
+        0 | 1 | 19..=31 => Err(Number(6)),
         2 => read_activate(profile, bits),
         3 => Ok(Message::ActivateAck(read_ack(profile, bits)?)),
         4 => Ok(Message::Deactivate {
@@ -147,38 +150,38 @@ fn read_elements(profile: &Profile, bits: &mut Bits) -> Result<Message, Refusal>
             user: read_address(bits)?,
         }),
         10 => Ok(Message::Intercepted {
-            cause: bits.take(5)?,
+            cause: bits.take(Element::Cause, 5)?,
             dispatcher: read_optional_address(bits)?,
         }),
         11 => Ok(Message::Request {
-            identifier: bits.take(14)?,
-            cause: bits.take(5)?,
+            identifier: bits.take(Element::Identifier, 14)?,
+            cause: bits.take(Element::Cause, 5)?,
             options: read_options(bits)?,
         }),
         12 => Ok(Message::Accept {
-            identifier: bits.take(14)?,
+            identifier: bits.take(Element::Identifier, 14)?,
         }),
         13 => Ok(Message::Accepted),
         14 => Ok(Message::Cancel {
-            identifier: bits.take(14)?,
+            identifier: bits.take(Element::Identifier, 14)?,
         }),
         15 => Ok(Message::Divert {
-            identifier: bits.take(14)?,
+            identifier: bits.take(Element::Identifier, 14)?,
         }),
         16 => Ok(Message::Diverted {
-            cause: bits.take(5)?,
+            cause: bits.take(Element::Cause, 5)?,
             dispatcher: read_optional_address(bits)?,
         }),
         17 => Ok(Message::Reject {
-            identifier: bits.take(14)?,
-            cause: bits.take(5)?,
+            identifier: bits.take(Element::Identifier, 14)?,
+            cause: bits.take(Element::Cause, 5)?,
         }),
         18 => Ok(Message::Rejected {
-            cause: bits.take(5)?,
+            cause: bits.take(Element::Cause, 5)?,
             dispatcher: read_optional_address(bits)?,
         }),
         // 6, 7 and 9: the CAD types that are not carried yet.
-        _ => Err(7),
+        _ => Err(Number(7)),
     }
 }
 
@@ -193,11 +196,11 @@ fn read_activate(profile: &Profile, bits: &mut Bits) -> Result<Message, Refusal>
 
 /// The O-bit, and after an O-bit of 1 the one P-bit, which has to be 1.
 fn read_option_present(bits: &mut Bits) -> Result<bool, Refusal> {
-    if bits.take(1)? == 0 {
+    if bits.take(Element::OBit, 1)? == 0 {
         return Ok(false);
     }
-    if bits.take(1)? == 0 {
-        return Err(12);
+    if bits.take(Element::PBit, 1)? == 0 {
+        return Err(Number(12));
     }
     Ok(true)
 }
@@ -211,23 +214,23 @@ fn read_optional_address(bits: &mut Bits) -> Result<Option<Address>, Refusal> {
 }
 
 pub fn read_users(profile: &Profile, bits: &mut Bits) -> Result<Group, Refusal> {
-    let range = bits.take(4)?;
+    let range = bits.take(Element::Range, 4)?;
     if meaning_of(profile, range) == Meaning::NoIdentity {
-        return Err(9);
+        return Err(Number(9));
     }
     read_addresses(profile, range, bits)
 }
 
 /// A group that may be "none", as the dispatchers may.
 fn read_group(profile: &Profile, bits: &mut Bits) -> Result<Group, Refusal> {
-    let range = bits.take(4)?;
+    let range = bits.take(Element::Range, 4)?;
     read_addresses(profile, range, bits)
 }
 
 fn read_addresses(profile: &Profile, range: u32, bits: &mut Bits) -> Result<Group, Refusal> {
     let mut addresses = Vec::new();
     match meaning_of(profile, range) {
-        Meaning::Reserved => return Err(9),
+        Meaning::Reserved => return Err(Number(9)),
         Meaning::NoIdentity => {}
         Meaning::List(count) => {
             for _ in 0..count {
@@ -238,7 +241,7 @@ fn read_addresses(profile: &Profile, range: u32, bits: &mut Bits) -> Result<Grou
             let first = read_address(bits)?;
             let last = read_address(bits)?;
             if !are_range_ends(&first, &last) {
-                return Err(11);
+                return Err(Number(11));
             }
             addresses.push(first);
             addresses.push(last);
@@ -257,12 +260,16 @@ pub fn are_range_ends(first: &Address, last: &Address) -> bool {
 }
 
 pub fn read_address(bits: &mut Bits) -> Result<Address, Refusal> {
-    let kind = bits.take(2)?;
+    let kind = bits.take(Element::Kind, 2)?;
     if kind == 0 || kind == 3 {
-        return Err(10);
+        return Err(Number(10));
     }
-    let ssi = bits.take(24)?;
-    let extension = if kind == 2 { bits.take(24)? } else { 0 };
+    let ssi = bits.take(Element::Ssi, 24)?;
+    let extension = if kind == 2 {
+        bits.take(Element::Extension, 24)?
+    } else {
+        0
+    };
     Ok(Address {
         kind,
         ssi,

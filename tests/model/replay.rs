@@ -1,13 +1,13 @@
 //! The replay program: a desk run from a script, one call a line, each answered in words.
 //! The sample profile is in force at the start, with no record lent and 300 bytes of output.
 
-use crate::bits::Refusal;
 use crate::desk::{Answer, Desk, Lent, State};
 use crate::hex::hex_of;
 use crate::line::lines_of;
 use crate::places::Call;
 use crate::profile::sample;
 use crate::records::Record;
+use crate::refusal::Refusal::{self, Number};
 use crate::script::{read_script_line, Line, MOST_OUTPUT};
 use std::io::{self, Write};
 
@@ -51,7 +51,9 @@ impl Replay {
             output: &mut output,
         };
         let outcome = match line {
-            Line::Profile(profile) => return self.open(profile.ok_or(1).and_then(Desk::open)),
+            Line::Profile(profile) => {
+                return self.open(profile.ok_or(Number(1)).and_then(Desk::open))
+            }
             Line::Record { number, record } => return self.set_record(number, record),
             Line::Out { bytes } => {
                 self.output_bytes = bytes;
@@ -88,7 +90,7 @@ impl Replay {
                 self.desk = desk;
                 None
             }
-            Err(refusal) => Some(format!("refused {refusal}")),
+            Err(refusal) => Some(refused(refusal)),
         }
     }
 
@@ -154,7 +156,7 @@ fn call_words(call: &Call) -> String {
 fn words(outcome: Result<Answer, Refusal>, output: &[u8]) -> String {
     let hex = |at: usize, bits: usize| hex_of(&output[at..at + (bits + 7) / 8]);
     match outcome {
-        Err(refusal) => format!("refused {refusal}"),
+        Err(refusal) => refused(refusal),
         Ok(Answer::Acks { bits }) => {
             let mut words = vec!["acks".to_string(), bits.len().to_string()];
             words.extend(bits.iter().map(usize::to_string));
@@ -179,6 +181,16 @@ fn words(outcome: Result<Answer, Refusal>, output: &[u8]) -> String {
         Ok(Answer::Diverted { bits }) => format!("diverted {}", hex(0, bits)),
         Ok(Answer::Rejected { bits }) => format!("rejected {}", hex(0, bits)),
         Ok(Answer::Cancelled { post, bits }) => format!("cancelled {post} {}", hex(0, bits)),
+    }
+}
+
+/// A 4 says where the message broke off, and in which element.
+pub fn refused(refusal: Refusal) -> String {
+    match refusal {
+        Refusal::BrokeOff { position, element } => {
+            format!("refused 4 at {position} {}", element.name())
+        }
+        Number(number) => format!("refused {number}"),
     }
 }
 

@@ -1,8 +1,10 @@
 //! REQUEST's seven options, read and written: one O-bit, and after an O-bit of 1 a P-bit before
 //! each, in the order of the standard's table 31. Basic service stands calling, called there.
 
-use crate::bits::{Bits, Refusal};
+use crate::bits::Bits;
+use crate::element::Element;
 use crate::message::{read_address, Address};
+use crate::refusal::Refusal::{self, Number};
 use crate::write::{put, put_address};
 
 pub const MNI_BITS: usize = 24;
@@ -22,20 +24,22 @@ pub struct Options {
 
 /// 12 after the last P-bit, if there was no option behind any of them.
 pub fn read_options(bits: &mut Bits) -> Result<Options, Refusal> {
-    if bits.take(1)? == 0 {
+    if bits.take(Element::OBit, 1)? == 0 {
         return Ok(Options::default());
     }
+    let area = |bits: &mut Bits| bits.take(Element::Area, AREA_BITS);
+    let service = |bits: &mut Bits| bits.take(Element::BasicService, SERVICE_BITS);
     let options = Options {
         calling: read_behind_p_bit(bits, read_address)?,
         called: read_behind_p_bit(bits, read_address)?,
-        mni: read_behind_p_bit(bits, |bits| bits.take(MNI_BITS))?,
-        calling_area: read_behind_p_bit(bits, |bits| bits.take(AREA_BITS))?,
-        called_area: read_behind_p_bit(bits, |bits| bits.take(AREA_BITS))?,
-        calling_service: read_behind_p_bit(bits, |bits| bits.take(SERVICE_BITS))?,
-        called_service: read_behind_p_bit(bits, |bits| bits.take(SERVICE_BITS))?,
+        mni: read_behind_p_bit(bits, |bits| bits.take(Element::Mni, MNI_BITS))?,
+        calling_area: read_behind_p_bit(bits, area)?,
+        called_area: read_behind_p_bit(bits, area)?,
+        calling_service: read_behind_p_bit(bits, service)?,
+        called_service: read_behind_p_bit(bits, service)?,
     };
     if options == Options::default() {
-        return Err(12);
+        return Err(Number(12));
     }
     Ok(options)
 }
@@ -44,7 +48,7 @@ fn read_behind_p_bit<T>(
     bits: &mut Bits,
     read: impl Fn(&mut Bits) -> Result<T, Refusal>,
 ) -> Result<Option<T>, Refusal> {
-    if bits.take(1)? == 0 {
+    if bits.take(Element::PBit, 1)? == 0 {
         return Ok(None);
     }
     Ok(Some(read(bits)?))

@@ -1,10 +1,10 @@
 //! The rounds: each row of the table of worked values is written, read and written again.
 //! What is printed is the whole area, so that bytes touched past the message would show.
 
-use crate::bits::Refusal;
 use crate::hex::hex_of;
 use crate::message::read;
 use crate::profile::{sample, Profile};
+use crate::refusal::Refusal;
 use crate::table::{rows, Row};
 use crate::value::flat;
 use crate::write::write;
@@ -21,9 +21,14 @@ pub fn print_rounds(out: &mut dyn Write) -> io::Result<()> {
 fn print_row(profile: &Profile, number: usize, row: &Row, out: &mut dyn Write) -> io::Result<()> {
     let mut area = vec![0xAA; row.area];
     match write(profile, &row.value, &mut area) {
-        Err(refusal) => writeln!(out, "{number} refused {refusal} {}", hex_of(&area)),
+        Err(refusal) => writeln!(
+            out,
+            "{number} refused {} {}",
+            refusal.number(),
+            hex_of(&area)
+        ),
         Ok(length) => match again(profile, &area, length) {
-            Err(refusal) => writeln!(out, "{number} read back: refused {refusal}"),
+            Err(refusal) => writeln!(out, "{number} read back: refused {}", refusal.number()),
             Ok((name, again_length, again_area)) => {
                 writeln!(out, "{number} {name} {length} {}", hex_of(&area))?;
                 writeln!(out, "{number} again {again_length} {}", hex_of(&again_area))

@@ -3,8 +3,9 @@
 //! papers', typed in here; nothing is computed by `read`.
 
 use crate::ack::{Ack, AckResult};
-use crate::bits::Refusal;
+use crate::element::Element;
 use crate::message::{Address, Group, Message};
+use crate::refusal::Refusal::{self, Number};
 use crate::request::Options;
 use crate::write::elements;
 
@@ -29,8 +30,8 @@ pub fn cases() -> Vec<Case> {
     };
     vec![
         case("1", "25A0", 11, Ok(Message::Accepted)),
-        case("1", "25A0", 12, Err(13)),
-        case("1", "25A0", 10, Err(4)),
+        case("1", "25A0", 12, Err(Number(13))),
+        case("1", "25A0", 10, broke_off(6, Element::PduType)),
         case("2", "25800280", 25, Ok(Message::Accept { identifier: 5 })),
         case(
             "3",
@@ -133,15 +134,15 @@ pub fn request_cases() -> Vec<Case> {
         case("264200", 17, rejected(None)),
         case("2642D0003E90", 44, rejected(Some(at_home(1001)))),
         // REQUEST with an O-bit of 1: seven P-bits of 0, and one P-bit fewer.
-        case("2560028200", 38, Err(12)),
-        case("2560028200", 37, Err(4)),
+        case("2560028200", 38, Err(Number(12))),
+        case("2560028200", 37, broke_off(37, Element::PBit)),
         // A calling and then a called address of kinds 0 and 3.
-        case("256002830000", 41, Err(10)),
-        case("25600283C000", 41, Err(10)),
-        case("256002828000", 41, Err(10)),
-        case("25600282E000", 41, Err(10)),
-        case("25C00280", 26, Err(13)),
-        case("26200288", 31, Err(13)),
+        case("256002830000", 41, Err(Number(10))),
+        case("25600283C000", 41, Err(Number(10))),
+        case("256002828000", 41, Err(Number(10))),
+        case("25600282E000", 41, Err(Number(10))),
+        case("25C00280", 26, Err(Number(13))),
+        case("26200288", 31, Err(Number(13))),
     ]
 }
 
@@ -171,8 +172,8 @@ pub fn deactivation_cases() -> Vec<Case> {
     );
     vec![
         case("249E8001F4A0007D80", 67, Ok(deactivate)),
-        case("249E8001F4A0007D80", 68, Err(13)),
-        case("249E8001F4A0007D80", 66, Err(4)),
+        case("249E8001F4A0007D80", 68, Err(Number(13))),
+        case("249E8001F4A0007D80", 66, broke_off(43, Element::Ssi)),
         case(
             "24BE8001F4A0007D9C80",
             73,
@@ -189,8 +190,8 @@ pub fn deactivation_cases() -> Vec<Case> {
             ack([false, false, false, true], other_post),
         ),
         // An ACK's reason cut by one bit, and a bit behind the result that says accepted.
-        case("24BE8001F4A0007D9201", 79, Err(4)),
-        case("24BE8001F4A0007D9C80", 74, Err(13)),
+        case("24BE8001F4A0007D9201", 79, broke_off(73, Element::Reason)),
+        case("24BE8001F4A0007D9C80", 74, Err(Number(13))),
     ]
 }
 
@@ -199,6 +200,10 @@ fn users_of_case_8() -> Group {
         range: 15,
         addresses: vec![at_home(1001), at_home(1004)],
     }
+}
+
+fn broke_off(position: usize, element: Element) -> Result<Message, Refusal> {
+    Err(Refusal::BrokeOff { position, element })
 }
 
 /// An address of kind 1.

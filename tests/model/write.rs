@@ -2,9 +2,9 @@
 //! `bits_of` checks nothing: a message that reading would refuse is written as it stands.
 
 use crate::ack::put_ack;
-use crate::bits::Refusal;
 use crate::message::{Address, Group, Message};
 use crate::profile::Profile;
+use crate::refusal::Refusal::{self, Number};
 use crate::request::put_options;
 use crate::value::{valid_message, Value};
 
@@ -12,13 +12,13 @@ use crate::value::{valid_message, Value};
 /// are zero and no later byte is touched. A refusal leaves the area as it stood.
 pub fn write(profile: &Profile, value: &Value, area: &mut [u8]) -> Result<usize, Refusal> {
     if !profile.keeps_rules() {
-        return Err(1);
+        return Err(Number(1));
     }
-    let message = valid_message(profile, value).ok_or(22)?;
+    let message = valid_message(profile, value).ok_or(Number(22))?;
     let bits = bits_of(profile, &message);
     let bytes = bytes_of(&bits);
     if area.len() < bytes.len() {
-        return Err(14);
+        return Err(Number(14));
     }
     area[..bytes.len()].copy_from_slice(&bytes);
     Ok(bits.len())

@@ -7,7 +7,8 @@ use crate::ack::{Ack, AckResult};
 use crate::event::{header_of, pdu_type_of};
 use crate::message::{read, Message};
 use crate::records::{record_of, records_keep_rules, Identity, Record, MOST_RECORDS};
-use crate::replay::Replay;
+use crate::refusal::Refusal::{self, Number};
+use crate::replay::{refused, Replay};
 use crate::step::Step;
 
 impl Watch {
@@ -40,14 +41,14 @@ impl Watch {
             (Ok(Message::Reject { identifier, .. }), _) => {
                 self.ended(step, identifier, Event::ReleasedByMessage);
             }
-            (Err(5), "refused 5") => match header_of(bytes, bits) {
+            (Err(Number(5)), "refused 5") => match header_of(bytes, bits) {
                 Some((_, 4)) => self.count(Event::Request5),
                 Some((_, 5)) => self.count(Event::AckRead5),
                 _ => {}
             },
             (Err(refusal), _) => {
                 let pdu_type = pdu_type_of(profile, bytes, bits);
-                if answer == format!("refused {refusal}") {
+                if answer == refused(refusal) {
                     self.not_read(step, bytes, bits, pdu_type, refusal);
                 } else if answer == "refused 2" {
                     self.count_if(pdu_type == Some(4), Event::Post2BeforeReading);
@@ -129,9 +130,9 @@ impl Watch {
         bytes: &[u8],
         bits: usize,
         pdu_type: Option<u32>,
-        refusal: u8,
+        refusal: Refusal,
     ) {
-        match (pdu_type, refusal) {
+        match (pdu_type, refusal.number()) {
             (Some(6), 7) => self.count(Event::Type6),
             (Some(7), 7) => self.count(Event::Type7),
             (Some(9), 7) => self.count(Event::Type9),

@@ -2,10 +2,10 @@
 
 use super::events::Event;
 use crate::bits::Bits;
-use crate::message::{identity_count, meaning_of, read_address, read_users, Address};
+use crate::element::Element;
+use crate::message::{meaning_of, read_address, Address};
 use crate::profile::{Meaning, Profile};
-
-const HEADER_BITS: usize = 11;
+use crate::refusal::Refusal::{self, BrokeOff, Number};
 
 /// What to count of a message of type 4 or 5 that was refused so; its header is good.
 pub fn not_read(
@@ -13,22 +13,22 @@ pub fn not_read(
     bytes: &[u8],
     length: usize,
     pdu_type: u32,
-    refusal: u8,
+    refusal: Refusal,
 ) -> Option<Event> {
     let ack = pdu_type == 5;
     let of_either = |request, of_ack| Some(if ack { of_ack } else { request });
     match refusal {
-        4 if ack => Some(cut_ack(profile, bytes, length)),
-        4 => Some(Event::Request4),
-        9 => match meaning_of(profile, number_at(bytes, length, HEADER_BITS, 4)?) {
+        BrokeOff { element, .. } if ack => Some(cut_ack(element)),
+        BrokeOff { .. } => Some(Event::Request4),
+        Number(9) => match meaning_of(profile, range(bytes, length)?) {
             Meaning::NoIdentity => of_either(Event::Request9None, Event::AckRead9None),
             _ => of_either(Event::Request9Reserved, Event::AckRead9Reserved),
         },
-        10 => match refused_kind(bytes, length)? {
+        Number(10) => match refused_kind(bytes, length)? {
             0 => of_either(Event::Request10Kind0, Event::AckRead10Kind0),
             _ => of_either(Event::Request10Kind3, Event::AckRead10Kind3),
         },
-        11 => {
+        Number(11) => {
             let (first, last) = ends(bytes, length)?;
             if first.kind != last.kind {
                 of_either(Event::Request11Kind, Event::AckRead11Kind)
@@ -40,27 +40,18 @@ pub fn not_read(
                 of_either(Event::Request11Spans, Event::AckRead11Spans)
             }
         }
-        13 => of_either(Event::Request13, Event::AckRead13),
+        Number(13) => of_either(Event::Request13, Event::AckRead13),
         _ => None,
     }
 }
 
 /// At which of an ACK's elements the bits end.
-fn cut_ack(profile: &Profile, bytes: &[u8], length: usize) -> Event {
-    let mut bits = Bits::new(bytes, length);
-    let users = match bits
-        .take_bits(HEADER_BITS)
-        .and_then(|_| read_users(profile, &mut bits))
-    {
-        Ok(users) => users,
-        Err(_) => return Event::AckRead4Users,
-    };
-    if bits.take(1) == Ok(1) && bits.take_bits(identity_count(profile, &users)).is_err() {
-        return Event::AckRead4Mask;
-    }
-    match bits.take(1) {
-        Ok(0) => Event::AckRead4Reason,
-        _ => Event::AckRead4Result,
+fn cut_ack(element: Element) -> Event {
+    match element {
+        Element::MaskPresent | Element::Result => Event::AckRead4Result,
+        Element::Mask => Event::AckRead4Mask,
+        Element::Reason => Event::AckRead4Reason,
+        _ => Event::AckRead4Users,
     }
 }
 
@@ -68,9 +59,9 @@ fn cut_ack(profile: &Profile, bytes: &[u8], length: usize) -> Event {
 fn refused_kind(bytes: &[u8], length: usize) -> Option<u32> {
     let mut bits = behind_range(bytes, length)?;
     loop {
-        let before = length - bits.left();
-        if read_address(&mut bits) == Err(10) {
-            return number_at(bytes, length, before, 2);
+        let mut before = bits.clone();
+        if read_address(&mut bits) == Err(Number(10)) {
+            return before.take(Element::Kind, 2).ok();
         }
         if bits.left() == 0 {
             return None;
@@ -83,14 +74,19 @@ fn ends(bytes: &[u8], length: usize) -> Option<(Address, Address)> {
     Some((read_address(&mut bits).ok()?, read_address(&mut bits).ok()?))
 }
 
+fn range(bytes: &[u8], length: usize) -> Option<u32> {
+    behind_header(bytes, length)?.take(Element::Range, 4).ok()
+}
+
 fn behind_range(bytes: &[u8], length: usize) -> Option<Bits<'_>> {
-    let mut bits = Bits::new(bytes, length);
-    bits.take_bits(HEADER_BITS + 4).ok()?;
+    let mut bits = behind_header(bytes, length)?;
+    bits.take(Element::Range, 4).ok()?;
     Some(bits)
 }
 
-fn number_at(bytes: &[u8], length: usize, place: usize, width: usize) -> Option<u32> {
+fn behind_header(bytes: &[u8], length: usize) -> Option<Bits<'_>> {
     let mut bits = Bits::new(bytes, length);
-    bits.take_bits(place).ok()?;
-    bits.take(width).ok()
+    bits.take(Element::SsType, 6).ok()?;
+    bits.take(Element::PduType, 5).ok()?;
+    Some(bits)
 }

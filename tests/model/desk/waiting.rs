@@ -1,10 +1,10 @@
 //! The waiting calls of the desk: set-up, and all that moves or ends a call.
 
 use super::{long_enough, refuse, Answer, Desk, Lent, BYTES_BETWEEN};
-use crate::bits::Refusal;
 use crate::message::Message;
 use crate::places::{admits, lowest_free, place_of, without, Call};
 use crate::records::{record_of, Identity, Record};
+use crate::refusal::Refusal::{self, Number};
 use crate::request::Options;
 
 impl Desk {
@@ -142,16 +142,16 @@ impl Desk {
         self.sound()?;
         fitting_identifier(identifier)?;
         long_enough(lent.output)?;
-        let place = place_of(&self.places, identifier).ok_or(19)?;
-        let Call { post, .. } = self.places[place].take().ok_or(19)?;
+        let place = place_of(&self.places, identifier).ok_or(Number(19))?;
+        let Call { post, .. } = self.places[place].take().ok_or(Number(19))?;
         let bits = self.put(&Message::Cancel { identifier }, lent.output);
         Ok(Answer::Cancelled { post, bits })
     }
 
     /// The call that waits at the post, and its place: 19, 20.
     fn waiting_at(&self, post: u32, identifier: u32) -> Result<(usize, Call), Refusal> {
-        let place = place_of(&self.places, identifier).ok_or(19)?;
-        let call = self.places[place].ok_or(19)?;
+        let place = place_of(&self.places, identifier).ok_or(Number(19))?;
+        let call = self.places[place].ok_or(Number(19))?;
         refuse(call.post != post, 20)?;
         Ok((place, call))
     }

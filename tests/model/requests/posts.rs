@@ -4,6 +4,7 @@ use super::events::Event;
 use super::Watch;
 use crate::event::pdu_type_of;
 use crate::message::{read, Message};
+use crate::replay::refused;
 use crate::request::Options;
 use crate::step::Step;
 
@@ -26,9 +27,9 @@ impl Watch {
                 self.accept_or_divert(step, identifier);
             }
             Ok(message) if answer == "refused 8" => self.not_sent_by_posts(step, &message),
-            Err(refusal) if answer == format!("refused {refusal}") => {
+            Err(refusal) if answer == refused(refusal) => {
                 if let Some(pdu_type) = pdu_type_of(profile, bytes, bits) {
-                    self.not_read(pdu_type, refusal);
+                    self.not_read(pdu_type, refusal.number());
                 }
             }
             _ => {}

@@ -4,13 +4,13 @@
 use super::laws::{enough, run_history, Laws, LINES_OF_HISTORY};
 use super::Report;
 use crate::ack::Ack;
-use crate::bits::Refusal;
 use crate::desk::{Answer, Desk, Lent};
 use crate::event::named;
 use crate::message::{read, Group, Message};
 use crate::profile::Profile;
 use crate::records::{identities_of, Identity, Record};
-use crate::replay::Replay;
+use crate::refusal::Refusal::{self, Number};
+use crate::replay::{refused, Replay};
 use crate::script::Line;
 use crate::step::Step;
 use crate::write::{bits_of, bytes_of};
@@ -76,7 +76,7 @@ fn try_message(
     message: &Message,
 ) -> Tried {
     let mut tried = Tried {
-        answer: Err(0),
+        answer: Err(Number(0)),
         desk: desk.clone(),
         records: records.to_vec(),
         output: vec![0xAA; output_bytes],
@@ -124,7 +124,7 @@ impl Seen {
         let marked = tried(records, &activate);
         let as_activate = match (&cleared.answer, &marked.answer) {
             (Err(one), Err(other)) => {
-                one == other && answer == format!("refused {one}") && cleared.records == *records
+                one == other && answer == refused(*one) && cleared.records == *records
             }
             (Ok(_), Ok(_)) => answer.starts_with("acks"),
             _ => false,

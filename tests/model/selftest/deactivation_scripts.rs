@@ -60,7 +60,7 @@ dump
 7 refused 2
 8 refused 2
 9 refused 2
-10 refused 4
+10 refused 4 at 43 ssi
 11 refused 13
 12 refused 13
 13 refused 8
@@ -126,10 +126,10 @@ post 0 67 253E8001F4A0007D80
         "\
 1 refused 9
 2 refused 9
-3 refused 4
+3 refused 4 at 11 range
 4 refused 10
 5 refused 10
-6 refused 4
+6 refused 4 at 15 kind
 7 refused 11
 8 refused 11
 9 acks 1 76 24BE8001F4A000850010

@@ -12,6 +12,7 @@ use crate::hex::read_hex;
 use crate::message::{read, Message};
 use crate::profile::sample;
 use crate::records::Record;
+use crate::refusal::Refusal::Number;
 use crate::user_fault;
 use crate::write::{bytes_of, elements};
 use std::io;
@@ -97,7 +98,7 @@ fn read_as_activate(report: &mut Report) -> io::Result<()> {
             }
             (Ok(Message::DeactivateAck(ack)), 3) => Ok(Message::ActivateAck(ack)),
             // What is left over behind a DEACTIVATE could be an ACTIVATE's option.
-            (Err(13), 2) => continue,
+            (Err(Number(13)), 2) => continue,
             (other, _) => other,
         };
         good &= read_with(&bits) == as_activate;

@@ -10,6 +10,7 @@ use crate::hex::hex_of;
 use crate::message::{read, Message};
 use crate::profile::Profile;
 use crate::records::{Identity, Record};
+use crate::replay::refused;
 use crate::script::Line;
 use crate::write::{bits_of, bytes_of};
 use std::io;
@@ -95,12 +96,11 @@ impl Seen {
     fn judge(&mut self, ledger: &Ledger, before: &Desk, first: u32, second: u32, answer: &str) {
         let share = &before.profile.posts[second as usize];
         let held = ledger.held[second as usize] - u32::from(first == second);
-        let refused = answer == "refused 18";
+        let got_18 = answer == "refused 18";
         let below_reserve = held < share.reserved;
-        self.laws
-            .hold(Law::ReserveOpen, !(refused && below_reserve));
-        self.laws.hold(Law::OwnOpen, !(refused && first == second));
-        match (refused, held >= share.ceiling) {
+        self.laws.hold(Law::ReserveOpen, !(got_18 && below_reserve));
+        self.laws.hold(Law::OwnOpen, !(got_18 && first == second));
+        match (got_18, held >= share.ceiling) {
             (false, _) => self.moves += 1,
             (true, true) => self.by_ceiling += 1,
             (true, false) => self.by_owed += 1,
@@ -132,7 +132,7 @@ impl Seen {
                 (answer == format!("moved {post} {hex}"), 4)
             }
             Ok(_) => (false, 0),
-            Err(refusal) => (answer == format!("refused {refusal}"), 0),
+            Err(refusal) => (answer == refused(refusal), 0),
         };
         let rest_left = output[written..].iter().all(|byte| *byte == 0xAA);
         self.laws.hold(Law::RequestWritten, same && rest_left);
@@ -160,7 +160,7 @@ impl Seen {
             && match admitted {
                 Ok(Answer::Admitted { post, .. }) => moved && post == second,
                 Ok(_) => false,
-                Err(refusal) => answer == format!("refused {refusal}"),
+                Err(refusal) => answer == refused(refusal),
             };
         self.laws.hold(Law::EndAndAdmission, same);
     }

@@ -8,6 +8,7 @@ use crate::hex::read_hex;
 use crate::listing::list;
 use crate::message::{read, Group, Message};
 use crate::profile::{sample, Meaning, Post, Profile};
+use crate::refusal::Refusal::Number;
 use crate::worked::{self, at_home, LISTING_INPUT, LISTING_OUTPUT};
 use crate::write::{bits_of, bytes_of};
 use std::io;
@@ -57,7 +58,7 @@ fn ranges_of_case_10(report: &mut Report) -> io::Result<()> {
     for (count, refused) in [(64, None), (65, Some(11)), (1, None)] {
         let bits = worked::activate_range_bits(count);
         let expected = match refused {
-            Some(refusal) => Err(refusal),
+            Some(refusal) => Err(Number(refusal)),
             None => Ok(worked::activate_range(count)),
         };
         let good = read(&profile, &bytes_of(&bits), bits.len()) == expected;
@@ -128,7 +129,8 @@ fn profile_rules(report: &mut Report) -> io::Result<()> {
         let mut profile = sample();
         break_rule(&mut profile);
         // A bit length of 0 shows that 1 stands before 3.
-        let good = read(&profile, &[0x25, 0xA0], 11) == Err(1) && read(&profile, &[], 0) == Err(1);
+        let good = read(&profile, &[0x25, 0xA0], 11) == Err(Number(1))
+            && read(&profile, &[], 0) == Err(Number(1));
         report.check(&format!("refusal 1: {rule}"), good)?;
     }
     let edges: [Change; 4] = [
@@ -173,10 +175,11 @@ fn written_and_read(report: &mut Report) -> io::Result<()> {
 
         let shorter = dice.below(own);
         let refusal = if shorter == 0 { 3 } else { 4 };
-        cut &= read(&profile, &bytes, shorter) == Err(refusal);
+        let answer = read(&profile, &bytes, shorter);
+        cut &= answer.map_err(|refusal| refusal.number()) == Err(refusal);
 
         bits.push(dice.one_in(2));
-        longer &= read(&profile, &bytes_of(&bits), own + 1) == Err(13);
+        longer &= read(&profile, &bytes_of(&bits), own + 1) == Err(Number(13));
 
         bits.extend(dice.bits(20));
         spare &= read(&profile, &bytes_of(&bits), own) == Ok(message);

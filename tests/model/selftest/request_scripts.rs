@@ -114,7 +114,7 @@ dump
         "\
 5 refused 1
 7 refused 2
-8 refused 4
+8 refused 4 at 25 cause
 9 refused 13
 10 refused 14
 11 refused 14
@@ -232,7 +232,7 @@ dump
 8 refused 8
 9 refused 8
 10 refused 2
-11 refused 4
+11 refused 4 at 30 o-bit
 12 refused 13
 13 refused 12
 14 refused 10

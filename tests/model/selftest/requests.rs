@@ -10,6 +10,7 @@ use crate::message::{read, Message};
 use crate::places::Call;
 use crate::profile::{sample, Profile};
 use crate::records::{Identity, Record};
+use crate::refusal::Refusal::{self, Number};
 use crate::script::Line;
 use std::io;
 
@@ -33,7 +34,7 @@ fn output_areas(report: &mut Report) -> io::Result<()> {
         ..Record::default()
     }];
     let party = |ssi| Identity { ssi, extension: 0 };
-    let mut ask = |call: &dyn Fn(&mut Desk, Lent) -> Result<Answer, u8>| {
+    let mut ask = |call: &dyn Fn(&mut Desk, Lent) -> Result<Answer, Refusal>| {
         let mut output = [0xAA_u8; 300];
         let lent = Lent {
             records: &mut records,
@@ -79,7 +80,7 @@ fn output_areas(report: &mut Report) -> io::Result<()> {
     report.check("desk: cancel writes CANCEL, no byte more", good)?;
 
     let (answer, output) = ask(&|desk, lent| desk.cancel(lent, 5));
-    let good = answer == Err(19) && output == area(&[]);
+    let good = answer == Err(Number(19)) && output == area(&[]);
     report.check("desk: a refused cancel writes no byte", good)
 }
 

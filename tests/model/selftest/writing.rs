@@ -6,6 +6,7 @@ use crate::draw;
 use crate::hex::read_hex;
 use crate::message::{meaning_of, read, Address};
 use crate::profile::{sample, Meaning, Profile};
+use crate::refusal::Refusal::Number;
 use crate::table::rows;
 use crate::value::{flat, valid, FlatGroup, Value};
 use crate::write::write;
@@ -105,7 +106,7 @@ fn rows_refused(report: &mut Report) -> io::Result<()> {
             _ => continue,
         };
         let mut area = vec![0xAA; row.area];
-        let refused = write(&sample(), &row.value, &mut area) == Err(expected);
+        let refused = write(&sample(), &row.value, &mut area) == Err(Number(expected));
         let good = refused && area.iter().all(|byte| *byte == 0xAA);
         let what = format!("row {}: refused {expected}, area as it stood", before + 1);
         report.check(&what, good)?;
@@ -118,9 +119,9 @@ fn refusal_1(report: &mut Report) -> io::Result<()> {
     let mut broken = sample();
     broken.posts.clear();
     let not_valid = Value::default();
-    let good = write(&broken, &not_valid, &mut []) == Err(1)
-        && write(&sample(), &not_valid, &mut []) == Err(22)
-        && write(&sample(), &rows()[14].value, &mut []) == Err(14);
+    let good = write(&broken, &not_valid, &mut []) == Err(Number(1))
+        && write(&sample(), &not_valid, &mut []) == Err(Number(22))
+        && write(&sample(), &rows()[14].value, &mut []) == Err(Number(14));
     report.check("writing: 1 before 22 before 14", good)
 }
 
@@ -151,7 +152,8 @@ fn values_written_and_read(report: &mut Report) -> io::Result<()> {
         let mut exact = vec![0x55; bytes];
         short &= write(&profile, &value, &mut exact) == Ok(length) && exact == area[..bytes];
         let mut less = before[..bytes - 1].to_vec();
-        short &= write(&profile, &value, &mut less) == Err(14) && less == before[..bytes - 1];
+        short &=
+            write(&profile, &value, &mut less) == Err(Number(14)) && less == before[..bytes - 1];
     }
     let all = format!("{RANDOM_VALUES} random values under random profiles");
     report.check(&format!("{all}: valid, written and read back"), back)?;
@@ -181,7 +183,8 @@ fn values_changed(report: &mut Report) -> io::Result<()> {
             }
             Err(refusal) => {
                 refused += 1;
-                good &= refusal == 22 && !valid(&profile, &value) && area == [0xAA; MOST_BYTES];
+                good &=
+                    refusal == Number(22) && !valid(&profile, &value) && area == [0xAA; MOST_BYTES];
                 good &= !fits_every_rule(&profile, &value);
             }
         }
