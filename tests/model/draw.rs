@@ -53,8 +53,14 @@ pub fn message(dice: &mut Dice, profile: &Profile) -> Message {
     let pdu_type = dice.pick(&[
         2, 2, 2, 3, 3, 3, 4, 4, 4, 5, 5, 5, 8, 8, 10, 10, 12, 12, 13, 13, 15, 15, 16, 16,
     ]);
-    match pdu_type {
-        2..=5 => about_users(dice, profile, pdu_type).unwrap_or(Message::Accepted),
+    of_type(dice, profile, pdu_type).unwrap_or(Message::Accepted)
+}
+
+/// A message of this type, which is carried; nothing if it is about users and the profile has no
+/// range value that users may have.
+pub fn of_type(dice: &mut Dice, profile: &Profile, pdu_type: u32) -> Option<Message> {
+    Some(match pdu_type {
+        2..=5 => return about_users(dice, profile, pdu_type),
         8 => Message::Interrogate {
             user: address(dice, profile),
         },
@@ -62,18 +68,34 @@ pub fn message(dice: &mut Dice, profile: &Profile) -> Message {
             cause: dice.number(5),
             dispatcher: optional_address(dice, profile),
         },
+        11 => Message::Request {
+            identifier: identifier(dice),
+            cause: dice.number(5),
+            options: options(dice, profile),
+        },
         12 => Message::Accept {
             identifier: identifier(dice),
         },
         13 => Message::Accepted,
+        14 => Message::Cancel {
+            identifier: identifier(dice),
+        },
         15 => Message::Divert {
             identifier: identifier(dice),
         },
-        _ => Message::Diverted {
+        16 => Message::Diverted {
             cause: dice.number(5),
             dispatcher: optional_address(dice, profile),
         },
-    }
+        17 => Message::Reject {
+            identifier: identifier(dice),
+            cause: dice.number(5),
+        },
+        _ => Message::Rejected {
+            cause: dice.number(5),
+            dispatcher: optional_address(dice, profile),
+        },
+    })
 }
 
 /// ACTIVATE, its ACK, DEACTIVATE or its ACK; nothing if the profile has no range value that users
@@ -93,24 +115,8 @@ pub fn about_users(dice: &mut Dice, profile: &Profile, pdu_type: u32) -> Option<
 
 /// REQUEST, CANCEL, REJECT or REJECTED, nearly half of the time REQUEST.
 pub fn about_waiting_call(dice: &mut Dice, profile: &Profile) -> Message {
-    match dice.below(7) {
-        0 => Message::Cancel {
-            identifier: identifier(dice),
-        },
-        1 => Message::Reject {
-            identifier: identifier(dice),
-            cause: dice.number(5),
-        },
-        2 | 3 => Message::Rejected {
-            cause: dice.number(5),
-            dispatcher: optional_address(dice, profile),
-        },
-        _ => Message::Request {
-            identifier: identifier(dice),
-            cause: dice.number(5),
-            options: options(dice, profile),
-        },
-    }
+    let pdu_type = dice.pick(&[14, 17, 18, 18, 11, 11, 11]);
+    of_type(dice, profile, pdu_type).expect("it is not about users")
 }
 
 /// Any choice of the seven; none, all and just one come more often than the others.

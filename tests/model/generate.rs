@@ -1,6 +1,8 @@
 //! Input lines for the listing, as many as asked for, decided by the seed alone.
-//! Each round cuts one valid message short at every bit length and adds other lines.
+//! Each round cuts one valid message short at every bit length and adds other lines, many of which
+//! break off too.
 
+use crate::break_off;
 use crate::dice::Dice;
 use crate::fault;
 use crate::line::line_of;
@@ -79,7 +81,7 @@ impl Source {
 
     fn other_line(&mut self) -> Vec<u8> {
         let (dice, profile) = (&mut self.dice, &self.profile);
-        let mut bits = match dice.below(120) {
+        let mut bits = match dice.below(144) {
             0..=24 => fault::sound(dice, profile),
             25..=29 => fault::ss_type(dice, profile),
             30..=37 => fault::pdu_type(dice, profile),
@@ -104,6 +106,10 @@ impl Source {
             90..=95 => fault::about_waiting_call(dice, profile),
             96..=101 => fault::options(dice, profile),
             102..=109 => user_fault::deactivation(dice, profile),
+            110..=133 => {
+                let (bytes, length) = break_off::message(dice, profile);
+                return line_of(length, &bytes);
+            }
             _ => return self.odd_line(),
         };
         if dice.one_in(6) {

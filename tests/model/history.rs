@@ -124,6 +124,7 @@ impl Source {
             70..=73 => self.two_grounds(),
             74..=77 => self.shift(),
             78..=80 => self.faulty_deactivation(),
+            81..=88 => self.broken_off(),
             _ => self.call(),
         }
     }

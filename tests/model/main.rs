@@ -4,6 +4,9 @@
 mod ack;
 mod activate;
 mod bits;
+mod break_off;
+mod breakable;
+mod breaks;
 mod count;
 mod counter;
 mod crossing;
@@ -39,6 +42,7 @@ mod step;
 mod suite;
 mod table;
 mod tally;
+mod trail;
 mod user_fault;
 mod value;
 mod worked;
@@ -50,7 +54,7 @@ use std::process::ExitCode;
 
 const USAGE: &str = "usage: model listing | generate SEED COUNT | suite | count | rounds | \
     crossing | replay | script SEED COUNT | tally | moves | \
-    requests | deactivations | selftest";
+    requests | deactivations | breaks listing | breaks replay | selftest";
 
 fn main() -> ExitCode {
     let arguments: Vec<String> = env::args_os()
@@ -96,6 +100,8 @@ fn run(words: &[&str]) -> io::Result<Option<bool>> {
         ["deactivations"] => {
             good = deactivations::count_deactivations(&standard_input()?, &mut out)?;
         }
+        ["breaks", "listing"] => good = breaks::count_in_listing(&standard_input()?, &mut out)?,
+        ["breaks", "replay"] => good = breaks::count_in_replay(&standard_input()?, &mut out)?,
         ["count"] => good = count::count(&standard_input()?, &mut out)?,
         ["selftest"] => good = selftest::selftest(&mut out)?,
         _ => return Ok(None),

@@ -1,7 +1,8 @@
 //! How often each answer and each refusal came in a replay's output.
 //! It also says whether every one of them came at least once.
 
-use crate::count::print_counts;
+use crate::count::{is_position, print_counts, refusal};
+use crate::element::NAMES;
 use std::io::{self, Write};
 
 const ANSWERS: [&str; 16] = [
@@ -28,15 +29,22 @@ const REFUSALS: std::ops::RangeInclusive<u32> = 1..=21;
 /// Prints the counts, answers before refusals; false if one never came or isn't known.
 pub fn tally(replay: &[u8], out: &mut dyn Write) -> io::Result<bool> {
     let mut answers = ANSWERS.map(str::to_string).to_vec();
-    answers.extend(REFUSALS.map(|number| format!("refused {number}")));
+    answers.extend(REFUSALS.map(refusal));
     print_counts("replay", replay, &answers, answer_of, out)
 }
 
 /// The words that tell the answers apart, without the line's number and without what follows.
 fn answer_of(line: &str) -> String {
     let words: Vec<&str> = line.split(' ').skip(1).collect();
-    let telling = match words.first() {
-        Some(&"acks" | &"state" | &"refused" | &"not") => 2,
+    let telling = match words[..] {
+        ["refused", "4", "at", position, name]
+            if is_position(position) && NAMES.contains(&name) =>
+        {
+            return refusal(4);
+        }
+        // Any other refusal is its number and nothing more.
+        ["refused", ..] => words.len(),
+        ["acks" | "state" | "not", ..] => 2,
         _ => 1,
     };
     words[..telling.min(words.len())].join(" ")

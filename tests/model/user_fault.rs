@@ -18,7 +18,7 @@ pub fn range_ends(dice: &mut Dice, profile: &Profile) -> Vec<bool> {
 
 /// A group of the message becomes first and last of a range, as range 15 means it under the sample
 /// profile, or as a value of this profile does.
-fn faulty_ends(dice: &mut Dice, profile: &Profile, message: &mut Message) {
+pub fn faulty_ends(dice: &mut Dice, profile: &Profile, message: &mut Message) {
     let span = dice.pick(&[1, 2, 3, 63, 64, 65, 66, 128, 1 << 16, 1 << 24]);
     let mut ends = draw::range_ends(dice, profile, span);
     match dice.below(10) {

@@ -1,6 +1,7 @@
 //! The calls of a history: messages of posts, set-ups, rejects and cancels, good and faulty.
 
 use super::{Mood, Source};
+use crate::break_off;
 use crate::dice::Dice;
 use crate::draw;
 use crate::fault;
@@ -169,6 +170,21 @@ impl Source {
             0 => self.dice.pick(&[count as u32, 8, 255, 256, u32::MAX]),
             _ => self.dice.below(count) as u32,
         }
+    }
+
+    /// Three messages in a row that break off.
+    pub(super) fn broken_off(&mut self) -> Vec<u8> {
+        for _ in 0..2 {
+            let line = self.broken_message();
+            self.waiting.push_back(line);
+        }
+        self.broken_message()
+    }
+
+    fn broken_message(&mut self) -> Vec<u8> {
+        let post = self.post();
+        let (bytes, length) = break_off::message(&mut self.dice, &self.replay.desk.profile);
+        post_line(post, length as u32, &bytes)
     }
 
     /// A message that reading refuses, or one that posts don't send.
