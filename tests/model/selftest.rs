@@ -1,6 +1,9 @@
 //! The model checked against document 01's worked cases and rules, and against its own laws.
 //! Each check prints one line; the answer is false if any failed.
 
+mod break_laws;
+mod break_scripts;
+mod breaks;
 mod deactivation_laws;
 mod deactivation_scripts;
 mod deactivations;
@@ -46,5 +49,6 @@ pub fn selftest(out: &mut dyn Write) -> io::Result<bool> {
     move_laws::check(&mut report)?;
     requests::check(&mut report)?;
     deactivations::check(&mut report)?;
+    breaks::check(&mut report)?;
     Ok(report.all_good)
 }

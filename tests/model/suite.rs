@@ -2,6 +2,7 @@
 //! Chosen by hand or counted through; no dice. Its last line has no LF. What a request brings is
 //! appended.
 
+mod breaks;
 mod deactivations;
 mod requests;
 
@@ -43,6 +44,7 @@ fn lines() -> Vec<Vec<u8>> {
     suite.text("25 25FFFF80");
     suite.requests();
     suite.deactivations();
+    suite.breaks();
     suite.lines
 }
 

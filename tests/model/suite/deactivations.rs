@@ -16,7 +16,7 @@ const BOTH: [(Row, Row); 2] = [(DEACTIVATE, &[]), (ACK, ACCEPTED)];
 
 impl Suite {
     /// The worked cases and bits left over, what can be refused, lists and ranges, and ACKs as
-    /// ACTIVATE has them; the last line is DEACTIVATE's worked one.
+    /// ACTIVATE has them; at the end DEACTIVATE's worked line once more.
     pub(super) fn deactivations(&mut self) {
         let cases = worked::deactivation_cases();
         for case in &cases {
