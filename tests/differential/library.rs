@@ -1,6 +1,7 @@
-//! The product's `cad_read` and `cad_write` against the model's, on the same drawn inputs, whole
-//! outputs compared. The model's own files draw and answer; only the calls here are new. The
-//! benchmark's plain reader is in the archive too, for its own comparison and its measuring.
+//! The product's `cad_read`, `cad_read_at` and `cad_write` against the model's, on the same drawn
+//! inputs, whole outputs compared. The model's own files draw and answer; only the calls here are
+//! new. The benchmark's plain reader is in the archive too, for its own comparison and its
+//! measuring.
 
 #[allow(dead_code)]
 #[path = "../model/ack.rs"]
@@ -9,11 +10,23 @@ pub mod ack;
 #[path = "../model/bits.rs"]
 pub mod bits;
 #[allow(dead_code)]
+#[path = "../model/break_off.rs"]
+pub mod break_off;
+#[allow(dead_code)]
+#[path = "../model/breakable.rs"]
+pub mod breakable;
+#[allow(dead_code)]
 #[path = "../model/dice.rs"]
 pub mod dice;
 #[allow(dead_code)]
 #[path = "../model/draw.rs"]
 pub mod draw;
+#[allow(dead_code)]
+#[path = "../model/element.rs"]
+pub mod element;
+#[allow(dead_code)]
+#[path = "../model/event.rs"]
+pub mod event;
 #[allow(dead_code)]
 #[path = "../model/fault.rs"]
 pub mod fault;
@@ -32,8 +45,14 @@ pub mod plain;
 #[path = "../model/profile.rs"]
 pub mod profile;
 #[allow(dead_code)]
+#[path = "../model/refusal.rs"]
+pub mod refusal;
+#[allow(dead_code)]
 #[path = "../model/request.rs"]
 pub mod request;
+#[allow(dead_code)]
+#[path = "../model/trail.rs"]
+pub mod trail;
 #[allow(dead_code)]
 #[path = "../model/user_fault.rs"]
 pub mod user_fault;
@@ -66,12 +85,14 @@ pub extern "C" fn differential(seed: u64, reads: u64, writes: u64) -> i32 {
         writes::round(&mut dice, &mut both);
     }
     both.reads.print("reads");
+    both.breaks.print();
     both.writes.print("writes");
     let every_read = both
         .reads
         .gave_all(&[0, 1, 3, 4, 5, 6, 7, 9, 10, 11, 12, 13, 14]);
+    let every_element = both.breaks.gave_all();
     let every_write = both.writes.gave_all(&[0, 1, 14, 22]);
-    if every_read && every_write {
+    if every_read && every_element && every_write {
         0
     } else {
         1

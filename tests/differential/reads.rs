@@ -1,8 +1,9 @@
 //! Drawn reads. A round takes one profile: a message cut at every bit, the same with each bit
-//! flipped, messages with faults, odd lengths, damaged profiles, and value areas of every size
-//! around the bound.
+//! flipped, messages with faults, messages that break off, odd lengths, damaged profiles, and value
+//! areas of every size around the bound.
 
 use crate::both::Both;
+use crate::break_off;
 use crate::damage;
 use crate::dice::Dice;
 use crate::draw;
@@ -18,6 +19,7 @@ const ROOMS: [usize; 15] = [
 ];
 
 const FAULTS_A_ROUND: usize = 300;
+const BREAKS_A_ROUND: usize = 130;
 
 pub fn profile(dice: &mut Dice) -> Profile {
     if dice.one_in(4) {
@@ -37,6 +39,11 @@ pub fn round(dice: &mut Dice, both: &mut Both) {
         let message = dressed(dice, &bits);
         let room = room(dice);
         both.read(&lent, &message, bits.len(), room);
+    }
+    for _ in 0..BREAKS_A_ROUND {
+        let (message, length) = break_off::message(dice, &profile);
+        let room = room(dice);
+        both.read(&lent, &message, length, room);
     }
     let sound = fault::sound(dice, &profile);
     for room in ROOMS {

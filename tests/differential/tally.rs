@@ -1,4 +1,7 @@
-//! How often each answer came, and each message where the answer was 0.
+//! How often each answer came, each message where the answer was 0, and each element where it was
+//! 4.
+
+use crate::element::NAMES as ELEMENTS;
 
 const ANSWERS: usize = 32;
 
@@ -76,5 +79,49 @@ impl Tally {
             .map(|(pdu, name)| format!("{name} {}", self.messages[*pdu]))
             .collect();
         println!("  of answer 0: {}", of_each.join(", "));
+    }
+}
+
+/// Of the reads that broke off: how often in each element.
+pub struct Breaks {
+    /// With nothing of the element there, and with some of it.
+    elements: [[u64; 2]; ELEMENTS.len()],
+}
+
+impl Breaks {
+    pub fn new() -> Self {
+        Breaks {
+            elements: [[0; 2]; ELEMENTS.len()],
+        }
+    }
+
+    /// The element by its number.
+    pub fn add(&mut self, element: u32, some_there: bool) {
+        self.elements[element as usize - 1][usize::from(some_there)] += 1;
+    }
+
+    /// Whether each element came, and each of several bits with some of them there.
+    pub fn gave_all(&self) -> bool {
+        let one_bit = ["mask-present", "result", "o-bit", "p-bit"];
+        let mut all = true;
+        for (name, [none_there, some_there]) in ELEMENTS.iter().zip(self.elements) {
+            // A message of no bits is refused with 3.
+            let none_wanted = *name != "ss-type";
+            let some_wanted = !one_bit.contains(name);
+            if none_wanted != (none_there > 0) || some_wanted != (some_there > 0) {
+                println!("{name} broke off {none_there} and {some_there} times");
+                all = false;
+            }
+        }
+        all
+    }
+
+    pub fn print(&self) {
+        let of_each: Vec<String> = ELEMENTS
+            .iter()
+            .zip(self.elements)
+            .map(|(name, times)| format!("{name} {}", times[0] + times[1]))
+            .collect();
+        println!("  of answer 4: {}", of_each.join(", "));
     }
 }

@@ -1,5 +1,5 @@
 /*
- * Fifteen wrong products, each off in one thing now and then, made of the right one by the linker's --wrap; WRONG says which. With 0 it is
+ * Twenty-four wrong products, each off in one thing now and then, made of the right one by the linker's --wrap; WRONG says which. With 0 it is
  * the right one. The differential test has to find each of the others.
  */
 #include "cad.h"
@@ -9,7 +9,9 @@
 
 uint32_t __real_cad_read(const uint8_t *, size_t, const uint8_t *, size_t, size_t, uint8_t *, size_t);
 uint32_t __real_cad_write(const uint8_t *, size_t, const uint8_t *, size_t, uint8_t *, size_t, size_t *);
+uint32_t __real_cad_read_at(const uint8_t *, size_t, const uint8_t *, size_t, size_t, uint8_t *, size_t, uint32_t *, uint32_t *);
 uint32_t __wrap_cad_read(const uint8_t *, size_t, const uint8_t *, size_t, size_t, uint8_t *, size_t);
+uint32_t __wrap_cad_read_at(const uint8_t *, size_t, const uint8_t *, size_t, size_t, uint8_t *, size_t, uint32_t *, uint32_t *);
 uint32_t __wrap_cad_write(const uint8_t *, size_t, const uint8_t *, size_t, uint8_t *, size_t, size_t *);
 
 /* REQUEST and REJECT, and where a value has REQUEST's two addresses and its two services. */
@@ -17,6 +19,12 @@ enum { REQUEST = 11, REJECT = 17, CALLING = 2, CALLED = 9, ADDRESS_BYTES = 7, SE
 
 /* Types about users, and where a value has the mask and the result; a written message has its type in bits 6 to 10. */
 enum { ACTIVATE_ACK = 3, DEACTIVATE = 4, DEACTIVATE_ACK = 5, MASKED = 107, RESULT = 116, MASK_BYTES = 8 };
+
+/* What breaks off, and some of the elements in which it does. */
+enum { BROKE_OFF = 4, SSI = 5, EXTENSION = 6, MASK = 8, O_BIT = 13, P_BIT = 14 };
+
+/* The width of element n at n; a mask's depends on the message. */
+static const uint8_t widths[] = {0, 6, 5, 4, 2, 24, 24, 1, 0, 1, 7, 5, 14, 1, 1, 24, 4, 2};
 
 static int wrong(void)
 {
@@ -78,6 +86,52 @@ uint32_t __wrap_cad_read(const uint8_t *profile, size_t profile_len, const uint8
             if (less == CAD_DONE)
                 return less;
         }
+        break;
+    default: break;
+    }
+    return answer;
+}
+
+uint32_t __wrap_cad_read_at(const uint8_t *profile, size_t profile_len, const uint8_t *message, size_t message_len, size_t bits,
+                            uint8_t *value, size_t value_len, uint32_t *position, uint32_t *element)
+{
+    uint32_t answer = __real_cad_read_at(profile, profile_len, message, message_len, bits, value, value_len, position, element);
+    switch (wrong()) {
+    case 16: /* the position where the message ends */
+        if (answer == BROKE_OFF)
+            *position = (uint32_t)bits;
+        break;
+    case 17: /* the position where the element would have ended */
+        if (answer == BROKE_OFF)
+            *position += widths[*element];
+        break;
+    case 18: /* the extension is named an SSI */
+        if (answer == BROKE_OFF && *element == EXTENSION)
+            *element = SSI;
+        break;
+    case 19: /* the mask begins where it is said to be present */
+        if (answer == BROKE_OFF && *element == MASK)
+            *position -= 1;
+        break;
+    case 20: /* a 13 has a position too */
+        if (answer == CAD_REFUSED_LEFT_OVER)
+            *position = (uint32_t)bits - 1;
+        break;
+    case 21: /* the numbers are cleared where all is well */
+        if (answer == CAD_DONE)
+            *position = *element = 0;
+        break;
+    case 22: /* the position is right, the element isn't told */
+        if (answer == BROKE_OFF)
+            *element = 0;
+        break;
+    case 23: /* the position has 8 bits */
+        if (answer == BROKE_OFF)
+            *position &= 0xFF;
+        break;
+    case 24: /* a P-bit is named an O-bit */
+        if (answer == BROKE_OFF && *element == P_BIT)
+            *element = O_BIT;
         break;
     default: break;
     }
