@@ -6,7 +6,7 @@ use mathlib.Core.List.{List, [], _∷_}
 use mathlib.Core.Logic.{⊎-elim}
 use native.Mathlib.Nat.{add-zero}
 use native.Mathlib.Omega.{arith}
-use lib.Dec.{leb}
+use lib.Dec.{eqb, leb}
 use lib.ListN.{length, length-append}
 use borrow.Author.Tests.{le-leb, lt-leb, ltb-true, lt-ltb}
 use Rattle.bits.specs.Fields.{fieldAt}
@@ -16,9 +16,11 @@ use Rattle.bits.proofs.SetLaws.{lt-or}
 use Rattle.bits.proofs.Stands.{AreBits, Stands, stands-left, stands-right, stands-join, bits-join}
 use Rattle.bits.proofs.RoundLaws.{binary-bits, binary-read, read-binary}
 use Rattle.codec.specs.Stops.{short, refusal}
-use Rattle.codec.specs.Codec.{both, firstOf, noneOf, Read, got, no, bind, Codec, number, pure, guard, seq, map, choose, vec, vecRead, vecOrder, vecBits, vecOk, vecThen}
-use Rattle.codec.proofs.Good.{both-true, both-left, both-right, not-both, Binary, Agree, Found, View, refused, found, Told, Good}
+use Rattle.codec.specs.Codec.{takes, both, firstOf, noneOf, groundsOf, Read, got, no, bind, Codec, number, pure, guard, seq, map, choose, vec, vecRead, vecOrder, vecBits, vecOk, vecThen}
+use Rattle.codec.proofs.Good.{both-true, both-left, both-right, not-both, Binary, Agree, Found, View, refused, found, Told, Ended, came, Good}
 use Rattle.codec.proofs.GroundLaws.{told-then, told-map, told-test}
+use Rattle.codec.proofs.BreakLaws.{number-ended, guard-ended, map-ended, seq-ended}
+use Rattle.codec.specs.Breaks.{firstPast}
 
 -- ---- number
 
@@ -49,11 +51,11 @@ module _ (e w : ℕ) where
       (λ h. number-got e f n at w h ∙ ap (λ (v : ℕ). got v (at + w)) (field-same f g at w (λ i _ k. a i (omega arith))) ∙ sym (number-got e g n at w h))
       (lt-or n (at + w))
 
-  number-told : (f : ℕ → ℕ) (n at : ℕ) → Told (number e w .order f n at) (number e w .read f n at)
-  unfolding number noneOf firstOf both short
+  number-told : (f : ℕ → ℕ) (n at : ℕ) → Told (groundsOf n (number e w .order f n at)) (number e w .read f n at)
+  unfolding number groundsOf noneOf firstOf both
   number-told f n at = go (leb (at + w) n)
     where
-      go : (b : Bool) → Told {A = ℕ} ((4, not b) ∷ []) (cond b (got (fieldAt f at w) (at + w)) (no (short e at)))
+      go : (b : Bool) → Told {A = ℕ} ((short e at, not b) ∷ []) (cond b (got (fieldAt f at w) (at + w)) (no (short e at)))
       go true = refl
       go false = (refl, refl)
 
@@ -68,12 +70,13 @@ module _ (e w : ℕ) where
         backward = number-view;
         alike = λ f g n at hf a. number-alike f g n at a;
         told = λ f n hf at. number-told f n at;
+        ended = λ f n hf at. number-ended e w f n at;
       }
 
 -- ---- pure
 
 pub good-pure : {A : Type 0} (a : A) (same : A → Bool) → same a ≡ true → ((b : A) → same b ≡ true → b ≡ a) → Good (pure a same)
-unfolding noneOf
+unfolding groundsOf noneOf firstPast
 good-pure a same self only =
     record {
       are-bits = λ b e. tt;
@@ -81,11 +84,13 @@ good-pure a same self only =
       backward = λ f n hf at. found a at (record { valid = self; next = sym (add-zero at); within = λ k. k; stands = tt });
       alike = λ f g n at hf e. refl;
       told = λ f n hf at. refl;
+      ended = λ f n hf at. came a at (record { after = omega arith; within = λ k. k; first = refl; same = λ m k. refl });
     }
 
 -- ---- guard
 
-module _ {A : Type 0} (c : ℕ) (test : A → Bool) (C : Codec A) (G : Good C) where
+-- 4 is the number of an element that reaches past the end, and of no test
+module _ {A : Type 0} (c : ℕ) (test : A → Bool) (C : Codec A) (other : eqb c 4 ≡ false) (G : Good C) where
   guard-view : (f : ℕ → ℕ) (n at : ℕ) (r : Read A) → View C f n at r → View (guard c test C) f n at (bind r (λ a p. cond (test a) (got a p) (no (refusal c))))
   guard-view f n at (no s) (refused _) = refused s
   guard-view f n at (got a p) (found _ _ w) = go (test a) refl
@@ -101,7 +106,8 @@ module _ {A : Type 0} (c : ℕ) (test : A → Bool) (C : Codec A) (G : Good C) w
         forward = λ f n at a v s k. rw (G .forward f n at a (both-left (C .ok a) (test a) v) s k, both-right (C .ok a) (test a) v);
         backward = λ f n hf at. guard-view f n at (C .read f n at) (G .backward f n hf at);
         alike = λ f g n at hf e. rw (G .alike f g n at hf e);
-        told = λ f n hf at. told-then (C .order f n at) _ _ (C .read f n at) (G .told f n hf at) (λ a p e. told-test c (test a) a p);
+        told = λ f n hf at. told-then n (C .order f n at) _ _ (C .read f n at) (G .told f n hf at) (λ a p e. told-test n c (test a) a p);
+        ended = λ f n hf at. guard-ended c test C other f n at (C .order f n at) (C .read f n at) (G .ended f n hf at);
       }
 
 -- ---- seq
@@ -132,10 +138,10 @@ module _ {A B : Type 0} (C : Codec A) (D : A → Codec B) (G : Good C) (H : (a :
   read-valid f n at (no s) (refused _) a p e = let z : _≡_ {A = ℕ} 0 1 = cc in absurd (omega arith)
   read-valid f n at (got b q) (found _ _ w) a p e = let ab : b ≡ a = cc in subst (λ (x : A). C .ok x ≡ true) ab (w .valid)
 
-  seq-told : (f : ℕ → ℕ) (n : ℕ) → Binary f → (at : ℕ) → Told (seq C D .order f n at) (seq C D .read f n at)
+  seq-told : (f : ℕ → ℕ) (n : ℕ) → Binary f → (at : ℕ) → Told (groundsOf n (seq C D .order f n at)) (seq C D .read f n at)
   seq-told f n hf at =
-      told-then (C .order f n at) _ _ (C .read f n at) (G .told f n hf at)
-      (λ a p e. told-map (D a .order f n p) _ (D a .read f n p) (H a (read-valid f n at (C .read f n at) (G .backward f n hf at) a p e) .told f n hf p))
+      told-then n (C .order f n at) _ _ (C .read f n at) (G .told f n hf at)
+      (λ a p e. told-map (groundsOf n (D a .order f n p)) _ (D a .read f n p) (H a (read-valid f n at (C .read f n at) (G .backward f n hf at) a p e) .told f n hf p))
 
   first-ok : (x : A × B) → seq C D .ok x ≡ true → C .ok (x .0) ≡ true
   first-ok x v = both-left (C .ok (x .0)) (D (x .0) .ok (x .1)) v
@@ -158,6 +164,9 @@ module _ {A B : Type 0} (C : Codec A) (D : A → Codec B) (G : Good C) (H : (a :
         backward = λ f n hf at. first-view f n at hf (C .read f n at) (G .backward f n hf at);
         alike = λ f g n at hf e. second-alike f g n at hf e (C .read f n at) (G .backward f n hf at) ∙ rw (G .alike f g n at hf e);
         told = seq-told;
+        ended = λ f n hf at.
+            seq-ended C D (λ a b. (a, b)) (seq C D) f n at (C .order f n at) (λ m. refl) (C .read f n at) (G .ended f n hf at) (G .backward f n hf at)
+            (λ a p v. H a v .ended f n hf p);
       }
 
 -- ---- map: a value that was read goes there and back, and has nothing else; one that has nothing else comes back whole
@@ -185,7 +194,8 @@ module _ {A B : Type 0} (to : A → B) (from : B → A) (just : B → Bool) (C :
             rw (G .forward f n at (from b) w s k) (ap (λ (x : B). got x (at + length (C .bits (from b)))) (there b (both-left (just b) (C .ok (from b)) v) w));
         backward = λ f n hf at. map-view f n at (C .read f n at) (G .backward f n hf at);
         alike = λ f g n at hf e. rw (G .alike f g n at hf e);
-        told = λ f n hf at. told-map (C .order f n at) to (C .read f n at) (G .told f n hf at);
+        told = λ f n hf at. told-map (groundsOf n (C .order f n at)) to (C .read f n at) (G .told f n hf at);
+        ended = λ f n hf at. map-ended to C (map to from just C) f n at (C .order f n at) (λ m. refl) (C .read f n at) (G .ended f n hf at);
       }
 
 -- where all of the other type is carried, every value passes
@@ -252,11 +262,19 @@ module _ {A : Type 0} (C : Codec A) (G : Good C) where
   vec-alike zero f g n at hf e = refl
   vec-alike (suc k) f g n at hf e = rw (G .alike f g n at hf e) (then-alike (vecRead C k f n) (vecRead C k g n) (λ p. vec-alike k f g n p hf e) (C .read g n at))
 
-  vec-told : (k : ℕ) (f : ℕ → ℕ) (n : ℕ) → Binary f → (at : ℕ) → Told (vecOrder C k f n at) (vecRead C k f n at)
-  unfolding vecRead vecOrder noneOf
+  vec-told : (k : ℕ) (f : ℕ → ℕ) (n : ℕ) → Binary f → (at : ℕ) → Told (groundsOf n (vecOrder C k f n at)) (vecRead C k f n at)
+  unfolding vecRead vecOrder groundsOf noneOf
   vec-told zero f n hf at = refl
   vec-told (suc k) f n hf at =
-      told-then (C .order f n at) _ _ (C .read f n at) (G .told f n hf at) (λ a p e. told-map (vecOrder C k f n p) _ (vecRead C k f n p) (vec-told k f n hf p))
+      told-then n (C .order f n at) _ _ (C .read f n at) (G .told f n hf at)
+      (λ a p e. told-map (groundsOf n (vecOrder C k f n p)) _ (vecRead C k f n p) (vec-told k f n hf p))
+
+  vec-ended : (k : ℕ) (f : ℕ → ℕ) (n : ℕ) → Binary f → (at : ℕ) → Ended (vec k C) f n at (vecOrder C k f n at) (vecRead C k f n at)
+  unfolding vecRead vecOrder firstPast
+  vec-ended zero f n hf at = came [] at (record { after = omega arith; within = λ h. h; first = refl; same = λ m h. refl })
+  vec-ended (suc k) f n hf at =
+      seq-ended C (λ _. vec k C) (λ a xs. a ∷ xs) (vec (suc k) C) f n at (C .order f n at) (λ m. refl) (C .read f n at) (G .ended f n hf at) (G .backward f n hf at)
+      (λ a p v. vec-ended k f n hf p)
 
   pub good-vec : (k : ℕ) → Good (vec k C)
-  good-vec k = record { are-bits = vec-bits k; forward = vec-forward k; backward = vec-view k; alike = vec-alike k; told = vec-told k }
+  good-vec k = record { are-bits = vec-bits k; forward = vec-forward k; backward = vec-view k; alike = vec-alike k; told = vec-told k; ended = vec-ended k }

@@ -4,9 +4,13 @@ use mathlib.Core.Path.{_≡_, refl}
 use mathlib.Core.Bool.{Bool, true, false}
 use mathlib.Core.List.{List}
 use native.Mathlib.Omega.{arith}
+use lib.Dec.{eqb}
 use lib.ListN.{length}
 use Rattle.bits.proofs.Stands.{AreBits, Stands}
-use Rattle.codec.specs.Codec.{Ground, firstOf, noneOf, Read, got, no, both, Codec}
+use Rattle.codec.specs.Stops.{refusal}
+use Rattle.codec.specs.Codec.{Along, Ground, firstOf, noneOf, groundsOf, Read, got, no, both, Codec}
+use Rattle.codec.specs.Options.{absent, there}
+use Rattle.codec.specs.Breaks.{firstPast}
 use Rattle.codec.specs.declared.Stop.{Stop}
 
 -- ---- both
@@ -58,7 +62,35 @@ pub data View {A : Type 0} (C : Codec A) (f : ℕ → ℕ) (n at : ℕ) : Read A
 -- the grounds g are those of what a reading answered: none holds where something was read, and else the first gives the refusal
 abbrev pub Told : {A : Type 0} → List Ground → Read A → Type 0
 Told g (got a p) = noneOf g ≡ true
-Told g (no s) = (noneOf g ≡ false) × (firstOf g ≡ s .number)
+Told g (no s) = (noneOf g ≡ false) × (firstOf g ≡ s)
+
+-- a value came: no element reached past the length, and every length that has all that was read gives the same
+pub record Came {A : Type 0} (C : Codec A) (f : ℕ → ℕ) (n at : ℕ) (g : List Along) (a : A) (p : ℕ) : Type 0 where
+  pub after : at ≤ p
+  pub within : at ≤ n → p ≤ n
+  pub first : firstPast n g ≡ absent
+  pub same : (m : ℕ) → p ≤ m → C .read f m at ≡ got a p
+
+-- it broke off: the refusal is a 4 with the first element that reaches past the length, and every length that ends within this element
+-- gives the same
+pub record Broken {A : Type 0} (C : Codec A) (f : ℕ → ℕ) (n at : ℕ) (g : List Along) (s : Stop) : Type 0 where
+  pub width : ℕ
+  pub four : s .number ≡ 4
+  pub after : at ≤ s .at
+  pub within : at ≤ n → s .at ≤ n
+  pub past : n < s .at + width
+  pub first : firstPast n g ≡ there (record { element = s .element; at = s .at; width = width })
+  pub same : (m : ℕ) → s .at ≤ m → m < s .at + width → C .read f m at ≡ no s
+
+-- any other refusal has its number and nothing else
+abbrev pub Plain : Stop → Type 0
+Plain s = (eqb (s .number) 4 ≡ false) × (s ≡ refusal (s .number))
+
+-- how a reading ended, with what stood along the bits
+pub data Ended {A : Type 0} (C : Codec A) (f : ℕ → ℕ) (n at : ℕ) (g : List Along) : Read A → Type 0 where
+  came : (a : A) (p : ℕ) → Came C f n at g a p → Ended C f n at g (got a p)
+  failed : (s : Stop) → Plain s → Ended C f n at g (no s)
+  broke : (s : Stop) → Broken C f n at g s → Ended C f n at g (no s)
 
 pub record Good {A : Type 0} (C : Codec A) : Type 0 where
   -- a valid value is written as bits
@@ -71,4 +103,6 @@ pub record Good {A : Type 0} (C : Codec A) : Type 0 where
   -- bits from n on are never looked at
   pub alike : (f g : ℕ → ℕ) (n at : ℕ) → Binary f → Agree f g n → C .read f n at ≡ C .read g n at
   -- a refusal comes exactly on the first ground that holds, along the bits
-  pub told : (f : ℕ → ℕ) (n : ℕ) → Binary f → (at : ℕ) → Told (C .order f n at) (C .read f n at)
+  pub told : (f : ℕ → ℕ) (n : ℕ) → Binary f → (at : ℕ) → Told (groundsOf n (C .order f n at)) (C .read f n at)
+  -- a 4 has the first element that reaches past the length, and any other refusal nothing
+  pub ended : (f : ℕ → ℕ) (n : ℕ) → Binary f → (at : ℕ) → Ended C f n at (C .order f n at) (C .read f n at)

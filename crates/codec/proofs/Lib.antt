@@ -1,5 +1,6 @@
 pub mod Good
 pub mod GroundLaws
+pub mod BreakLaws
 pub mod Combinators
 pub mod OptionLaws
 pub mod RoundTrips

@@ -6,11 +6,12 @@ use native.Mathlib.Omega.{arith}
 use lib.Dec.{eqb}
 use lib.ListN.{length}
 use borrow.Author.Tests.{ltb-true}
-use Rattle.codec.specs.Codec.{Read, got, no, bind, Codec, number, pure, guard, choose}
+use Rattle.codec.specs.Codec.{groundsOf, Read, got, no, bind, Codec, number, pure, guard, choose}
 use Rattle.codec.specs.Options.{flag, given, Optional, absent, there, isThere, isAbsent, thereBits, thereOk, thereC, optional, options}
 use Rattle.bits.proofs.Stands.{AreBits, Stands}
 use Rattle.codec.proofs.Good.{both-right, not-both, View, refused, found, Good}
 use Rattle.codec.proofs.GroundLaws.{told-map}
+use Rattle.codec.proofs.BreakLaws.{map-ended}
 use Rattle.codec.proofs.Combinators.{good-number, good-pure, good-guard, good-seq, good-iso, good-choose}
 
 -- ---- a flag
@@ -57,7 +58,8 @@ module _ {A : Type 0} (C : Codec A) (G : Good C) where
         forward = there-forward;
         backward = λ f n hf at. there-view f n at (C .read f n at) (G .backward f n hf at);
         alike = λ f g n at hf e. rw (G .alike f g n at hf e);
-        told = λ f n hf at. told-map (C .order f n at) there (C .read f n at) (G .told f n hf at);
+        told = λ f n hf at. told-map (groundsOf n (C .order f n at)) there (C .read f n at) (G .told f n hf at);
+        ended = λ f n hf at. map-ended there C (thereC C) f n at (C .order f n at) (λ m. refl) (C .read f n at) (G .ended f n hf at);
       }
 
 absent-is : {A : Type 0} (x : Optional A) → isAbsent x ≡ true → x ≡ absent
@@ -93,4 +95,4 @@ module _ {A : Type 0} (o : ℕ) (none : A) (isNone some : A → Bool) (D : Codec
       good-iso _ _ _
       (λ x v. ap (λ (b : Bool). (b, x .1)) (o-bit (x .0) (x .1) (both-right (flag o .ok (x .0)) _ v)))
       (λ a v. refl)
-      (good-seq (flag o) (λ b. choose b (guard 12 some D) (pure none isNone)) (good-flag o) (λ b _. good-choose b (good-guard 12 some D G) (good-pure none isNone self only)))
+      (good-seq (flag o) (λ b. choose b (guard 12 some D) (pure none isNone)) (good-flag o) (λ b _. good-choose b (good-guard 12 some D refl G) (good-pure none isNone self only)))

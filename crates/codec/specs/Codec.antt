@@ -7,29 +7,46 @@ use mathlib.Core.List.{List, [], _∷_, _++_}
 use lib.Dec.{leb, ltb}
 use Rattle.bits.specs.Fields.{fieldAt}
 use Rattle.bits.specs.Puts.{binary}
-use Rattle.codec.specs.Stops.{short, refusal}
+use Rattle.codec.specs.Stops.{short, refusal, noStop}
 use Rattle.codec.specs.declared.Stop.{Stop}
+
+-- ---- what stands along the bits
+
+-- each in its turn: an element e of w bits that begins at position at (`takes e at w`), or a test of what was read, with its number of
+-- document 01's table and whether it fails (`asks c fails`)
+pub data Along : Type 0 where
+  takes : ℕ → ℕ → ℕ → Along
+  asks : ℕ → Bool → Along
 
 -- ---- grounds for a refusal, first to last
 
--- a number of document 01's table, and whether its ground holds
+-- a refusal, and whether its ground holds
 abbrev pub Ground : Type 0
-Ground = ℕ × Bool
+Ground = Stop × Bool
 
 -- both hold; shut, so that a proof finds its two sides
 unfoldable pub both : Bool → Bool → Bool
 both true b = b
 both false b = false
 
--- the number of the first ground that holds; 0 for none
-unfoldable pub firstOf : List Ground → ℕ
-firstOf [] = 0
-firstOf ((c, holds) ∷ rest) = cond holds c (firstOf rest)
+-- the refusal of the first ground that holds
+unfoldable pub firstOf : List Ground → Stop
+firstOf [] = noStop
+firstOf ((s, holds) ∷ rest) = cond holds s (firstOf rest)
 
 -- no ground holds
 unfoldable pub noneOf : List Ground → Bool
 noneOf [] = true
-noneOf ((c, holds) ∷ rest) = both (not holds) (noneOf rest)
+noneOf ((s, holds) ∷ rest) = both (not holds) (noneOf rest)
+
+-- what stands along n bits, as grounds: 4 with the element and where it begins, if it reaches past them; a test's own number
+abbrev pub groundOf : ℕ → Along → Ground
+groundOf n (takes e at w) = (short e at, not (leb (at + w) n))
+groundOf n (asks c fails) = (refusal c, fails)
+
+unfoldable pub groundsOf : ℕ → List Along → List Ground
+groundsOf n [] = []
+groundsOf n (x ∷ rest) = groundOf n x ∷ groundsOf n rest
 
 -- ---- reading
 
@@ -43,18 +60,18 @@ abbrev pub bind : {A B : Type 0} → Read A → (A → ℕ → Read B) → Read 
 bind (got a p) k = k a p
 bind (no s) k = no s
 
--- the grounds after what was read, if something was
-abbrev pub afterwards : {A : Type 0} → Read A → (A → ℕ → List Ground) → List Ground
+-- what stands after what was read, if something was
+abbrev pub afterwards : {A B : Type 0} → Read A → (A → ℕ → List B) → List B
 afterwards (got a p) k = k a p
 afterwards (no s) k = []
 
 -- ---- codecs
 
--- `read f n at` reads at position at of the bits f, of which there are n; `order f n at` are the grounds on which it would refuse, along the
--- bits, each element in its turn: first 4, if it reaches past the end, then the number of its own test
+-- `read f n at` reads at position at of the bits f, of which there are n; `order f n at` is what stands along the bits as far as it reads:
+-- each element in its turn, and after it its own test
 pub record Codec (A : Type 0) : Type 1 where
   pub read : (ℕ → ℕ) → ℕ → ℕ → Read A
-  pub order : (ℕ → ℕ) → ℕ → ℕ → List Ground
+  pub order : (ℕ → ℕ) → ℕ → ℕ → List Along
   pub bits : A → List ℕ
   pub ok : A → Bool
 
@@ -63,7 +80,7 @@ unfoldable pub number : ℕ → ℕ → Codec ℕ
 number e w =
     record {
       read = λ f n at. cond (leb (at + w) n) (got (fieldAt f at w) (at + w)) (no (short e at));
-      order = λ f n at. (4, not (leb (at + w) n)) ∷ [];
+      order = λ f n at. takes e at w ∷ [];
       bits = λ v. binary w v;
       ok = λ v. ltb v (2 ^ w);
     }
@@ -77,7 +94,7 @@ abbrev pub guard : {A : Type 0} → ℕ → (A → Bool) → Codec A → Codec A
 guard c test C =
     record {
       read = λ f n at. bind (C .read f n at) (λ a p. cond (test a) (got a p) (no (refusal c)));
-      order = λ f n at. C .order f n at ++ afterwards (C .read f n at) (λ a p. (c, not (test a)) ∷ []);
+      order = λ f n at. C .order f n at ++ afterwards (C .read f n at) (λ a p. asks c (not (test a)) ∷ []);
       bits = λ a. C .bits a;
       ok = λ a. both (C .ok a) (test a);
     }
@@ -116,7 +133,7 @@ module _ {A : Type 0} (C : Codec A) where
   vecRead zero f n at = got [] at
   vecRead (suc k) f n at = vecThen (vecRead k f n) (C .read f n at)
 
-  unfoldable pub vecOrder : ℕ → (ℕ → ℕ) → ℕ → ℕ → List Ground
+  unfoldable pub vecOrder : ℕ → (ℕ → ℕ) → ℕ → ℕ → List Along
   vecOrder zero f n at = []
   vecOrder (suc k) f n at = C .order f n at ++ afterwards (C .read f n at) (λ a p. vecOrder k f n p)
 

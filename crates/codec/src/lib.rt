@@ -6,9 +6,12 @@ ghost use mathlib.Core.Path.{_≡_};
 ghost use Rattle.codec.specs.Stops.{short, refusal, noStop};
 ghost use Rattle.codec.specs.Taking.{tookOf, takeOf};
 
-// A refusal on its way. It is made by `short_at`, `refuse` and `no_stop` alone, and handed on whole.
+// A refusal on its way. It is made by `short_at`, `refuse` and `no_stop` alone, and handed on whole. With a 4 `element` is the element that
+// did not fit, and it begins at position `at`; with any other number both are 0, and no element has the number 0.
 pub struct Stop {
     pub number: u8,
+    pub element: u8,
+    pub at: usize,
 }
 
 // A number and the next position, or a refusal.
@@ -27,29 +30,37 @@ pub fn take(element: u8, buf: &[u8], bits: usize, at: usize, width: usize) -> To
     if at > bits {
         return Took::Refused(short_at(element, at));
     }
-    if width > bits - at {
-        return Took::Refused(short_at(element, at));
+    if width <= bits - at {
+        return Took::Got(bits::field(buf, at, width), at + width);
     }
-    Took::Got(bits::field(buf, at, width), at + width)
+    Took::Refused(short_at(element, at))
 }
 
 // The element that begins at a position reaches past the bit length.
 pub fn short_at(element: u8, at: usize) -> Stop
     ensures { λ r. ⌜ r ≡ short element at ⌝ }
 {
-    Stop { number: 4 }
+    Stop {
+        number: 4,
+        element: element,
+        at: at,
+    }
 }
 
 // What was read is refused with this number.
 pub fn refuse(number: u8) -> Stop
     ensures { λ r. ⌜ r ≡ refusal number ⌝ }
 {
-    Stop { number: number }
+    Stop {
+        number: number,
+        element: 0,
+        at: 0,
+    }
 }
 
 // What stands beside an answer that is no refusal.
 pub fn no_stop() -> Stop
     ensures { λ r. ⌜ r ≡ noStop ⌝ }
 {
-    Stop { number: 0 }
+    refuse(0)
 }

@@ -8,12 +8,13 @@ use mathlib.Core.List.{List, [], _∷_, _++_}
 use lib.ListN.{length, take, replicate}
 use Rattle.bits.specs.Fields.{bitAt, fieldAt}
 use Rattle.bits.specs.Puts.{withDigit, binary, setBit, putBits, spare}
-use Rattle.codec.specs.Stops.{refusal}
+use Rattle.codec.specs.Stops.{short, refusal}
 use Rattle.codec.specs.Codec.{both, number, vecRead}
 use Rattle.codec.specs.Options.{flag}
 use Rattle.profile.specs.Counting.{every, sum}
 use Rattle.profile.specs.Rules.{meaningOk, meaningIn, airOk, shareOk, shareIn, sharesOk, profileOk}
 use Rattle.profile.specs.Sample.{sample, sampleMeanings, sampleShare}
+use Rattle.message.specs.Elements as element
 use Rattle.message.specs.Addresses.{kindC, extensionC, addressC}
 use Rattle.message.specs.Groups.{addressesIn, allowedIn, nobodies, placesC, rangeOk, endsOk, addressesC, rangeC, groupC, noGroup, oneGroup, spanIn, spanOf}
 use Rattle.message.specs.Acks.{maskC, maskedC, resultC}
@@ -193,6 +194,9 @@ cases =
     ∷ on (desk []) [] deactivate-four (event.Message 0 68) (answer.Refused (refusal 13)) [] (desk []) noneMarked (untouched 300)
     ∷ on (desk []) (user 1001 2 true ∷ []) deactivate-four (event.Message 0 67) (answer.Refused (refusal 15)) [] (desk []) noneMarked (untouched 300)
     ∷ on (desk []) [] (0x24 ∷ 0xBE ∷ 0x80 ∷ 0x01 ∷ 0xF4 ∷ 0xA0 ∷ 0x00 ∷ 0x7D ∷ 0x88 ∷ []) (event.Message 0 69) (answer.Refused (refusal 8)) [] (desk []) noneMarked (untouched 300)
+    -- document 02, (ii): an ACCEPT one bit short, from the post where its call waits; a DEACTIVATE ACK cut in its mask, before 8
+    ∷ on (desk (at-5 0 2 ∷ [])) [] accept-5 (event.Message 0 24) (answer.Refused (short element.identifier 11)) [] (desk (at-5 0 2 ∷ [])) noneMarked (untouched 300)
+    ∷ on (desk []) [] (0x24 ∷ 0xBE ∷ 0x80 ∷ 0x01 ∷ 0xF4 ∷ 0xA0 ∷ 0x00 ∷ 0x7D ∷ 0x9C ∷ 0x80 ∷ []) (event.Message 0 71) (answer.Refused (short element.mask 68)) [] (desk []) noneMarked (untouched 300)
     ∷ []
 
 pub cases-right : list.map gives cases ≡ list.map wants cases

@@ -8,7 +8,8 @@ use lib.Dec.{eqb, ltb}
 use borrow.Author.Tests.{eqb-true}
 use lib.ListN.{take}
 use Rattle.codec.specs.Codec.{Ground, firstOf, Read, got, no, afterwards}
-use Rattle.codec.specs.Stops.{refusal}
+use Rattle.codec.specs.Stops.{refusal, noStop}
+use Rattle.codec.specs.declared.Stop.{Stop}
 use Rattle.codec.proofs.Good.{both-left, both-right, not-both, Told}
 use Rattle.codec.proofs.GroundLaws.{none-join, some-join}
 use Rattle.message.specs.Values.{identifierIn}
@@ -31,7 +32,7 @@ use Rattle.writing.proofs.RoundTrips.{read-valid}
 use Rattle.validity.specs.Validity.{validOf}
 use Rattle.desk.specs.Desks.{deskOk}
 use Rattle.desk.specs.Grounds.{notSent, waits, waitsHere, noPlaceFor, noPlaceThere, typeOrder, messageOrder, setUpOrder, rejectOrder, cancelOrder, orderOf}
-use Rattle.desk.specs.Numbers.{numberOf}
+use Rattle.desk.specs.Numbers.{numberOf, stopOf}
 use Rattle.desk.specs.Orders.{unless, postsOf, placesOf, namesDispatchers, markingAnswer, interrogateAnswer, endAnswer, moveAnswer, acceptAnswer, decideAnswer, sentAnswer, readAnswer, messageAnswer, identifierOk, setUpOk, admitAnswer, partyAnswer, setUpAnswer, rejectAnswer, postAt, cancelAnswer, answerOf}
 use Rattle.desk.specs.declared.Answer.{Answer}
 use Rattle.desk.specs.declared.Answer.the-variants as answer
@@ -39,16 +40,16 @@ use Rattle.desk.specs.declared.Desk.{Desk}
 use Rattle.desk.specs.declared.Event.{Event}
 use Rattle.desk.specs.declared.Event.the-variants as event
 
--- ---- a call's number is that of the first ground of its order that holds
+-- ---- a call's refusal is that of the first ground of its order that holds: the number and, with a 4, the element and its position
 
 -- one ground, and what comes after it
-before : (b : Bool) (c : ℕ) (a : Answer) (rest : List Ground) → numberOf a ≡ firstOf rest → numberOf (unless b c a) ≡ firstOf ((c, b) ∷ rest)
-unfolding refusal firstOf
+before : (b : Bool) (c : ℕ) (a : Answer) (rest : List Ground) → stopOf a ≡ firstOf rest → stopOf (unless b c a) ≡ firstOf ((refusal c, b) ∷ rest)
+unfolding firstOf
 before true c a rest e = refl
 before false c a rest e = e
 
 -- the last ground
-last : (b : Bool) (c : ℕ) (a : Answer) → numberOf a ≡ 0 → numberOf (unless b c a) ≡ firstOf ((c, b) ∷ [])
+last : (b : Bool) (c : ℕ) (a : Answer) → stopOf a ≡ noStop → stopOf (unless b c a) ≡ firstOf ((refusal c, b) ∷ [])
 unfolding firstOf
 last b c a e = before b c a [] e
 
@@ -83,40 +84,40 @@ unfolding readingOf
 read-carried p l n v q e = valid-carried (p .air) v (read-valid p l n (readingOf (got v q)) (ap readingOf (sym e)) refl)
 
 module _ (d : Desk) (rows : List Record) (n : ℕ) where
-  end-first : (post identifier : ℕ) (a : Answer) (rest : List Ground) → numberOf a ≡ firstOf rest
-      → numberOf (endAnswer d post identifier a) ≡ firstOf ((19, not (waits d identifier)) ∷ (20, not (waitsHere d post identifier)) ∷ rest)
+  end-first : (post identifier : ℕ) (a : Answer) (rest : List Ground) → stopOf a ≡ firstOf rest
+      → stopOf (endAnswer d post identifier a) ≡ firstOf ((refusal 19, not (waits d identifier)) ∷ (refusal 20, not (waitsHere d post identifier)) ∷ rest)
   unfolding endAnswer
   end-first post identifier a rest e = before (not (waits d identifier)) 19 _ _ (before (not (waitsHere d post identifier)) 20 a rest e)
 
-  end-last : (post identifier : ℕ) (a : Answer) → numberOf a ≡ 0
-      → numberOf (endAnswer d post identifier a) ≡ firstOf ((19, not (waits d identifier)) ∷ (20, not (waitsHere d post identifier)) ∷ [])
+  end-last : (post identifier : ℕ) (a : Answer) → stopOf a ≡ noStop
+      → stopOf (endAnswer d post identifier a) ≡ firstOf ((refusal 19, not (waits d identifier)) ∷ (refusal 20, not (waitsHere d post identifier)) ∷ [])
   unfolding firstOf
   end-last post identifier a e = end-first post identifier a [] e
 
-  accept-first : (place : ℕ) → numberOf (acceptAnswer d place) ≡ firstOf (noPlaceThere d place)
+  accept-first : (place : ℕ) → stopOf (acceptAnswer d place) ≡ firstOf (noPlaceThere d place)
   unfolding acceptAnswer moveAnswer firstOf
   accept-first place = go (placeIn (placesOf d) place .more)
     where
       rule : Bool
       rule = admitsOf (d .profile .shares) (clearOf (placesOf d) place) (placeIn (placesOf d) place .second)
 
-      go : (b : Bool) → numberOf (cond b (moveAnswer d place (placeIn (placesOf d) place .second)) answer.Proceed) ≡ firstOf (cond b ((18, not rule) ∷ []) [])
+      go : (b : Bool) → stopOf (cond b (moveAnswer d place (placeIn (placesOf d) place .second)) answer.Proceed) ≡ firstOf (cond b ((refusal 18, not rule) ∷ []) [])
       go true = last (not rule) 18 _ refl
       go false = refl
 
-  admit-first : (p : Party) → numberOf (partyAnswer d p) ≡ firstOf (noPlaceFor d p)
+  admit-first : (p : Party) → stopOf (partyAnswer d p) ≡ firstOf (noPlaceFor d p)
   unfolding admitAnswer firstOf
   admit-first p = go (p .found)
     where
       rule : Bool
       rule = admitsOf (d .profile .shares) (placesOf d) (p .post)
 
-      go : (b : Bool) → numberOf (cond b (admitAnswer d (p .post)) answer.Free) ≡ firstOf (cond b ((18, not rule) ∷ []) [])
+      go : (b : Bool) → stopOf (cond b (admitAnswer d (p .post)) answer.Free) ≡ firstOf (cond b ((refusal 18, not rule) ∷ []) [])
       go true = last (not rule) 18 _ refl
       go false = refl
 
   setup-first : (room : ℕ) (caller called : Identity) (identifier cause : ℕ)
-      → numberOf (setUpAnswer d rows n room caller called identifier cause) ≡ firstOf (setUpOrder d rows n room caller called identifier cause)
+      → stopOf (setUpAnswer d rows n room caller called identifier cause) ≡ firstOf (setUpOrder d rows n room caller called identifier cause)
   unfolding setUpAnswer setUpOrder
   setup-first room caller called identifier cause =
       before (not (setUpOk caller called identifier cause)) 16 _ _
@@ -124,13 +125,13 @@ module _ (d : Desk) (rows : List Record) (n : ℕ) where
       (before (not (recordsOk rows n (postsOf d))) 15 _ _
       (before (waits d identifier) 17 _ _ (admit-first (restrictedOf (take n rows) (caller ∷ called ∷ []))))))
 
-  reject-first : (room post identifier : ℕ) → numberOf (rejectAnswer d room post identifier) ≡ firstOf (rejectOrder d room post identifier)
+  reject-first : (room post identifier : ℕ) → stopOf (rejectAnswer d room post identifier) ≡ firstOf (rejectOrder d room post identifier)
   unfolding rejectAnswer decideAnswer rejectOrder
   reject-first room post identifier =
       before (not (ltb post (postsOf d))) 2 _ _
       (before (not (identifierOk identifier)) 16 _ _ (before (ltb room 300) 14 _ _ (end-last post identifier answer.Rejected refl)))
 
-  cancel-first : (room identifier : ℕ) → numberOf (cancelAnswer d room identifier) ≡ firstOf (cancelOrder d room identifier)
+  cancel-first : (room identifier : ℕ) → stopOf (cancelAnswer d room identifier) ≡ firstOf (cancelOrder d room identifier)
   unfolding cancelAnswer cancelOrder
   cancel-first room identifier =
       before (not (identifierOk identifier)) 16 _ _ (before (ltb room 300) 14 _ _ (last (not (waits d identifier)) 19 (answer.Cancelled (postAt d identifier)) refl))
@@ -138,21 +139,21 @@ module _ (d : Desk) (rows : List Record) (n : ℕ) where
   -- ---- a post's message
 
   module _ (room post : ℕ) (v : Value) where
-    marking-first : (given : Bool) → numberOf (markingAnswer d rows n room given) ≡ firstOf ((14, ltb room 300) ∷ (15, not (recordsOk rows n (postsOf d))) ∷ (21, given) ∷ [])
+    marking-first : (given : Bool) → stopOf (markingAnswer d rows n room given) ≡ firstOf ((refusal 14, ltb room 300) ∷ (refusal 15, not (recordsOk rows n (postsOf d))) ∷ (refusal 21, given) ∷ [])
     unfolding markingAnswer
     marking-first given = before (ltb room 300) 14 _ _ (before (not (recordsOk rows n (postsOf d))) 15 _ _ (last given 21 answer.Acks refl))
 
-    unnamed-first : numberOf (markingAnswer d rows n room false) ≡ firstOf ((14, ltb room 300) ∷ (15, not (recordsOk rows n (postsOf d))) ∷ [])
+    unnamed-first : stopOf (markingAnswer d rows n room false) ≡ firstOf ((refusal 14, ltb room 300) ∷ (refusal 15, not (recordsOk rows n (postsOf d))) ∷ [])
     unfolding markingAnswer
     unnamed-first = before (ltb room 300) 14 _ _ (last (not (recordsOk rows n (postsOf d))) 15 answer.Acks refl)
 
-    interrogate-first : numberOf (interrogateAnswer d rows n post v) ≡ firstOf ((15, not (recordsOk rows n (postsOf d))) ∷ [])
+    interrogate-first : stopOf (interrogateAnswer d rows n post v) ≡ firstOf ((refusal 15, not (recordsOk rows n (postsOf d))) ∷ [])
     unfolding interrogateAnswer
     interrogate-first = last (not (recordsOk rows n (postsOf d))) 15 _ refl
 
-    decide-first : (a : Answer) (rest : List Ground) → numberOf a ≡ firstOf rest
-        → numberOf (decideAnswer d room post (identifierIn v) a)
-        ≡ firstOf ((14, ltb room 300) ∷ (19, not (waits d (identifierIn v))) ∷ (20, not (waitsHere d post (identifierIn v))) ∷ rest)
+    decide-first : (a : Answer) (rest : List Ground) → stopOf a ≡ firstOf rest
+        → stopOf (decideAnswer d room post (identifierIn v) a)
+        ≡ firstOf ((refusal 14, ltb room 300) ∷ (refusal 19, not (waits d (identifierIn v))) ∷ (refusal 20, not (waitsHere d post (identifierIn v))) ∷ rest)
     unfolding decideAnswer
     decide-first a rest e = before (ltb room 300) 14 _ _ (end-first post (identifierIn v) a rest e)
 
@@ -161,8 +162,8 @@ module _ (d : Desk) (rows : List Record) (n : ℕ) where
     place = placeOf (placesOf d) (identifierIn v) .place
 
     -- the types that are carried are the six that posts send and the eight that they don't
-    sent-first : isCarried (v .pdu) ≡ true → numberOf (sentAnswer d rows n room post v) ≡ firstOf (notSent v ∷ typeOrder d rows n room post v)
-    unfolding sentAnswer refusal firstOf table
+    sent-first : isCarried (v .pdu) ≡ true → stopOf (sentAnswer d rows n room post v) ≡ firstOf (notSent v ∷ typeOrder d rows n room post v)
+    unfolding sentAnswer firstOf table
     sent-first h =
         carried-cases By (v .pdu) (
           marking-first (namesDispatchers (d .profile .air) v),
@@ -199,56 +200,72 @@ module _ (d : Desk) (rows : List Record) (n : ℕ) where
       where
         By : ℕ → Type 0
         By t =
-            numberOf (cond (eqb t 2) (markingAnswer d rows n room (namesDispatchers (d .profile .air) v)) (cond (eqb t 4) (markingAnswer d rows n room false) (cond (eqb t 8) (interrogateAnswer d rows n post v)
+            stopOf (cond (eqb t 2) (markingAnswer d rows n room (namesDispatchers (d .profile .air) v)) (cond (eqb t 4) (markingAnswer d rows n room false) (cond (eqb t 8) (interrogateAnswer d rows n post v)
             (cond (eqb t 12) (decideAnswer d room post (identifierIn v) (acceptAnswer d place)) (cond (eqb t 15) (decideAnswer d room post (identifierIn v) answer.Diverted)
             (cond (eqb t 17) (decideAnswer d room post (identifierIn v) answer.Rejected) (answer.Refused (refusal 8))))))))
-            ≡ firstOf ((8, eqb t 3 || (eqb t 5 || (eqb t 10 || (eqb t 11 || (eqb t 13 || (eqb t 14 || (eqb t 16 || eqb t 18)))))))
-            ∷ cond (eqb t 2) ((14, ltb room 300) ∷ (15, not (recordsOk rows n (postsOf d))) ∷ (21, namesDispatchers (d .profile .air) v) ∷ [])
-            (cond (eqb t 4) ((14, ltb room 300) ∷ (15, not (recordsOk rows n (postsOf d))) ∷ [])
-            (cond (eqb t 8) ((15, not (recordsOk rows n (postsOf d))) ∷ [])
-            (cond (eqb t 12) ((14, ltb room 300) ∷ (19, not (waits d (identifierIn v))) ∷ (20, not (waitsHere d post (identifierIn v))) ∷ noPlaceThere d place)
-            (cond (eqb t 15) ((14, ltb room 300) ∷ (19, not (waits d (identifierIn v))) ∷ (20, not (waitsHere d post (identifierIn v))) ∷ [])
-            (cond (eqb t 17) ((14, ltb room 300) ∷ (19, not (waits d (identifierIn v))) ∷ (20, not (waitsHere d post (identifierIn v))) ∷ []) []))))))
+            ≡ firstOf ((refusal 8, eqb t 3 || (eqb t 5 || (eqb t 10 || (eqb t 11 || (eqb t 13 || (eqb t 14 || (eqb t 16 || eqb t 18)))))))
+            ∷ cond (eqb t 2) ((refusal 14, ltb room 300) ∷ (refusal 15, not (recordsOk rows n (postsOf d))) ∷ (refusal 21, namesDispatchers (d .profile .air) v) ∷ [])
+            (cond (eqb t 4) ((refusal 14, ltb room 300) ∷ (refusal 15, not (recordsOk rows n (postsOf d))) ∷ [])
+            (cond (eqb t 8) ((refusal 15, not (recordsOk rows n (postsOf d))) ∷ [])
+            (cond (eqb t 12) ((refusal 14, ltb room 300) ∷ (refusal 19, not (waits d (identifierIn v))) ∷ (refusal 20, not (waitsHere d post (identifierIn v))) ∷ noPlaceThere d place)
+            (cond (eqb t 15) ((refusal 14, ltb room 300) ∷ (refusal 19, not (waits d (identifierIn v))) ∷ (refusal 20, not (waitsHere d post (identifierIn v))) ∷ [])
+            (cond (eqb t 17) ((refusal 14, ltb room 300) ∷ (refusal 19, not (waits d (identifierIn v))) ∷ (refusal 20, not (waitsHere d post (identifierIn v))) ∷ []) []))))))
 
   after-reading : (room post : ℕ) (g : List Ground) (r : Read Value) → Told g r → ((v : Value) (p : ℕ) → r ≡ got v p → isCarried (v .pdu) ≡ true)
-      → numberOf (readAnswer r (λ v. sentAnswer d rows n room post v)) ≡ firstOf (g ++ afterwards r (λ v p. notSent v ∷ typeOrder d rows n room post v))
+      → stopOf (readAnswer r (λ v. sentAnswer d rows n room post v)) ≡ firstOf (g ++ afterwards r (λ v p. notSent v ∷ typeOrder d rows n room post v))
   after-reading room post g (got v p) t h = sent-first room post v (h v p refl) ∙ sym (none-join _ g t .1)
   after-reading room post g (no s) t h = sym (some-join [] g (t .0) .1 ∙ t .1)
 
-  message-first : (l : List ℕ) (room post bits : ℕ) → numberOf (messageAnswer d rows n l room post bits) ≡ firstOf (messageOrder d rows n l room post bits)
+  message-first : (l : List ℕ) (room post bits : ℕ) → stopOf (messageAnswer d rows n l room post bits) ≡ firstOf (messageOrder d rows n l room post bits)
   unfolding messageAnswer messageOrder
   message-first l room post bits =
       before (not (ltb post (postsOf d))) 2 _ _
       (after-reading room post (readingOrder (d .profile) l bits) (readOf (d .profile) l bits) (reading-exact (d .profile) l bits) (λ v p e. read-carried (d .profile) l bits v p e))
 
-  number-first : (l : List ℕ) (room : ℕ) (e : Event) → numberOf (answerOf d rows n l room e) ≡ firstOf (orderOf d rows n l room e)
+  pub stop-first : (l : List ℕ) (room : ℕ) (e : Event) → stopOf (answerOf d rows n l room e) ≡ firstOf (orderOf d rows n l room e)
   unfolding answerOf orderOf
-  number-first l room (event.Message post bits) = before (not (deskOk d)) 1 _ _ (message-first l room post bits)
-  number-first l room (event.SetUp caller called identifier cause) = before (not (deskOk d)) 1 _ _ (setup-first room caller called identifier cause)
-  number-first l room (event.Reject post identifier) = before (not (deskOk d)) 1 _ _ (reject-first room post identifier)
-  number-first l room (event.Cancel identifier) = before (not (deskOk d)) 1 _ _ (cancel-first room identifier)
+  stop-first l room (event.Message post bits) = before (not (deskOk d)) 1 _ _ (message-first l room post bits)
+  stop-first l room (event.SetUp caller called identifier cause) = before (not (deskOk d)) 1 _ _ (setup-first room caller called identifier cause)
+  stop-first l room (event.Reject post identifier) = before (not (deskOk d)) 1 _ _ (reject-first room post identifier)
+  stop-first l room (event.Cancel identifier) = before (not (deskOk d)) 1 _ _ (cancel-first room identifier)
 
 -- ---- so it comes exactly then
 
+number-stop : (a : Answer) → numberOf a ≡ stopOf a .number
+unfolding noStop
+number-stop (answer.Refused s) = refl
+number-stop answer.Acks = refl
+number-stop (answer.State k) = refl
+number-stop answer.Free = refl
+number-stop (answer.Admitted post place) = refl
+number-stop answer.Proceed = refl
+number-stop answer.Diverted = refl
+number-stop answer.Rejected = refl
+number-stop (answer.Cancelled post) = refl
+number-stop (answer.Moved post) = refl
+
 -- the number c comes by an order: its ground holds, and no earlier one does
 pub data Comes (c : ℕ) : List Ground → Type 0 where
-  here : (rest : List Ground) → Comes c ((c, true) ∷ rest)
-  later : (b : ℕ) (rest : List Ground) → Comes c rest → Comes c ((b, false) ∷ rest)
+  here : (s : Stop) (rest : List Ground) → s .number ≡ c → Comes c ((s, true) ∷ rest)
+  later : (s : Stop) (rest : List Ground) → Comes c rest → Comes c ((s, false) ∷ rest)
 
-first-comes : (c : ℕ) (order : List Ground) → 0 < c → firstOf order ≡ c → Comes c order
-unfolding firstOf
+first-comes : (c : ℕ) (order : List Ground) → 0 < c → firstOf order .number ≡ c → Comes c order
+unfolding firstOf noStop
 first-comes c [] h e = absurd (omega (arith, e))
-first-comes c ((b, true) ∷ rest) h e = subst (λ (x : ℕ). Comes c ((x, true) ∷ rest)) (sym e) (here rest)
-first-comes c ((b, false) ∷ rest) h e = later b rest (first-comes c rest h e)
+first-comes c ((s, true) ∷ rest) h e = here s rest e
+first-comes c ((s, false) ∷ rest) h e = later s rest (first-comes c rest h e)
 
-comes-first : (c : ℕ) (order : List Ground) → Comes c order → firstOf order ≡ c
+comes-first : (c : ℕ) (order : List Ground) → Comes c order → firstOf order .number ≡ c
 unfolding firstOf
-comes-first c ((_, true) ∷ rest) (here _) = refl
-comes-first c ((b, false) ∷ rest) (later _ _ w) = comes-first c rest w
+comes-first c ((_, true) ∷ rest) (here _ _ e) = e
+comes-first c ((_, false) ∷ rest) (later _ _ w) = comes-first c rest w
 
 module _ (d : Desk) (rows : List Record) (n : ℕ) (l : List ℕ) (room : ℕ) (e : Event) where
+  number-first : numberOf (answerOf d rows n l room e) ≡ firstOf (orderOf d rows n l room e) .number
+  number-first = number-stop (answerOf d rows n l room e) ∙ ap (λ (s : Stop). s .number) (stop-first d rows n l room e)
+
   pub number-comes : (c : ℕ) → 0 < c → numberOf (answerOf d rows n l room e) ≡ c → Comes c (orderOf d rows n l room e)
-  number-comes c h z = first-comes c (orderOf d rows n l room e) h (sym (number-first d rows n l room e) ∙ z)
+  number-comes c h z = first-comes c (orderOf d rows n l room e) h (sym number-first ∙ z)
 
   pub comes-number : (c : ℕ) → Comes c (orderOf d rows n l room e) → numberOf (answerOf d rows n l room e) ≡ c
-  comes-number c w = number-first d rows n l room e ∙ comes-first c (orderOf d rows n l room e) w
+  comes-number c w = number-first ∙ comes-first c (orderOf d rows n l room e) w

@@ -9,6 +9,7 @@ pub mod AnswerLaws
 pub mod Moves
 pub mod Cancels
 pub mod Exactly
+pub mod Breaks
 pub mod Refusals
 pub mod SetUps
 pub mod Endings

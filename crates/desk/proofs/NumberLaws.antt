@@ -10,7 +10,7 @@ use Rattle.desk.specs.declared.Answer.the-variants as answer
 -- the answer that has a number and values
 abbrev answerFor : Paper → Answer
 answerFor x =
-    cond (eqb (x .plain) 0) (answer.Refused (record { number = x .number }))
+    cond (eqb (x .plain) 0) (answer.Refused (record { number = x .number; element = getD (x .values) 1 0; at = getD (x .values) 0 0 }))
     (cond (eqb (x .plain) 1) answer.Acks
     (cond (eqb (x .plain) 2) (answer.State (getD (x .values) 0 0))
     (cond (eqb (x .plain) 3) answer.Free

@@ -60,13 +60,13 @@ step-desk d rows n l area e =
 
 unfoldable unlessAny : List Ground → Answer → Answer
 unlessAny [] a = a
-unlessAny ((c, b) ∷ rest) a = unless b c (unlessAny rest a)
+unlessAny ((s, b) ∷ rest) a = cond b (answer.Refused s) (unlessAny rest a)
 
 none-holds : (gs : List Ground) (a : Answer) → noneOf gs ≡ true → unlessAny gs a ≡ a
 unfolding noneOf unlessAny
 none-holds [] a e = refl
-none-holds ((c, true) ∷ rest) a e = not-both (both-left false _ e)
-none-holds ((c, false) ∷ rest) a e = none-holds rest a (both-right true _ e)
+none-holds ((s, true) ∷ rest) a e = not-both (both-left false _ e)
+none-holds ((s, false) ∷ rest) a e = none-holds rest a (both-right true _ e)
 
 abbrev pub isRefused : Answer → Bool
 isRefused (answer.Refused s) = true
@@ -83,8 +83,8 @@ isRefused (answer.Moved post) = false
 some-holds : (gs : List Ground) (a : Answer) → noneOf gs ≡ false → isRefused (unlessAny gs a) ≡ true
 unfolding both noneOf unlessAny
 some-holds [] a e = not-both (sym e)
-some-holds ((c, true) ∷ rest) a e = refl
-some-holds ((c, false) ∷ rest) a e = some-holds rest a e
+some-holds ((s, true) ∷ rest) a e = refl
+some-holds ((s, false) ∷ rest) a e = some-holds rest a e
 
 abbrev pub isFree : Answer → Bool
 isFree (answer.Refused s) = false

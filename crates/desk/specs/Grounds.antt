@@ -1,10 +1,11 @@
--- Each call's order, as document 01 lists it: its numbers, first to last, each with whether its ground holds. A number comes exactly
+-- Each call's order, as document 01 lists it: its refusals, first to last, each with whether its ground holds. A number comes exactly
 -- when its ground holds and no earlier one of that call's order does (proofs/Exactly). Reading's own stand along the bits (`readingOrder`).
 use Prim.Native.Nat.{ℕ}
 use mathlib.Core.Bool.{Bool, false, not, cond, _||_}
 use mathlib.Core.List.{List, [], _∷_, _++_}
 use lib.Dec.{eqb, ltb}
 use lib.ListN.{take}
+use Rattle.codec.specs.Stops.{refusal}
 use Rattle.codec.specs.Codec.{Ground, both, noneOf, afterwards}
 use Rattle.message.specs.Values.{identifierIn}
 use Rattle.message.specs.Reading.{readOf, readingOrder}
@@ -25,28 +26,28 @@ use Rattle.desk.specs.declared.Event.the-variants as event
 
 -- post number not below the number of posts
 abbrev pub noSuchPost : Desk → ℕ → Ground
-noSuchPost d post = (2, not (ltb post (postsOf d)))
+noSuchPost d post = (refusal 2, not (ltb post (postsOf d)))
 
 -- a type that posts don't send: 3, 10, 13, 16; of document 02, (i) 5, (iv) 11, 14, 18
 abbrev pub notSent : Value → Ground
 notSent v =
-    (8, eqb (v .pdu) 3 || (eqb (v .pdu) 5 || (eqb (v .pdu) 10 || (eqb (v .pdu) 11 || (eqb (v .pdu) 13 || (eqb (v .pdu) 14 || (eqb (v .pdu) 16 || eqb (v .pdu) 18)))))))
+    (refusal 8, eqb (v .pdu) 3 || (eqb (v .pdu) 5 || (eqb (v .pdu) 10 || (eqb (v .pdu) 11 || (eqb (v .pdu) 13 || (eqb (v .pdu) 14 || (eqb (v .pdu) 16 || eqb (v .pdu) 18)))))))
 
 -- output shorter than 300 bytes
 abbrev pub shortArea : ℕ → Ground
-shortArea room = (14, ltb room 300)
+shortArea room = (refusal 14, ltb room 300)
 
 -- over 128 records, or one in use with a post not below the number of posts, or an SSI or extension over 24 bits
 abbrev pub badRecords : Desk → List Record → ℕ → Ground
-badRecords d rows n = (15, not (recordsOk rows n (postsOf d)))
+badRecords d rows n = (refusal 15, not (recordsOk rows n (postsOf d)))
 
 -- identifier over 14 bits
 abbrev pub wideIdentifier : ℕ → Ground
-wideIdentifier identifier = (16, not (identifierOk identifier))
+wideIdentifier identifier = (refusal 16, not (identifierOk identifier))
 
 -- the same, or an interception cause over 5, or a party's SSI or extension over 24
 abbrev pub wideCall : Identity → Identity → ℕ → ℕ → Ground
-wideCall caller called identifier cause = (16, not (setUpOk caller called identifier cause))
+wideCall caller called identifier cause = (refusal 16, not (setUpOk caller called identifier cause))
 
 -- the call waits; a call that waits does so at this post
 abbrev pub waits : Desk → ℕ → Bool
@@ -57,7 +58,7 @@ waitsHere d post identifier = eqb (placeIn (placesOf d) (placeOf (placesOf d) id
 
 -- identifier waiting already
 abbrev pub waitsAlready : Desk → ℕ → Ground
-waitsAlready d identifier = (17, waits d identifier)
+waitsAlready d identifier = (refusal 17, waits d identifier)
 
 -- the party that a call being set up is for
 abbrev pub partyFor : List Record → ℕ → Identity → Identity → Party
@@ -65,25 +66,25 @@ partyFor rows n caller called = restrictedOf (take n rows) (caller ∷ called �
 
 -- the places rule says no, for a call that is not free
 abbrev pub noPlaceFor : Desk → Party → List Ground
-noPlaceFor d party = cond (party .found) ((18, not (admitsOf (d .profile .shares) (placesOf d) (party .post))) ∷ []) []
+noPlaceFor d party = cond (party .found) ((refusal 18, not (admitsOf (d .profile .shares) (placesOf d) (party .post))) ∷ []) []
 
 -- identifier not waiting
 abbrev pub notWaiting : Desk → ℕ → Ground
-notWaiting d identifier = (19, not (waits d identifier))
+notWaiting d identifier = (refusal 19, not (waits d identifier))
 
 -- waiting at another post
 abbrev pub waitsElsewhere : Desk → ℕ → ℕ → Ground
-waitsElsewhere d post identifier = (20, not (waitsHere d post identifier))
+waitsElsewhere d post identifier = (refusal 20, not (waitsHere d post identifier))
 
 -- the places rule says no for the second post of a call that has one, its own place taken as free
 abbrev pub noPlaceThere : Desk → ℕ → List Ground
 noPlaceThere d place =
     cond (placeIn (placesOf d) place .more)
-    ((18, not (admitsOf (d .profile .shares) (clearOf (placesOf d) place) (placeIn (placesOf d) place .second))) ∷ []) []
+    ((refusal 18, not (admitsOf (d .profile .shares) (clearOf (placesOf d) place) (placeIn (placesOf d) place .second))) ∷ []) []
 
 -- dispatcher addresses given
 abbrev pub dispatchersGiven : Desk → Value → Ground
-dispatchersGiven d v = (21, namesDispatchers (d .profile .air) v)
+dispatchersGiven d v = (refusal 21, namesDispatchers (d .profile .air) v)
 
 -- ---- the orders, call by call
 
@@ -127,13 +128,13 @@ eventOrder d rows n l room (event.Cancel identifier) = cancelOrder d room identi
 
 -- every call: 1 before all else
 unfoldable pub orderOf : Desk → List Record → ℕ → List ℕ → ℕ → Event → List Ground
-orderOf d rows n l room e = (1, not (deskOk d)) ∷ eventOrder d rows n l room e
+orderOf d rows n l room e = (refusal 1, not (deskOk d)) ∷ eventOrder d rows n l room e
 
 -- ---- call set-up, before the places rule
 
 abbrev pub setUpGrounds : Desk → List Record → ℕ → ℕ → Identity → Identity → ℕ → ℕ → List Ground
 setUpGrounds d rows n room caller called identifier cause =
-    (1, not (deskOk d)) ∷ wideCall caller called identifier cause ∷ shortArea room ∷ badRecords d rows n ∷ waitsAlready d identifier ∷ []
+    (refusal 1, not (deskOk d)) ∷ wideCall caller called identifier cause ∷ shortArea room ∷ badRecords d rows n ∷ waitsAlready d identifier ∷ []
 
 -- a well-formed new call: 1, 16, 14, 15 and 17 do not come
 unfoldable pub isNew : Desk → List Record → ℕ → ℕ → Identity → Identity → ℕ → ℕ → Bool

@@ -19,7 +19,7 @@ good-zero = good-pure 0 isZero refl zero-is
 
 pub good-kind : Good kindC
 unfolding kindC
-good-kind = good-guard 10 isKind (number element.kind 2) (good-number element.kind 2)
+good-kind = good-guard 10 isKind (number element.kind 2) refl (good-number element.kind 2)
 
 good-extension : (k : ℕ) → Good (extensionC k)
 unfolding extensionC

@@ -8,7 +8,7 @@ use mathlib.Core.List.{List, [], _∷_}
 use lib.ListN.{set}
 use Rattle.bits.specs.Fields.{bitAt, fieldAt}
 use Rattle.codec.specs.Stops.{short, refusal}
-use Rattle.codec.specs.Codec.{Ground, Read, got, no, both, number, vecRead, vecOrder}
+use Rattle.codec.specs.Codec.{Ground, groundsOf, Read, got, no, both, number, vecRead, vecOrder}
 use Rattle.codec.specs.Options.{flag}
 use Rattle.profile.specs.Counting.{every, sum}
 use Rattle.profile.specs.Rules.{meaningOk, meaningIn, airOk, shareOk, shareIn, sharesOk, profileOk}
@@ -152,6 +152,21 @@ cases =
     ∷ reads (0x24 ∷ 0xBE ∷ 0x80 ∷ 0x01 ∷ 0xF4 ∷ 0xA0 ∷ 0x00 ∷ 0x7D ∷ 0x88 ∷ []) 69 (got (ack 5 false 0 1 0) 69)
     ∷ reads (0x24 ∷ 0xBE ∷ 0x80 ∷ 0x01 ∷ 0xF4 ∷ 0xA0 ∷ 0x00 ∷ 0x7D ∷ 0x9C ∷ 0x80 ∷ []) 71 (no (short element.mask 68))
     ∷ reads (0x24 ∷ 0xBE ∷ 0x80 ∷ 0x01 ∷ 0xF4 ∷ 0xA0 ∷ 0x00 ∷ 0x7D ∷ 0x92 ∷ 0x01 ∷ []) 79 (no (short element.reason 73))
+    -- each element once, broken off: the lines of docs/REFUSALS.md that do not stand above
+    ∷ reads (0x24 ∷ []) 5 (no (short element.ssType 0))
+    ∷ reads (0x24 ∷ 0x9E ∷ []) 14 (no (short element.range 11))
+    ∷ reads (0x25 ∷ 0x08 ∷ []) 12 (no (short element.kind 11))
+    ∷ reads (0x25 ∷ 0x08 ∷ 0x00 ∷ 0x1F ∷ 0x48 ∷ []) 36 (no (short element.ssi 13))
+    ∷ reads (0x25 ∷ 0x10 ∷ 0x00 ∷ 0x1F ∷ 0x48 ∷ 0x00 ∷ 0x02 ∷ 0x68 ∷ []) 60 (no (short element.extension 37))
+    ∷ reads (0x24 ∷ 0x62 ∷ 0x80 ∷ 0x01 ∷ 0xF4 ∷ 0xA0 ∷ []) 41 (no (short element.maskPresent 41))
+    ∷ reads (0x24 ∷ 0xBE ∷ 0x80 ∷ 0x01 ∷ 0xF4 ∷ 0xA0 ∷ 0x00 ∷ 0x7D ∷ 0x9C ∷ 0x80 ∷ []) 72 (no (short element.result 72))
+    ∷ reads (0x25 ∷ 0x40 ∷ 0x00 ∷ []) 15 (no (short element.cause 11))
+    ∷ reads (0x25 ∷ 0x80 ∷ 0x02 ∷ 0x80 ∷ []) 24 (no (short element.identifier 11))
+    ∷ reads (0x25 ∷ 0x40 ∷ 0x00 ∷ []) 16 (no (short element.oBit 16))
+    ∷ reads (0x25 ∷ 0x40 ∷ 0x80 ∷ []) 17 (no (short element.pBit 17))
+    ∷ reads (0x25 ∷ 0x60 ∷ 0x02 ∷ 0x82 ∷ 0x40 ∷ 0x00 ∷ 0x00 ∷ 0x00 ∷ []) 57 (no (short element.mni 34))
+    ∷ reads (0x25 ∷ 0x60 ∷ 0x02 ∷ 0x82 ∷ 0x20 ∷ []) 38 (no (short element.area 35))
+    ∷ reads (0x25 ∷ 0x60 ∷ 0x02 ∷ 0x82 ∷ 0x07 ∷ []) 39 (no (short element.basicService 38))
     ∷ []
 
 pub cases-right : list.map gives cases ≡ list.map wants cases
@@ -160,8 +175,11 @@ cases-right = refl
 
 -- ---- the grounds along the bits
 
--- of worked case 8: 1, 3; SS type and PDU type; 5, 6, 7; the range and 9; of each address the kind, 10, the SSI; 11; the O-bit; 13
+-- of worked case 8: 1, 3; SS type and PDU type; 5, 6, 7; the range and 9; of each address the kind, 10, the SSI; 11; the O-bit; 13; and with
+-- each element where it begins
 pub order-right : list.map (λ (g : Ground). g .0) (readingOrder sample (0x24 ∷ 0x5E ∷ 0x80 ∷ 0x01 ∷ 0xF4 ∷ 0xA0 ∷ 0x00 ∷ 0x7D ∷ 0x80 ∷ []) 68)
-    ≡ 1 ∷ 3 ∷ 4 ∷ 4 ∷ 5 ∷ 6 ∷ 7 ∷ 4 ∷ 9 ∷ 4 ∷ 10 ∷ 4 ∷ 4 ∷ 10 ∷ 4 ∷ 11 ∷ 4 ∷ 13 ∷ []
-unfolding bitAt fieldAt both number vecRead vecOrder flag every sum meaningOk meaningIn airOk shareOk shareIn sharesOk profileOk sample sampleMeanings sampleShare kindC extensionC addressC addressesIn allowedIn nobodies placesC rangeOk endsOk addressesC rangeC groupC noGroup oneGroup spanIn spanOf maskC maskedC resultC elements elementOf widths widthOf blank rowOf rowIn table partsC puts eachC optionsC putOptions firstParts bodyC isKnown isCarried headerC messageC wholeOf lengthOk readBits readOf bitsOrder readingOrder
+    ≡ refusal 1 ∷ refusal 3 ∷ short element.ssType 0 ∷ short element.pduType 6 ∷ refusal 5 ∷ refusal 6 ∷ refusal 7 ∷ short element.range 11 ∷ refusal 9
+    ∷ short element.kind 15 ∷ refusal 10 ∷ short element.ssi 17 ∷ short element.kind 41 ∷ refusal 10 ∷ short element.ssi 43 ∷ refusal 11
+    ∷ short element.oBit 67 ∷ refusal 13 ∷ []
+unfolding bitAt fieldAt both number vecRead vecOrder flag every sum meaningOk meaningIn airOk shareOk shareIn sharesOk profileOk sample sampleMeanings sampleShare kindC extensionC addressC addressesIn allowedIn nobodies placesC rangeOk endsOk addressesC rangeC groupC noGroup oneGroup spanIn spanOf maskC maskedC resultC elements elementOf widths widthOf blank rowOf rowIn table partsC puts eachC optionsC putOptions firstParts bodyC isKnown isCarried headerC messageC wholeOf lengthOk readBits readOf bitsOrder readingOrder groundsOf
 order-right = refl

@@ -88,11 +88,11 @@ few-addresses none m e = few-by (m .kind) (m .count) none e
 
 good-addresses : (m : Meaning) → addressesIn m ≤ 15 → Good (addressesC m)
 unfolding addressesC
-good-addresses m h = good-guard 11 (λ l. endsOk m l) (placesC (addressesIn m)) (good-places (addressesIn m) h)
+good-addresses m h = good-guard 11 (λ l. endsOk m l) (placesC (addressesIn m)) refl (good-places (addressesIn m) h)
 
 pub good-range : (air : Air) (none : Bool) → Good (rangeC air none)
 unfolding rangeC
-good-range air none = good-guard 9 (λ r. allowedIn none (meaningIn (air .meanings) r)) (number element.range 4) (good-number element.range 4)
+good-range air none = good-guard 9 (λ r. allowedIn none (meaningIn (air .meanings) r)) (number element.range 4) refl (good-number element.range 4)
 
 pub range-allowed : (air : Air) (none : Bool) (r : ℕ) → rangeC air none .ok r ≡ true → allowedIn none (meaningIn (air .meanings) r) ≡ true
 unfolding rangeC

@@ -6,6 +6,7 @@ pub mod MessageLaws
 pub mod ReadingLaws
 pub mod StopLaws
 pub mod OrderLaws
+pub mod BreakLaws
 pub mod Cases
 pub mod RowLaws
 pub mod SlotLaws

@@ -157,9 +157,9 @@ body-pdu air t v e =
 pub good-header : (ss : ℕ) → Good (headerC ss)
 unfolding headerC
 good-header ss =
-    good-guard 7 (λ x. isCarried (x .1)) _
-    (good-guard 6 (λ x. isKnown (x .1)) _
-    (good-guard 5 (λ x. eqb (x .0) ss) _
+    good-guard 7 (λ x. isCarried (x .1)) _ refl
+    (good-guard 6 (λ x. isKnown (x .1)) _ refl
+    (good-guard 5 (λ x. eqb (x .0) ss) _ refl
     (good-seq (number element.ssType 6) (λ _. number element.pduType 5) (good-number element.ssType 6) (λ _ _. good-number element.pduType 5))))
 
 header-ss : (ss : ℕ) (h : ℕ × ℕ) → headerC ss .ok h ≡ true → h .0 ≡ ss

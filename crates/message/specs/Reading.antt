@@ -6,7 +6,7 @@ use lib.Dec.{eqb, leb}
 use lib.ListN.{length}
 use Rattle.bits.specs.Fields.{bitAt}
 use Rattle.codec.specs.Stops.{refusal}
-use Rattle.codec.specs.Codec.{Ground, Codec, Read, got, no, bind, afterwards, both}
+use Rattle.codec.specs.Codec.{Along, asks, Ground, groundsOf, Codec, Read, got, no, bind, afterwards, both}
 use Rattle.profile.specs.Rules.{profileOk}
 use Rattle.profile.specs.declared.Air.{Air}
 use Rattle.profile.specs.declared.Profile.{Profile}
@@ -32,13 +32,14 @@ readOf p l n = cond (profileOk p) (readBits (p .air) l n) (no (refusal 1))
 
 -- ---- the grounds of its refusals, first to last
 
--- along the bits: 4 for each element before its content, 5 to 7 after the header, 9 after a range, 10 after a kind, 11 after the second
--- address, 12 after the last P-bit; and 13 where bits are left over
-unfoldable pub bitsOrder : Air → (ℕ → ℕ) → ℕ → List Ground
-bitsOrder air f n = messageC air .order f n 0 ++ afterwards (messageC air .read f n 0) (λ v p. (13, not (eqb p n)) ∷ [])
+-- along the bits: each element before its content, 5 to 7 after the header, 9 after a range, 10 after a kind, 11 after the second address,
+-- 12 after the last P-bit; and 13 where bits are left over
+unfoldable pub bitsOrder : Air → (ℕ → ℕ) → ℕ → List Along
+bitsOrder air f n = messageC air .order f n 0 ++ afterwards (messageC air .read f n 0) (λ v p. asks 13 (not (eqb p n)) ∷ [])
 
+-- 1, 3, and what stands along the bits: 4 for each element that reaches past the length, with that element and where it begins
 unfoldable pub readingOrder : Profile → List ℕ → ℕ → List Ground
-readingOrder p l n = (1, not (profileOk p)) ∷ ((3, not (lengthOk l n)) ∷ bitsOrder (p .air) (bitAt l) n)
+readingOrder p l n = (refusal 1, not (profileOk p)) ∷ ((refusal 3, not (lengthOk l n)) ∷ groundsOf n (bitsOrder (p .air) (bitAt l) n))
 
 -- the numbers that reading gives once 1 does not come: 3 to 13 without 8
 unfoldable pub isReading : ℕ → Bool

@@ -18,20 +18,20 @@ short-at-requires-2 c κs = search needs
 returns-2 : tie.Need-returns-2
 returns-2 c = rw (c .short-at2 .ensures) (sym (take-past _ _ _ _ _ (omega arith) (omega arith)))
 
-short-at-requires-3 : tie.Need-short-at-requires-3
-short-at-requires-3 c κs = search needs
-
-returns-3 : tie.Need-returns-3
-returns-3 c = rw (c .short-at3 .ensures) (sym (take-past _ _ _ _ _ (omega arith) (omega arith)))
-
 field-requires : tie.Need-field-requires
 field-requires c κs = search needs
 
-add-t9 : tie.Need-add-t9
-add-t9 c = search needs
+add-t11 : tie.Need-add-t11
+add-t11 c = search needs
+
+returns-3 : tie.Need-returns-3
+returns-3 c = rw (c .field .ensures) (sym (take-there _ _ _ _ _ (omega arith) (omega arith)))
+
+short-at-requires-3 : tie.Need-short-at-requires-3
+short-at-requires-3 c κs = search needs
 
 returns-4 : tie.Need-returns-4
-returns-4 c = rw (c .field .ensures) (sym (take-there _ _ _ _ _ (omega arith) (omega arith)))
+returns-4 c = rw (c .short-at3 .ensures) (sym (take-past _ _ _ _ _ (omega arith) (omega arith)))
 
 pub take-spec : {M : Type 1} → statement M
 take-spec =
@@ -41,8 +41,8 @@ take-spec =
     returns
     short-at-requires-2
     returns-2
-    short-at-requires-3
-    returns-3
     field-requires
-    add-t9
+    add-t11
+    returns-3
+    short-at-requires-3
     returns-4)
