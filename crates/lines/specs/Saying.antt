@@ -1,11 +1,13 @@
--- What is printed for a line after its number: the message's name in capitals, or `refused` and the number, under the sample profile.
+-- What is printed for a line after its number, under the sample profile: the message's name in capitals, or `refused` and the number, and with a
+-- 4 `at` and the position where the element that did not fit begins.
 use Prim.Native.Nat.{ℕ, _+_, _/_, _%_}
 use mathlib.Core.Bool.{cond}
 use mathlib.Core.List.{List, [], _∷_}
-use lib.Dec.{eqb, ltb}
+use lib.Dec.{eqb, leb, ltb}
 use lib.ListN.{length, replicate}
 use lib.Seq.{sets}
 use Rattle.codec.specs.Codec.{Read, got, no}
+use Rattle.codec.specs.declared.Stop.{Stop}
 use Rattle.profile.specs.Sample.{sample}
 use Rattle.message.specs.Reading.{readOf}
 use Rattle.message.specs.declared.Value.{Value}
@@ -55,10 +57,28 @@ decimalOf n =
 unfoldable pub refusedOf : ℕ → List ℕ
 refusedOf n = 114 ∷ 101 ∷ 102 ∷ 117 ∷ 115 ∷ 101 ∷ 100 ∷ 32 ∷ decimalOf n
 
+-- a position in decimal: reading gives none over 2,048 (`position-most`, message), so four digits are enough
+unfoldable pub digitOf : ℕ → ℕ
+digitOf n = n % 10 + 48
+
+abbrev pub positionOf : ℕ → List ℕ
+positionOf n =
+    cond (leb 10 n)
+    (cond (leb 100 n)
+    (cond (leb 1000 n) (digitOf (n / 1000) ∷ digitOf (n / 100) ∷ digitOf (n / 10) ∷ digitOf n ∷ []) (digitOf (n / 100) ∷ digitOf (n / 10) ∷ digitOf n ∷ []))
+    (digitOf (n / 10) ∷ digitOf n ∷ [])) (digitOf n ∷ [])
+
+-- `refused 4 at ` and the position
+unfoldable pub brokeOf : ℕ → List ℕ
+brokeOf at = 114 ∷ 101 ∷ 102 ∷ 117 ∷ 115 ∷ 101 ∷ 100 ∷ 32 ∷ 52 ∷ 32 ∷ 97 ∷ 116 ∷ 32 ∷ positionOf at
+
+unfoldable pub stopOf : Stop → List ℕ
+stopOf s = cond (eqb (s .number) 4) (brokeOf (s .at)) (refusedOf (s .number))
+
 -- what a reading comes to
 unfoldable pub answerOf : Read Value → List ℕ
 answerOf (got v p) = nameOf (v .pdu)
-answerOf (no s) = refusedOf (s .number)
+answerOf (no s) = stopOf s
 
 -- a line of another shape is `refused 3`
 abbrev pub sayOf : Line → List ℕ
@@ -68,6 +88,6 @@ sayOf other = refusedOf 3
 unfoldable pub saidOf : List ℕ → List ℕ
 saidOf line = sayOf (lineOf line)
 
--- the bytes of a text at the front of sixteen: no name has more than fifteen
+-- the bytes of a text at the front of twenty: no name has more than fifteen, and `refused 4 at 2048` has seventeen
 unfoldable pub textOf : List ℕ → Text
-textOf xs = record { len = length xs; bytes = sets (replicate 16 0) 0 xs }
+textOf xs = record { len = length xs; bytes = sets (replicate 20 0) 0 xs }

@@ -8,13 +8,14 @@ ghost use lib.ListN.{length, take, drop};
 ghost use Rattle.profile.specs.Sample.{sample};
 ghost use Rattle.message.specs.Reading.{readOf};
 ghost use Rattle.lines.specs.Shape.{isDigit, hexOf, noHex, hexAt, other, lineWith, afterDigits, lineOf};
-ghost use Rattle.lines.specs.Saying.{nameOf, refusedOf, answerOf, saidOf, textOf};
+ghost use Rattle.lines.specs.Saying.{nameOf, refusedOf, digitOf, brokeOf, stopOf, answerOf, saidOf, textOf};
+use codec::Stop;
 ghost use Rattle.lines.specs.Parsing.{Parses};
 
 // The first `len` of the bytes; the others are zero.
 pub struct Text {
     pub len: usize,
-    pub bytes: [u8; 16],
+    pub bytes: [u8; 20],
 }
 
 // The first `count` of the bytes; the others are zero, and all are where it is not good.
@@ -82,7 +83,7 @@ fn answered(message: &[u8], bits: usize) -> Text
         return named(value.pdu);
     }
     let stop = r.stop;
-    refused(stop.number)
+    stopped(stop)
 }
 
 fn named(pdu: u8) -> Text
@@ -136,7 +137,7 @@ fn named(pdu: u8) -> Text
 // No message that is read has such a type.
 const NO_NAME: Text = Text {
     len: 0,
-    bytes: [0; 16],
+    bytes: [0; 20],
 };
 
 const ACTIVATE: Text = Text {
@@ -150,6 +151,10 @@ const ACTIVATE: Text = Text {
         b'A',
         b'T',
         b'E',
+        0,
+        0,
+        0,
+        0,
         0,
         0,
         0,
@@ -180,6 +185,10 @@ const ACTIVATE_ACK: Text = Text {
         0,
         0,
         0,
+        0,
+        0,
+        0,
+        0,
     ],
 };
 
@@ -196,6 +205,10 @@ const DEACTIVATE: Text = Text {
         b'A',
         b'T',
         b'E',
+        0,
+        0,
+        0,
+        0,
         0,
         0,
         0,
@@ -224,6 +237,10 @@ const DEACTIVATE_ACK: Text = Text {
         b'K',
         0,
         0,
+        0,
+        0,
+        0,
+        0,
     ],
 };
 
@@ -241,6 +258,10 @@ const INTERROGATE: Text = Text {
         b'A',
         b'T',
         b'E',
+        0,
+        0,
+        0,
+        0,
         0,
         0,
         0,
@@ -268,6 +289,10 @@ const INTERCEPTED: Text = Text {
         0,
         0,
         0,
+        0,
+        0,
+        0,
+        0,
     ],
 };
 
@@ -290,6 +315,10 @@ const REQUEST: Text = Text {
         0,
         0,
         0,
+        0,
+        0,
+        0,
+        0,
     ],
 };
 
@@ -302,6 +331,10 @@ const ACCEPT: Text = Text {
         b'E',
         b'P',
         b'T',
+        0,
+        0,
+        0,
+        0,
         0,
         0,
         0,
@@ -334,6 +367,10 @@ const ACCEPTED: Text = Text {
         0,
         0,
         0,
+        0,
+        0,
+        0,
+        0,
     ],
 };
 
@@ -346,6 +383,10 @@ const CANCEL: Text = Text {
         b'C',
         b'E',
         b'L',
+        0,
+        0,
+        0,
+        0,
         0,
         0,
         0,
@@ -378,6 +419,10 @@ const DIVERT: Text = Text {
         0,
         0,
         0,
+        0,
+        0,
+        0,
+        0,
     ],
 };
 
@@ -400,6 +445,10 @@ const DIVERTED: Text = Text {
         0,
         0,
         0,
+        0,
+        0,
+        0,
+        0,
     ],
 };
 
@@ -412,6 +461,10 @@ const REJECT: Text = Text {
         b'E',
         b'C',
         b'T',
+        0,
+        0,
+        0,
+        0,
         0,
         0,
         0,
@@ -444,8 +497,22 @@ const REJECTED: Text = Text {
         0,
         0,
         0,
+        0,
+        0,
+        0,
+        0,
     ],
 };
+
+// A refusal; with a 4 the position where the element that did not fit begins.
+fn stopped(stop: Stop) -> Text
+    ensures { λ r. ⌜ r ≡ textOf (stopOf stop) ⌝ }
+{
+    if stop.number == 4 {
+        return broke(stop.at);
+    }
+    refused(stop.number)
+}
 
 fn refused(number: u8) -> Text
     ensures { λ r. ⌜ r ≡ textOf (refusedOf number) ⌝ }
@@ -463,6 +530,10 @@ fn refused(number: u8) -> Text
                 b'd',
                 b' ',
                 48 + number,
+                0,
+                0,
+                0,
+                0,
                 0,
                 0,
                 0,
@@ -493,6 +564,10 @@ fn refused(number: u8) -> Text
                 0,
                 0,
                 0,
+                0,
+                0,
+                0,
+                0,
             ],
         };
     }
@@ -515,8 +590,130 @@ fn refused(number: u8) -> Text
             0,
             0,
             0,
+            0,
+            0,
+            0,
+            0,
         ],
     }
+}
+
+fn broke(at: usize) -> Text
+    ensures { λ r. ⌜ r ≡ textOf (brokeOf at) ⌝ }
+{
+    if at < 10 {
+        return Text {
+            len: 14,
+            bytes: [
+                b'r',
+                b'e',
+                b'f',
+                b'u',
+                b's',
+                b'e',
+                b'd',
+                b' ',
+                b'4',
+                b' ',
+                b'a',
+                b't',
+                b' ',
+                digit(at),
+                0,
+                0,
+                0,
+                0,
+                0,
+                0,
+            ],
+        };
+    }
+    if at < 100 {
+        return Text {
+            len: 15,
+            bytes: [
+                b'r',
+                b'e',
+                b'f',
+                b'u',
+                b's',
+                b'e',
+                b'd',
+                b' ',
+                b'4',
+                b' ',
+                b'a',
+                b't',
+                b' ',
+                digit(at / 10),
+                digit(at),
+                0,
+                0,
+                0,
+                0,
+                0,
+            ],
+        };
+    }
+    if at < 1000 {
+        return Text {
+            len: 16,
+            bytes: [
+                b'r',
+                b'e',
+                b'f',
+                b'u',
+                b's',
+                b'e',
+                b'd',
+                b' ',
+                b'4',
+                b' ',
+                b'a',
+                b't',
+                b' ',
+                digit(at / 100),
+                digit(at / 10),
+                digit(at),
+                0,
+                0,
+                0,
+                0,
+            ],
+        };
+    }
+    Text {
+        len: 17,
+        bytes: [
+            b'r',
+            b'e',
+            b'f',
+            b'u',
+            b's',
+            b'e',
+            b'd',
+            b' ',
+            b'4',
+            b' ',
+            b'a',
+            b't',
+            b' ',
+            digit(at / 1000),
+            digit(at / 100),
+            digit(at / 10),
+            digit(at),
+            0,
+            0,
+            0,
+        ],
+    }
+}
+
+// The last digit of a number.
+fn digit(n: usize) -> u8
+    ensures { λ r. ⌜ r ≡ digitOf n ⌝ }
+{
+    (n % 10) as u8 + 48
 }
 
 // ---- the shape of a line

@@ -21,8 +21,8 @@ struct SoFar {
     kept: blocks::Text,
 }
 
-// The longest line printed: a number of 20 digits, a space, 16 bytes and LF.
-const LONGEST: usize = 38;
+// The longest line printed: a number of 20 digits, a space, 20 bytes and LF.
+const LONGEST: usize = 42;
 
 fn main() {
     let mut input = io::large_buffer();

@@ -20,13 +20,13 @@ returns c =
     let q = c .before .before .before in
     rw (← (q .before .sample-profile .ensures)) (c .named .ensures ∙ ap textOf (sym (said-found _ (q .read .result) (q .read .ensures) (c .before .before .if1 .taken))))
 
-refused-requires : tie.Need-refused-requires
-refused-requires c κs = search needs
+stopped-requires : tie.Need-stopped-requires
+stopped-requires c κs = search needs
 
 returns-2 : tie.Need-returns-2
 returns-2 c =
     let q = c .before .before .before in
-    rw (← (q .before .sample-profile .ensures)) (c .refused .ensures ∙ ap textOf (sym (said-refused _ (q .read .result) (q .read .ensures) (c .before .before .if1 .left))))
+    rw (← (q .before .sample-profile .ensures)) (c .stopped .ensures ∙ ap textOf (sym (said-refused _ (q .read .result) (q .read .ensures) (c .before .before .if1 .left))))
 
 pub answered-spec : {M : Type 1} → statement M
 answered-spec =
@@ -36,5 +36,5 @@ answered-spec =
     read-requires
     named-requires
     returns
-    refused-requires
+    stopped-requires
     returns-2)
