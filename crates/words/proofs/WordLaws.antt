@@ -6,8 +6,9 @@ use mathlib.Core.List.{List, [], _∷_, _++_}
 use native.Mathlib.Nat.{pow-suc, one-le-pow, mul-div-cancel}
 use native.Mathlib.Omega.{arith}
 use lib.ListN.{getD}
+use borrow.Author.Tests.{ne-eqb}
 use Rattle.blocks.specs.Texts.{Wrote}
-use Rattle.words.specs.Words.{digitIn, shown, digitIf, digitsFrom, hexPair, hexFrom}
+use Rattle.words.specs.Words.{digitIn, shown, digitIf, digitsFrom, hexPair, hexFrom, wordIn}
 use Rattle.blocks.specs.declared.Text.{Text}
 use Rattle.blocks.proofs.TextLaws.{wrote-join, wrote-none, wrote-as}
 
@@ -42,3 +43,15 @@ module _ (left k : ℕ) (area : List ℕ) (at byte : ℕ) (a b : Text) where
 pub bytes-over : (left : ℕ) (area : List ℕ) (at : ℕ) (a : Text) → left ≡ 0 → Wrote a a (hexFrom left area at)
 unfolding hexFrom
 bytes-over left area at a e = rw e (wrote-none a)
+
+-- ---- an element's name
+
+-- a number that a table does not have
+abbrev pub OutOf : List (ℕ × List ℕ) → ℕ → Type 0
+OutOf [] e = Unit
+OutOf ((k, word) ∷ rest) e = (e ≡ k → ⊥) × OutOf rest e
+
+pub word-out : (words : List (ℕ × List ℕ)) (e : ℕ) → OutOf words e → wordIn words e ≡ []
+unfolding wordIn
+word-out [] e o = refl
+word-out ((k, word) ∷ rest) e o = rw (ne-eqb e k (o .0)) (word-out rest e (o .1))

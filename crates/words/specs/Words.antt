@@ -4,7 +4,9 @@ use mathlib.Core.Bool.{Bool, true, false, not, cond}
 use mathlib.Core.List.{List, [], _∷_, _++_}
 use lib.Dec.{eqb, ltb}
 use lib.ListN.{getD}
+use Rattle.codec.specs.declared.Stop.{Stop}
 use Rattle.profile.specs.Counting.{one}
+use Rattle.message.specs.Elements as element
 use Rattle.places.specs.declared.Place.{Place}
 use Rattle.records.specs.declared.Record.{Record}
 use Rattle.sending.specs.declared.Laid.{Laid}
@@ -60,6 +62,63 @@ bitsIn laid k = getD (laid .lengths) k 0
 unfoldable pub refusedOf : ℕ → List ℕ
 refusedOf n = (114 ∷ 101 ∷ 102 ∷ 117 ∷ 115 ∷ 101 ∷ 100 ∷ 32 ∷ []) ++ decimalOf n
 
+-- the elements' names, by number
+unfoldable pub elementWords : List (ℕ × List ℕ)
+elementWords =
+    -- ss-type
+    (element.ssType, 115 ∷ 115 ∷ 45 ∷ 116 ∷ 121 ∷ 112 ∷ 101 ∷ [])
+    -- pdu-type
+    ∷ (element.pduType, 112 ∷ 100 ∷ 117 ∷ 45 ∷ 116 ∷ 121 ∷ 112 ∷ 101 ∷ [])
+    -- range
+    ∷ (element.range, 114 ∷ 97 ∷ 110 ∷ 103 ∷ 101 ∷ [])
+    -- kind
+    ∷ (element.kind, 107 ∷ 105 ∷ 110 ∷ 100 ∷ [])
+    -- ssi
+    ∷ (element.ssi, 115 ∷ 115 ∷ 105 ∷ [])
+    -- extension
+    ∷ (element.extension, 101 ∷ 120 ∷ 116 ∷ 101 ∷ 110 ∷ 115 ∷ 105 ∷ 111 ∷ 110 ∷ [])
+    -- mask-present
+    ∷ (element.maskPresent, 109 ∷ 97 ∷ 115 ∷ 107 ∷ 45 ∷ 112 ∷ 114 ∷ 101 ∷ 115 ∷ 101 ∷ 110 ∷ 116 ∷ [])
+    -- mask
+    ∷ (element.mask, 109 ∷ 97 ∷ 115 ∷ 107 ∷ [])
+    -- result
+    ∷ (element.result, 114 ∷ 101 ∷ 115 ∷ 117 ∷ 108 ∷ 116 ∷ [])
+    -- reason
+    ∷ (element.reason, 114 ∷ 101 ∷ 97 ∷ 115 ∷ 111 ∷ 110 ∷ [])
+    -- cause
+    ∷ (element.cause, 99 ∷ 97 ∷ 117 ∷ 115 ∷ 101 ∷ [])
+    -- identifier
+    ∷ (element.identifier, 105 ∷ 100 ∷ 101 ∷ 110 ∷ 116 ∷ 105 ∷ 102 ∷ 105 ∷ 101 ∷ 114 ∷ [])
+    -- o-bit
+    ∷ (element.oBit, 111 ∷ 45 ∷ 98 ∷ 105 ∷ 116 ∷ [])
+    -- p-bit
+    ∷ (element.pBit, 112 ∷ 45 ∷ 98 ∷ 105 ∷ 116 ∷ [])
+    -- mni
+    ∷ (element.mni, 109 ∷ 110 ∷ 105 ∷ [])
+    -- area
+    ∷ (element.area, 97 ∷ 114 ∷ 101 ∷ 97 ∷ [])
+    -- basic-service
+    ∷ (element.basicService, 98 ∷ 97 ∷ 115 ∷ 105 ∷ 99 ∷ 45 ∷ 115 ∷ 101 ∷ 114 ∷ 118 ∷ 105 ∷ 99 ∷ 101 ∷ [])
+    -- activation-type
+    ∷ (element.activationType, 97 ∷ 99 ∷ 116 ∷ 105 ∷ 118 ∷ 97 ∷ 116 ∷ 105 ∷ 111 ∷ 110 ∷ 45 ∷ 116 ∷ 121 ∷ 112 ∷ 101 ∷ [])
+    -- interception-type
+    ∷ (element.interceptionType, 105 ∷ 110 ∷ 116 ∷ 101 ∷ 114 ∷ 99 ∷ 101 ∷ 112 ∷ 116 ∷ 105 ∷ 111 ∷ 110 ∷ 45 ∷ 116 ∷ 121 ∷ 112 ∷ 101 ∷ [])
+    -- type-of-restriction
+    ∷ (element.typeOfRestriction, 116 ∷ 121 ∷ 112 ∷ 101 ∷ 45 ∷ 111 ∷ 102 ∷ 45 ∷ 114 ∷ 101 ∷ 115 ∷ 116 ∷ 114 ∷ 105 ∷ 99 ∷ 116 ∷ 105 ∷ 111 ∷ 110 ∷ [])
+    ∷ []
+
+unfoldable pub wordIn : List (ℕ × List ℕ) → ℕ → List ℕ
+wordIn [] e = []
+wordIn ((k, word) ∷ rest) e = cond (eqb e k) word (wordIn rest e)
+
+-- no other number is an element's
+unfoldable pub elementWord : ℕ → List ℕ
+elementWord e = wordIn elementWords e
+
+-- with a 4 ` at `, the position where the element that did not fit begins, a space and its name
+unfoldable pub brokeWords : Stop → List ℕ
+brokeWords s = cond (eqb (s .number) 4) ((32 ∷ 97 ∷ 116 ∷ 32 ∷ []) ++ (decimalOf (s .at) ++ ((32 ∷ []) ++ elementWord (s .element)))) []
+
 -- no-record, other-post, active, not-active
 unfoldable pub stateWord : ℕ → List ℕ
 stateWord k =
@@ -92,7 +151,7 @@ unfoldable pub postWords : ℕ → Laid → List ℕ → List ℕ
 postWords post laid area = decimalOf post ++ ((32 ∷ []) ++ messageHex area 0 (bitsIn laid 0))
 
 unfoldable pub wordsOf : Answer → Laid → List ℕ → List ℕ
-wordsOf (answer.Refused s) laid area = refusedOf (s .number)
+wordsOf (answer.Refused s) laid area = refusedOf (s .number) ++ brokeWords s
 wordsOf answer.Acks laid area = acksWords laid area
 -- `state `
 wordsOf (answer.State k) laid area = (115 ∷ 116 ∷ 97 ∷ 116 ∷ 101 ∷ 32 ∷ []) ++ stateWord k

@@ -4,9 +4,10 @@ ghost use mathlib.Core.List.{_++_};
 ghost use lib.ListN.{getD};
 ghost use Rattle.profile.specs.Counting.{one};
 ghost use Rattle.blocks.specs.Texts.{Wrote};
-ghost use Rattle.words.specs.Words.{messageHex, bitsIn, refusedOf, stateWord, ackBits, ackHex, acksWords, admittedWords, postWords, wordsOf, secondWords, causeWords, placeWords, recordWords};
+ghost use Rattle.words.specs.Words.{messageHex, bitsIn, refusedOf, elementWord, brokeWords, stateWord, ackBits, ackHex, acksWords, admittedWords, postWords, wordsOf, secondWords, causeWords, placeWords, recordWords};
 use crate::texts;
 use blocks::Text;
+use codec::Stop;
 use desk::Answer;
 use places::Place;
 use records::Record;
@@ -16,7 +17,7 @@ pub(crate) fn answer(text: Text, answer: Answer, laid: Laid, area: &[u8]) -> Tex
     ensures { λ r. ⌜ Wrote text r (wordsOf answer laid (now (area .entry))) ⌝ }
 {
     match answer {
-        Answer::Refused(s) => refused(text, s.number),
+        Answer::Refused(s) => broke(refused(text, s.number), s),
         Answer::Acks => acks(text, laid, area),
         Answer::State(k) => state(texts::add(text, b"state "), k),
         Answer::Free => texts::add(text, b"free"),
@@ -32,7 +33,84 @@ pub(crate) fn answer(text: Text, answer: Answer, laid: Laid, area: &[u8]) -> Tex
 pub(crate) fn refused(text: Text, number: u8) -> Text
     ensures { λ r. ⌜ Wrote text r (refusedOf number) ⌝ }
 {
-    texts::add_number(texts::add(text, b"refused "), number as u32)
+    texts::add_number(texts::add(text, b"refused "), number as u64)
+}
+
+// Where a message broke off; nothing for any other refusal.
+fn broke(text: Text, stop: Stop) -> Text
+    ensures { λ r. ⌜ Wrote text r (brokeWords stop) ⌝ }
+{
+    if stop.number == 4 {
+        let placed = texts::add_number(texts::add(text, b" at "), stop.at as u64);
+        return element(texts::add(placed, b" "), stop.element);
+    }
+    text
+}
+
+fn element(text: Text, e: u8) -> Text
+    ensures { λ r. ⌜ Wrote text r (elementWord e) ⌝ }
+{
+    if e == 1 {
+        return texts::add(text, b"ss-type");
+    }
+    if e == 2 {
+        return texts::add(text, b"pdu-type");
+    }
+    if e == 3 {
+        return texts::add(text, b"range");
+    }
+    if e == 4 {
+        return texts::add(text, b"kind");
+    }
+    if e == 5 {
+        return texts::add(text, b"ssi");
+    }
+    if e == 6 {
+        return texts::add(text, b"extension");
+    }
+    if e == 7 {
+        return texts::add(text, b"mask-present");
+    }
+    if e == 8 {
+        return texts::add(text, b"mask");
+    }
+    if e == 9 {
+        return texts::add(text, b"result");
+    }
+    if e == 10 {
+        return texts::add(text, b"reason");
+    }
+    if e == 11 {
+        return texts::add(text, b"cause");
+    }
+    if e == 12 {
+        return texts::add(text, b"identifier");
+    }
+    if e == 13 {
+        return texts::add(text, b"o-bit");
+    }
+    if e == 14 {
+        return texts::add(text, b"p-bit");
+    }
+    if e == 15 {
+        return texts::add(text, b"mni");
+    }
+    if e == 16 {
+        return texts::add(text, b"area");
+    }
+    if e == 17 {
+        return texts::add(text, b"basic-service");
+    }
+    if e == 18 {
+        return texts::add(text, b"activation-type");
+    }
+    if e == 19 {
+        return texts::add(text, b"interception-type");
+    }
+    if e == 20 {
+        return texts::add(text, b"type-of-restriction");
+    }
+    text
 }
 
 fn state(text: Text, k: u8) -> Text
@@ -53,7 +131,7 @@ fn state(text: Text, k: u8) -> Text
 fn acks(text: Text, laid: Laid, area: &[u8]) -> Text
     ensures { λ r. ⌜ Wrote text r (acksWords laid (now (area .entry))) ⌝ }
 {
-    let counted = texts::add_number(texts::add(text, b"acks "), laid.count as u32);
+    let counted = texts::add_number(texts::add(text, b"acks "), laid.count as u64);
     all_hex(all_bits(counted, laid), laid, area)
 }
 
@@ -78,7 +156,7 @@ fn ack_bits(text: Text, laid: Laid, k: u8) -> Text
     ensures { λ r. ⌜ Wrote text r (ackBits laid k) ⌝ }
 {
     if k < laid.count {
-        return texts::add_number(texts::add(text, b" "), bits_in(laid, k) as u32);
+        return texts::add_number(texts::add(text, b" "), bits_in(laid, k) as u64);
     }
     text
 }
@@ -95,8 +173,8 @@ fn ack_hex(text: Text, laid: Laid, area: &[u8], k: u8) -> Text
 fn admitted(text: Text, post: u8, place: u8, laid: Laid, area: &[u8]) -> Text
     ensures { λ r. ⌜ Wrote text r (admittedWords post place laid (now (area .entry))) ⌝ }
 {
-    let named = texts::add_number(texts::add(text, b"admitted "), post as u32);
-    let placed = texts::add_number(texts::add(named, b" "), place as u32);
+    let named = texts::add_number(texts::add(text, b"admitted "), post as u64);
+    let placed = texts::add_number(texts::add(named, b" "), place as u64);
     let first = message(texts::add(placed, b" "), laid, area, 0);
     message(texts::add(first, b" "), laid, area, 1)
 }
@@ -104,7 +182,7 @@ fn admitted(text: Text, post: u8, place: u8, laid: Laid, area: &[u8]) -> Text
 fn posted(text: Text, post: u8, laid: Laid, area: &[u8]) -> Text
     ensures { λ r. ⌜ Wrote text r (postWords post laid (now (area .entry))) ⌝ }
 {
-    let named = texts::add_number(text, post as u32);
+    let named = texts::add_number(text, post as u64);
     message(texts::add(named, b" "), laid, area, 0)
 }
 
@@ -138,7 +216,7 @@ pub(crate) fn place_part(text: Text, i: u8, place: Place) -> Text
     ensures { λ r. ⌜ Wrote text r (placeWords i place) ⌝ }
 {
     if place.used {
-        let numbered = texts::add_number(texts::add(text, b" "), i as u32);
+        let numbered = texts::add_number(texts::add(text, b" "), i as u64);
         let named = texts::add_field(numbered, place.identifier as u32);
         let posted = texts::add_field(named, place.post as u32);
         let asked = second_part(posted, place.more, place.second);
@@ -151,7 +229,7 @@ fn second_part(text: Text, more: bool, second: u8) -> Text
     ensures { λ r. ⌜ Wrote text r (secondWords more second) ⌝ }
 {
     if more {
-        return texts::add_number(texts::add(text, b">"), second as u32);
+        return texts::add_number(texts::add(text, b">"), second as u64);
     }
     text
 }
@@ -162,14 +240,14 @@ fn cause_part(text: Text, cause: u8) -> Text
     if cause == 0 {
         return text;
     }
-    texts::add_number(texts::add(text, b"!"), cause as u32)
+    texts::add_number(texts::add(text, b"!"), cause as u64)
 }
 
 pub(crate) fn record_part(text: Text, i: u8, row: Record) -> Text
     ensures { λ r. ⌜ Wrote text r (recordWords i row) ⌝ }
 {
     if row.in_use {
-        let numbered = texts::add_number(texts::add(text, b" "), i as u32);
+        let numbered = texts::add_number(texts::add(text, b" "), i as u64);
         let named = texts::add_field(texts::add_field(numbered, row.ssi), row.extension);
         let posted = texts::add_field(named, row.post as u32);
         return texts::add_field(posted, one_if(row.active));

@@ -11,6 +11,9 @@ enum-known-answer c = search needs
 refused-requires : tie.Need-refused-requires
 refused-requires c κs = search needs
 
+broke-requires : tie.Need-broke-requires
+broke-requires c κs = search needs
+
 enum-told : tie.Need-enum-told
 enum-told c = search needs
 
@@ -106,7 +109,7 @@ posted-requires-2 c κs = search needs
 
 returns : tie.Need-returns
 unfolding wordsOf
-returns c = rw (c .before .before .answer .given .1) (c .refused .ensures)
+returns c = rw (c .before .before .before .answer .given .1) (wrote-join (c .before .refused .ensures) (c .broke .ensures))
 
 returns-2 : tie.Need-returns-2
 unfolding wordsOf
@@ -163,6 +166,7 @@ answer-spec =
     (tie.spec
     enum-known-answer
     refused-requires
+    broke-requires
     enum-told
     acks-requires
     enum-known-answer-2
