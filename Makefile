@@ -66,13 +66,13 @@ install: all programs
 	$(INSTALL) build/libcad.a $(DESTDIR)$(LIBDIR)/libcad.a
 	$(INSTALL) build/cad.pc $(DESTDIR)$(LIBDIR)/pkgconfig/cad.pc
 	$(INSTALL) man/listing.1 man/replay.1 $(DESTDIR)$(MANDIR)/man1
-	$(INSTALL) man/cad_read.3 man/cad_write.3 $(DESTDIR)$(MANDIR)/man3
+	$(INSTALL) man/cad_read.3 man/cad_read_at.3 man/cad_write.3 $(DESTDIR)$(MANDIR)/man3
 	$(if $(BUILT),install -d $(DESTDIR)$(BINDIR) && install -m 755 $(BUILT) $(DESTDIR)$(BINDIR))
 
 uninstall:
 	rm -f $(DESTDIR)$(INCLUDEDIR)/cad.h $(DESTDIR)$(LIBDIR)/libcad.a $(DESTDIR)$(LIBDIR)/pkgconfig/cad.pc \
 	    $(DESTDIR)$(MANDIR)/man1/listing.1 $(DESTDIR)$(MANDIR)/man1/replay.1 $(DESTDIR)$(MANDIR)/man3/cad_read.3 \
-	    $(DESTDIR)$(MANDIR)/man3/cad_write.3 $(DESTDIR)$(BINDIR)/listing $(DESTDIR)$(BINDIR)/replay
+	    $(DESTDIR)$(MANDIR)/man3/cad_read_at.3 $(DESTDIR)$(MANDIR)/man3/cad_write.3 $(DESTDIR)$(BINDIR)/listing $(DESTDIR)$(BINDIR)/replay
 
 check-c:
 	bash tests/c.test

@@ -198,12 +198,17 @@ static void say_line(const uint8_t *profile, unsigned long number, const char *l
 {
     uint8_t message[LINE_BYTES], value[CAD_VALUE_BYTES];
     size_t bits, count;
-    uint32_t refusal;
+    uint32_t refusal, position, element;
     if (!take_line(line, length, &bits, message, &count)) {
         printf("%lu refused %d: not a bit length, a space and hex digits in capitals\n", number, CAD_REFUSED_LENGTH);
         return;
     }
-    refusal = cad_read(profile, CAD_PROFILE_BYTES, message, count, bits, value, sizeof value);
+    refusal = cad_read_at(profile, CAD_PROFILE_BYTES, message, count, bits, value, sizeof value, &position, &element);
+    if (refusal == CAD_REFUSED_SHORT) {
+        printf("%lu refused %lu: the %s that begins at bit %lu reaches past the end\n", number, (unsigned long)refusal,
+               cad_element_name(element), (unsigned long)position);
+        return;
+    }
     if (refusal != CAD_DONE) {
         printf("%lu refused %lu: %s\n", number, (unsigned long)refusal, cad_refusal_text(refusal));
         return;

@@ -2,20 +2,22 @@
  * @file cad.h
  * @brief SS-CAD messages of ETS 300 392-12-6, read and written, for C99 and C++.
  *
- * Two functions, cad_read() and cad_write(), and names for the bytes that they take and give: a constant for every offset and small
- * inline functions, so that no program counts bytes or mask bits by itself. docs/LAYOUTS.md has both layouts with worked examples,
- * docs/REFUSALS.md the numbers, examples/console.c a program.
+ * Three functions, cad_read(), cad_read_at(), which also says where a message broke off, and cad_write(), and names for the bytes that
+ * they take and give: a constant for every offset and small inline functions, so that no program counts bytes or mask bits by itself.
+ * docs/LAYOUTS.md has both layouts with worked examples, docs/REFUSALS.md the numbers, examples/console.c a program.
  *
- * Both functions are proved, for every content of every buffer and every length: they end, answer 0 or one number of cad_refusal,
- * look at no bit past the message's length, and write nothing but what is said here; on a refusal, nothing at all. They allocate
- * nothing and keep nothing between calls, so they may be called from several threads at once and from a signal handler.
+ * The three are proved, for every content of every buffer and every length: they end, answer 0 or one number of cad_refusal, look at no
+ * bit past the message's length, and write nothing but what is said here; on a refusal, nothing at all but cad_read_at()'s two numbers
+ * with a 4. They allocate nothing and keep nothing between calls, so they may be called from several threads at once and from a signal
+ * handler.
  *
  * What no proof can cover is the caller's duty:
  *  - a pointer leads to at least as many bytes as the length after it says; it may be NULL where that length is 0, and nowhere else;
- *  - what is lent to be written (cad_read()'s value, cad_write()'s message and bits) overlaps nothing else that is lent;
+ *  - what is lent to be written (the value of a reading, cad_read_at()'s two numbers, cad_write()'s message and bits) overlaps nothing
+ *    else that is lent;
  *  - nothing that is lent changes during the call.
  *
- * The inline functions below the two are plain C, tested and not proved. They ask for whole buffers (a profile of
+ * The inline functions below the three are plain C, tested and not proved. They ask for whole buffers (a profile of
  * #CAD_PROFILE_BYTES, a value of #CAD_VALUE_BYTES) and nothing else: an index that is not there reads as zero, and a number that its
  * bytes can't hold, or an index that is not there, is never cut to fit but makes a profile that is refused with 1, or a value that is
  * refused with 22.
@@ -31,7 +33,7 @@ extern "C" {
 #endif
 
 /** The version of this interface; later ones append to both layouts and move nothing. */
-#define CAD_VERSION "1.2.0"
+#define CAD_VERSION "1.3.0"
 
 /** @name Limits
  * @{ */
@@ -108,12 +110,12 @@ enum cad_pdu {
     CAD_REJECTED = 18       /**< cause, option: dispatcher address 0 */
 };
 
-/** What cad_read() and cad_write() answer. Where several grounds hold, docs/REFUSALS.md says which number comes. */
+/** What the three functions answer. Where several grounds hold, docs/REFUSALS.md says which number comes. */
 enum cad_refusal {
     CAD_DONE = 0,                 /**< read, or written */
     CAD_REFUSED_PROFILE = 1,      /**< the profile breaks a rule, or has not #CAD_PROFILE_BYTES bytes */
     CAD_REFUSED_LENGTH = 3,       /**< reading: bit length 0, over #CAD_READ_BITS, or more than 8 times the bytes lent */
-    CAD_REFUSED_SHORT = 4,        /**< reading: an element reaches past the bit length */
+    CAD_REFUSED_SHORT = 4,        /**< reading: an element reaches past the bit length; cad_read_at() says which, and where it begins */
     CAD_REFUSED_SS_TYPE = 5,      /**< reading: the SS type is not the profile's */
     CAD_REFUSED_UNKNOWN = 6,      /**< reading: PDU type 0, 1 or 19 to 31 */
     CAD_REFUSED_NOT_CARRIED = 7,  /**< reading: a PDU type that is known and not carried */
@@ -124,6 +126,30 @@ enum cad_refusal {
     CAD_REFUSED_LEFT_OVER = 13,   /**< reading: bits are left over */
     CAD_REFUSED_ROOM = 14,        /**< the area lent is shorter than the value (reading) or the message (writing) */
     CAD_REFUSED_VALUE = 22        /**< writing: the value is not a valid one, or has not #CAD_VALUE_BYTES bytes */
+};
+
+/** The elements of a message, as cad_read_at() names the one that did not fit. No element has the number 0. */
+enum cad_element {
+    CAD_ELEMENT_SS_TYPE = 1,             /**< SS type, 6 bits */
+    CAD_ELEMENT_PDU_TYPE = 2,            /**< PDU type, 5 bits */
+    CAD_ELEMENT_RANGE = 3,               /**< range of users or dispatchers, 4 bits */
+    CAD_ELEMENT_KIND = 4,                /**< kind of an address, 2 bits */
+    CAD_ELEMENT_SSI = 5,                 /**< SSI of an address, 24 bits */
+    CAD_ELEMENT_EXTENSION = 6,           /**< extension of an address of kind 2, 24 bits */
+    CAD_ELEMENT_MASK_PRESENT = 7,        /**< whether an ACK has a mask, 1 bit */
+    CAD_ELEMENT_MASK = 8,                /**< the mask, one bit for each identity; it is one element */
+    CAD_ELEMENT_RESULT = 9,              /**< result of an ACK, 1 bit */
+    CAD_ELEMENT_REASON = 10,             /**< failure reason, 7 bits */
+    CAD_ELEMENT_CAUSE = 11,              /**< interception cause, 5 bits */
+    CAD_ELEMENT_IDENTIFIER = 12,         /**< call identifier, 14 bits */
+    CAD_ELEMENT_O_BIT = 13,              /**< whether there are options, 1 bit */
+    CAD_ELEMENT_P_BIT = 14,              /**< whether an option is there, 1 bit */
+    CAD_ELEMENT_MNI = 15,                /**< network (MNI), 24 bits */
+    CAD_ELEMENT_AREA = 16,               /**< area, 4 bits */
+    CAD_ELEMENT_BASIC_SERVICE = 17,      /**< basic service, 2 bits */
+    CAD_ELEMENT_ACTIVATION_TYPE = 18,    /**< comes with a message that is not carried yet */
+    CAD_ELEMENT_INTERCEPTION_TYPE = 19,  /**< as the one before */
+    CAD_ELEMENT_TYPE_OF_RESTRICTION = 20 /**< as the one before */
 };
 
 /** What a range value means, one byte of the profile. 1 to 15 mean a list of so many addresses. */
@@ -155,6 +181,27 @@ enum cad_kind {
  */
 uint32_t cad_read(const uint8_t *profile, size_t profile_len, const uint8_t *message, size_t message_len, size_t bits, uint8_t *value,
                   size_t value_len);
+
+/**
+ * @brief Reads a message, and says where it broke off.
+ *
+ * The same as cad_read(), with two parameters more. On #CAD_REFUSED_SHORT, and on no other answer, they are written: the element that
+ * reaches past the bit length is the first along the bits that does, it begins at *position, counted from 0 and at most @p bits, and the
+ * message cut anywhere within that element gives the same two numbers.
+ *
+ * @param profile       the profile
+ * @param profile_len   its length, #CAD_PROFILE_BYTES
+ * @param message       the bytes of the message
+ * @param message_len   how many bytes are lent
+ * @param bits          the message's length in bits
+ * @param value         where the value goes
+ * @param value_len     how many bytes are lent there, at least #CAD_VALUE_BYTES
+ * @param[out] position where the element begins; never NULL
+ * @param[out] element  which one it is, see cad_element; never NULL
+ * @return what cad_read() gives
+ */
+uint32_t cad_read_at(const uint8_t *profile, size_t profile_len, const uint8_t *message, size_t message_len, size_t bits, uint8_t *value,
+                     size_t value_len, uint32_t *position, uint32_t *element);
 
 /**
  * @brief Writes a message.
@@ -203,7 +250,35 @@ static inline const char *cad_pdu_name(unsigned pdu)
     }
 }
 
-/** What an answer of cad_read() or cad_write() says, in words; of a number that they never give, "?". */
+/** The name of an element, as the replay prints it; of any other number, "?". */
+static inline const char *cad_element_name(uint32_t element)
+{
+    switch (element) {
+    case CAD_ELEMENT_SS_TYPE: return "ss-type";
+    case CAD_ELEMENT_PDU_TYPE: return "pdu-type";
+    case CAD_ELEMENT_RANGE: return "range";
+    case CAD_ELEMENT_KIND: return "kind";
+    case CAD_ELEMENT_SSI: return "ssi";
+    case CAD_ELEMENT_EXTENSION: return "extension";
+    case CAD_ELEMENT_MASK_PRESENT: return "mask-present";
+    case CAD_ELEMENT_MASK: return "mask";
+    case CAD_ELEMENT_RESULT: return "result";
+    case CAD_ELEMENT_REASON: return "reason";
+    case CAD_ELEMENT_CAUSE: return "cause";
+    case CAD_ELEMENT_IDENTIFIER: return "identifier";
+    case CAD_ELEMENT_O_BIT: return "o-bit";
+    case CAD_ELEMENT_P_BIT: return "p-bit";
+    case CAD_ELEMENT_MNI: return "mni";
+    case CAD_ELEMENT_AREA: return "area";
+    case CAD_ELEMENT_BASIC_SERVICE: return "basic-service";
+    case CAD_ELEMENT_ACTIVATION_TYPE: return "activation-type";
+    case CAD_ELEMENT_INTERCEPTION_TYPE: return "interception-type";
+    case CAD_ELEMENT_TYPE_OF_RESTRICTION: return "type-of-restriction";
+    default: return "?";
+    }
+}
+
+/** What an answer of the three functions says, in words; of a number that they never give, "?". */
 static inline const char *cad_refusal_text(uint32_t refusal)
 {
     switch (refusal) {

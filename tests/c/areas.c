@@ -55,19 +55,29 @@ static int all_are(const uint8_t *bytes, size_t from, size_t to, uint8_t byte)
 static void reads(struct block profile, struct block message, size_t bits, size_t size, struct block want, uint32_t answer)
 {
     struct block value = block_of(size);
+    uint32_t *position = (uint32_t *)malloc(sizeof *position), *element = (uint32_t *)malloc(sizeof *element);
     uint32_t got;
+    if (position == NULL || element == NULL)
+        exit(2);
+    *position = *element = 7777;
     if (answer != 0 && size != 0)
         memset(value.bytes, 0x55, size);
     else if (size > CAD_VALUE_BYTES)
         memset(value.bytes + CAD_VALUE_BYTES, 0x55, size - CAD_VALUE_BYTES);
     got = cad_read(profile.bytes, profile.length, message.bytes, message.length, bits, value.bytes, size);
-    calls++;
+    if (cad_read_at(profile.bytes, profile.length, message.bytes, message.length, bits, value.bytes, size, position, element) != got)
+        wrong("the two readings differ", bits, size, got);
+    calls += 2;
     if (got != answer)
         wrong("reading", bits, size, got);
+    if (got == CAD_REFUSED_SHORT ? *position > bits || *element < 1 || *element > 20 : *position != 7777 || *element != 7777)
+        wrong("reading says otherwise where it broke off", bits, size, got);
     if (answer == 0 && memcmp(value.bytes, want.bytes, CAD_VALUE_BYTES) != 0)
         wrong("reading gives another value", bits, size, got);
     if (!all_are(value.bytes, answer == 0 ? CAD_VALUE_BYTES : 0, size, 0x55))
         wrong("reading touches another byte", bits, size, got);
+    free(position);
+    free(element);
     free(value.bytes);
 }
 

@@ -565,6 +565,54 @@ static void functions(void)
     CHECK(memcmp(read, zeros, sizeof zeros) == 0);
 }
 
+/* The element that did not fit, by number and name, as document 02 has them in order; and where it begins. */
+static void broken_off(void)
+{
+    static const char *const names[] = {"?", "ss-type", "pdu-type", "range", "kind", "ssi", "extension", "mask-present", "mask", "result",
+                                        "reason", "cause", "identifier", "o-bit", "p-bit", "mni", "area", "basic-service",
+                                        "activation-type", "interception-type", "type-of-restriction", "?"};
+    static const uint8_t accept[4] = {0x25, 0x80, 0x02, 0x80};
+    static const uint8_t masked[10] = {0x24, 0xBE, 0x80, 0x01, 0xF4, 0xA0, 0x00, 0x7D, 0x92, 0x01};
+    uint8_t profile[39], read[241];
+    uint32_t position, element, k;
+    size_t bits;
+    cad_profile_sample(profile);
+    CHECK(CAD_ELEMENT_SS_TYPE == 1 && CAD_ELEMENT_EXTENSION == 6 && CAD_ELEMENT_MASK == 8 && CAD_ELEMENT_IDENTIFIER == 12);
+    CHECK(CAD_ELEMENT_P_BIT == 14 && CAD_ELEMENT_BASIC_SERVICE == 17 && CAD_ELEMENT_TYPE_OF_RESTRICTION == 20);
+    for (k = 0; k < sizeof names / sizeof names[0]; k++)
+        CHECK(strcmp(cad_element_name(k), names[k]) == 0);
+    CHECK(strcmp(cad_element_name(0xFFFFFFFFu), "?") == 0);
+
+    /* an ACCEPT, cut at each of its bits: SS type from 0, PDU type from 6, identifier from 11 */
+    for (bits = 1; bits < 25; bits++) {
+        position = element = 77;
+        CHECK(cad_read_at(profile, 39, accept, sizeof accept, bits, read, sizeof read, &position, &element) == CAD_REFUSED_SHORT);
+        CHECK(position == (bits < 6 ? 0u : bits < 11 ? 6u : 11u));
+        CHECK(element == (bits < 6 ? CAD_ELEMENT_SS_TYPE : bits < 11 ? CAD_ELEMENT_PDU_TYPE : CAD_ELEMENT_IDENTIFIER));
+    }
+
+    /* a DEACTIVATE ACK, cut behind its users: mask present at 67, four mask bits from 68, result at 72, reason from 73 */
+    for (bits = 67; bits < 80; bits++) {
+        position = element = 77;
+        CHECK(cad_read_at(profile, 39, masked, sizeof masked, bits, read, sizeof read, &position, &element) == CAD_REFUSED_SHORT);
+        CHECK(position == (bits < 68 ? 67u : bits < 72 ? 68u : bits < 73 ? 72u : 73u));
+        CHECK(element == (bits < 68   ? CAD_ELEMENT_MASK_PRESENT
+                          : bits < 72 ? CAD_ELEMENT_MASK
+                          : bits < 73 ? CAD_ELEMENT_RESULT
+                                      : CAD_ELEMENT_REASON));
+    }
+
+    /* whole, left over, no bits, an area too short, no profile: both numbers stay */
+    position = 7;
+    element = 9;
+    CHECK(cad_read_at(profile, 39, accept, sizeof accept, 25, read, sizeof read, &position, &element) == CAD_DONE);
+    CHECK(cad_read_at(profile, 39, accept, sizeof accept, 26, read, sizeof read, &position, &element) == CAD_REFUSED_LEFT_OVER);
+    CHECK(cad_read_at(profile, 39, accept, sizeof accept, 0, read, sizeof read, &position, &element) == CAD_REFUSED_LENGTH);
+    CHECK(cad_read_at(profile, 39, accept, sizeof accept, 25, read, sizeof read - 1, &position, &element) == CAD_REFUSED_ROOM);
+    CHECK(cad_read_at(NULL, 0, accept, sizeof accept, 24, read, sizeof read, &position, &element) == CAD_REFUSED_PROFILE);
+    CHECK(position == 7 && element == 9);
+}
+
 int main(void)
 {
     constants();
@@ -574,6 +622,7 @@ int main(void)
     setters();
     identities();
     deactivation();
+    broken_off();
     functions();
     printf("%lu checks of the header, %lu failed\n", checks, failures);
     return failures == 0 ? 0 : 1;

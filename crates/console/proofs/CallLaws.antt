@@ -1,72 +1,130 @@
--- What `cad_read` and `cad_write` answer and leave at each of their returns. Assumes nothing.
+-- What `cad_read`, `cad_read_at` and `cad_write` answer and leave at each of their returns. Assumes nothing.
 use Prim.Native.Nat.{ℕ, _≤_, _<_}
-use mathlib.Core.Path.{_≡_, refl, sym, ap, _∙_}
-use mathlib.Core.Bool.{true, false}
+use mathlib.Core.Path.{_≡_, refl, sym, ap, _∙_, subst}
+use mathlib.Core.Bool.{Bool, true, false, cond}
 use mathlib.Core.List.{List}
+use native.Mathlib.Omega.{arith}
+use lib.Dec.{leb}
 use lib.ListN.{length}
 use lib.Seq.{sets}
-use borrow.Author.Tests.{le-leb, lt-leb}
-use Rattle.codec.specs.Stops.{refusal}
+use borrow.Author.Tests.{le-leb, lt-leb, eq-eqb, ne-eqb}
+use Rattle.codec.specs.Stops.{refusal, noStop}
+use Rattle.codec.specs.declared.Stop.{Stop}
 use Rattle.codec.specs.Codec.{Read, got, no}
 use Rattle.codec.proofs.Good.{not-both}
 use Rattle.profile.specs.declared.Profile.{Profile}
 use Rattle.message.specs.Reading.{readOf}
 use Rattle.message.specs.declared.Value.{Value}
+use Rattle.message.proofs.BreakLaws.{position-most}
 use Rattle.reading.specs.Answers.{readingOf}
 use Rattle.reading.specs.declared.Reading.{Reading}
 use Rattle.writing.specs.Writing.{Write, laid, refused, writeOf, writtenOf, areaOf}
 use Rattle.writing.specs.declared.Written.{Written}
 use Rattle.console.specs.Profiles.{passes, profileFrom}
 use Rattle.console.specs.Values.{valueSize, valueBytes, valueFrom, isValue}
-use Rattle.console.specs.Console.{roomFor, cadRead, readNumber, readArea, cadReadOf, cadReadArea, cadWrite, writeNumber, writeBits, cadWriteOf, cadWriteArea, cadWriteBits}
+use Rattle.console.specs.Console.{roomFor, cadRead, readNumber, readStop, readArea, cadReadStop, cadReadOf, cadReadArea, tells, cadReadPosition, cadReadElement, cadWrite, writeNumber, writeBits, cadWriteOf, cadWriteArea, cadWriteBits}
 
 -- ---- reading
 
--- the answer c, and the area a afterwards, where l stood, are those of a reading x
-abbrev Read-leaves : ℕ → List ℕ → List ℕ → Read Value → Type 0
-Read-leaves c l a x = (c ≡ readNumber x) × (a ≡ readArea l x)
+-- the refusal s, and the area a afterwards, where l stood, are those of a reading x
+abbrev Read-leaves : Stop → List ℕ → List ℕ → Read Value → Type 0
+Read-leaves s l a x = (s ≡ readStop x) × (a ≡ readArea l x)
 
 module _ (l : List ℕ) (r : Reading) where
-  found-short : (x : Read Value) → r ≡ readingOf x → r .found ≡ true → length l < valueSize → Read-leaves 14 l l (roomFor (length l) x)
-  unfolding readingOf roomFor readNumber readArea refusal
+  found-short : (x : Read Value) → r ≡ readingOf x → r .found ≡ true → length l < valueSize → Read-leaves (refusal 14) l l (roomFor (length l) x)
+  unfolding readingOf roomFor readStop readArea
   found-short (got v q) e f h = rw (lt-leb valueSize (length l) h) (refl, refl)
   found-short (no s) e f h = not-both (sym (ap (λ (y : Reading). y .found) e) ∙ f)
 
   found-room : (x : Read Value) → r ≡ readingOf x → r .found ≡ true → valueSize ≤ length l → (a : List ℕ) → a ≡ sets l 0 (valueBytes (r .value))
-      → Read-leaves 0 l a (roomFor (length l) x)
-  unfolding readingOf roomFor readNumber readArea
+      → Read-leaves noStop l a (roomFor (length l) x)
+  unfolding readingOf roomFor readStop readArea
   found-room (got v q) e f h a w = rw (le-leb valueSize (length l) h) (refl, w ∙ ap (λ (y : Reading). sets l 0 (valueBytes (y .value))) e)
   found-room (no s) e f h a w = not-both (sym (ap (λ (y : Reading). y .found) e) ∙ f)
 
-  found-not : (x : Read Value) → r ≡ readingOf x → r .found ≡ false → Read-leaves (r .stop .number) l l (roomFor (length l) x)
-  unfolding readingOf roomFor readNumber readArea
+  found-not : (x : Read Value) → r ≡ readingOf x → r .found ≡ false → Read-leaves (r .stop) l l (roomFor (length l) x)
+  unfolding readingOf roomFor readStop readArea
   found-not (got v q) e f = not-both (sym f ∙ ap (λ (y : Reading). y .found) e)
-  found-not (no s) e f = (ap (λ (y : Reading). y .stop .number) e, refl)
+  found-not (no s) e f = (ap (λ (y : Reading). y .stop) e, refl)
 
 module _ (profile message : List ℕ) (n : ℕ) (l : List ℕ) where
-  -- by the contract of `cad_read`
-  abbrev pub CadRead : ℕ → List ℕ → Type 0
-  CadRead c a = (c ≡ cadReadOf profile message n l) × (a ≡ cadReadArea profile message n l)
+  -- by the contract of `read_into`
+  abbrev pub CadStop : Stop → List ℕ → Type 0
+  CadStop s a = (s ≡ cadReadStop profile message n l) × (a ≡ cadReadArea profile message n l)
 
-  pub read-1 : passes profile ≡ false → CadRead 1 l
-  unfolding cadReadOf cadReadArea cadRead readNumber readArea refusal
+  pub read-1 : passes profile ≡ false → CadStop (refusal 1) l
+  unfolding cadReadStop cadReadArea cadRead readStop readArea
   read-1 e = rw e (refl, refl)
 
   module _ (ok : passes profile ≡ true) (p : Profile) (is : p ≡ profileFrom profile) (r : Reading) (said : r ≡ readingOf (readOf p message n)) where
     same : readingOf (readOf p message n) ≡ readingOf (readOf (profileFrom profile) message n)
     same = ap (λ (x : Profile). readingOf (readOf x message n)) is
 
-    pub read-14 : r .found ≡ true → length l < valueSize → CadRead 14 l
-    unfolding cadReadOf cadReadArea cadRead
+    pub read-14 : r .found ≡ true → length l < valueSize → CadStop (refusal 14) l
+    unfolding cadReadStop cadReadArea cadRead
     read-14 f h = rw ok (found-short l r (readOf (profileFrom profile) message n) (said ∙ same) f h)
 
-    pub read-0 : r .found ≡ true → valueSize ≤ length l → (a : List ℕ) → a ≡ sets l 0 (valueBytes (r .value)) → CadRead 0 a
-    unfolding cadReadOf cadReadArea cadRead
+    pub read-0 : r .found ≡ true → valueSize ≤ length l → (a : List ℕ) → a ≡ sets l 0 (valueBytes (r .value)) → CadStop noStop a
+    unfolding cadReadStop cadReadArea cadRead
     read-0 f h a w = rw ok (found-room l r (readOf (profileFrom profile) message n) (said ∙ same) f h a w)
 
-    pub read-no : r .found ≡ false → CadRead (r .stop .number) l
-    unfolding cadReadOf cadReadArea cadRead
+    pub read-no : r .found ≡ false → CadStop (r .stop) l
+    unfolding cadReadStop cadReadArea cadRead
     read-no f = rw ok (found-not l r (readOf (profileFrom profile) message n) (said ∙ same) f)
+
+  number-of : (x : Read Value) → readStop x .number ≡ readNumber x
+  unfolding readStop readNumber noStop
+  number-of (got v q) = refl
+  number-of (no s) = refl
+
+  -- the number that is answered
+  pub read-number : (s : Stop) → s ≡ cadReadStop profile message n l → s .number ≡ cadReadOf profile message n l
+  unfolding cadReadStop cadReadOf
+  read-number s e = ap (λ (t : Stop). t .number) e ∙ number-of (cadRead profile message n (length l))
+
+  plain-low : (c : ℕ) → refusal c .at ≤ 2048
+  unfolding refusal
+  plain-low c = omega arith
+
+  none-low : noStop .at ≤ 2048
+  unfolding noStop
+  none-low = omega arith
+
+  room-low : (x : Read Value) → ((s : Stop) → x ≡ no s → s .at ≤ 2048) → readStop (roomFor (length l) x) .at ≤ 2048
+  unfolding roomFor readStop
+  room-low (no s) h = h s refl
+  room-low (got v q) h = go (leb valueSize (length l))
+    where
+      go : (b : Bool) → readStop (cond b (got v q) (no (refusal 14))) .at ≤ 2048
+      go true = none-low
+      go false = plain-low 14
+
+  -- a position is at most 2,048, so it crosses whole
+  pub position-low : (s : Stop) → s ≡ cadReadStop profile message n l → s .at ≤ 2048
+  unfolding cadReadStop cadRead readStop
+  position-low s e = subst (λ (t : Stop). t .at ≤ 2048) (sym e) (go (passes profile))
+    where
+      go : (b : Bool) → readStop (cond b (roomFor (length l) (readOf (profileFrom profile) message n)) (no (refusal 1))) .at ≤ 2048
+      go true = room-low (readOf (profileFrom profile) message n) (position-most (profileFrom profile) message n)
+      go false = plain-low 1
+
+  -- a 4 is told, and any other answer leaves what stood there
+  module _ (s : Stop) (e : s ≡ cadReadStop profile message n l) where
+    pub told-position : s .number ≡ 4 → (x : ℕ) → s .at ≡ cadReadPosition profile message n l x
+    unfolding cadReadPosition tells
+    told-position four x = rw (← e, eq-eqb (s .number) 4 four)
+
+    pub told-element : s .number ≡ 4 → (x : ℕ) → s .element ≡ cadReadElement profile message n l x
+    unfolding cadReadElement tells
+    told-element four x = rw (← e, eq-eqb (s .number) 4 four)
+
+    pub left-position : (s .number ≡ 4 → ⊥) → (x : ℕ) → x ≡ cadReadPosition profile message n l x
+    unfolding cadReadPosition tells
+    left-position other x = rw (← e, ne-eqb (s .number) 4 other)
+
+    pub left-element : (s .number ≡ 4 → ⊥) → (x : ℕ) → x ≡ cadReadElement profile message n l x
+    unfolding cadReadElement tells
+    left-element other x = rw (← e, ne-eqb (s .number) 4 other)
 
 -- ---- writing
 

@@ -8,7 +8,7 @@ use mathlib.Core.List.{List, [], _∷_, _++_}
 use lib.ListN.{replicate, set}
 use Rattle.bits.specs.Fields.{bitAt, fieldAt}
 use Rattle.bits.specs.Puts.{withDigit, setBit, putBits, binary, spare}
-use Rattle.codec.specs.Stops.{short, refusal}
+use Rattle.codec.specs.Stops.{short, refusal, noStop}
 use Rattle.codec.specs.Codec.{both, number, vecRead}
 use Rattle.codec.specs.Options.{flag}
 use Rattle.profile.specs.Counting.{every, sum}
@@ -31,7 +31,7 @@ use Rattle.writing.specs.Writing.{bitsOf, padded, layOf, layIn, writeValid, wri
 use Rattle.console.specs.Bytes.{numberFrom, numberBytes, rowsFrom, rowsBytes, areZero}
 use Rattle.console.specs.Profiles.{meaningBytes, shareBytes, shareFrom, profileBytes, airFrom, sharesFrom, profileFrom, isProfile, passes}
 use Rattle.console.specs.Values.{addressBytes, addressFrom, groupBytes, groupFrom, firstBytes, moreBytes, valueBytes, valueFrom, isValue}
-use Rattle.console.specs.Console.{roomFor, cadRead, readNumber, cadReadOf, cadWrite, writeNumber, cadWriteOf}
+use Rattle.console.specs.Console.{roomFor, cadRead, readNumber, readStop, cadReadStop, cadReadOf, tells, cadReadPosition, cadReadElement, cadWrite, writeNumber, cadWriteOf}
 
 abbrev zeros : ℕ → List ℕ
 zeros n = replicate n 0
@@ -138,6 +138,23 @@ wants (asked p m n k c) = c
 pub answers-right : list.map gives questions ≡ list.map wants questions
 unfolding bitAt fieldAt short refusal both number vecRead flag every sum meaningOk meaningIn airOk shareOk shareIn sharesOk profileOk isNobody kindC extensionC addressC addressesIn allowedIn nobodies areNobody placesC rangeOk endsOk addressesC rangeC groupC noGroup oneGroup spanIn spanOf maskC maskedC resultC elements elementOf widths widthOf blank sameBools sameNumbers sameAddress sameAddresses sameGroup sameValue rowOf rowIn table partsC puts gets eachC optionsC putOptions getOptions firstParts bodyC isKnown isCarried headerC messageC wholeOf lengthOk readBits readOf numberFrom rowsFrom areZero meaningOf shareFrom airFrom sharesFrom profileFrom isProfile passes roomFor cadRead readNumber cadReadOf
 answers-right = refl
+
+-- where a message broke off, and what stood in the two numbers before, 7 and 9: an ACCEPT of 24 bits, cut in its identifier, which begins at
+-- bit 11, into an area of any size; whole; with a bit left over; no length; no profile
+abbrev accept : List ℕ
+accept = 0x25 ∷ 0x80 ∷ 0x02 ∷ 0x80 ∷ []
+
+abbrev broken : List Asked
+broken =
+    asked sampleBytes accept 24 241 4 ∷ asked sampleBytes accept 24 0 4 ∷ asked sampleBytes accept 25 241 0 ∷ asked sampleBytes accept 26 241 13
+    ∷ asked sampleBytes accept 33 241 3 ∷ asked (9 ∷ []) accept 24 241 1 ∷ []
+
+abbrev tellsOf : Asked → ℕ × ℕ
+tellsOf (asked p m n k c) = (cadReadPosition p m n (zeros k) 7, cadReadElement p m n (zeros k) 9)
+
+pub broken-right : list.map tellsOf broken ≡ (11, 12) ∷ (11, 12) ∷ (7, 9) ∷ (7, 9) ∷ (7, 9) ∷ (7, 9) ∷ []
+unfolding bitAt fieldAt short refusal both number vecRead flag every sum meaningOk meaningIn airOk shareOk shareIn sharesOk profileOk isNobody kindC extensionC addressC addressesIn allowedIn nobodies areNobody placesC rangeOk endsOk addressesC rangeC groupC noGroup oneGroup spanIn spanOf maskC maskedC resultC elements elementOf widths widthOf blank sameBools sameNumbers sameAddress sameAddresses sameGroup sameValue rowOf rowIn table partsC puts gets eachC optionsC putOptions getOptions firstParts bodyC isKnown isCarried headerC messageC wholeOf lengthOk readBits readOf numberFrom rowsFrom areZero meaningOf shareFrom airFrom sharesFrom profileFrom isProfile passes roomFor cadRead readStop noStop cadReadStop tells cadReadPosition cadReadElement
+broken-right = refl
 
 -- of a value's bytes, into a message area of so many bytes
 pub data Told : Type 0 where

@@ -28,7 +28,7 @@ use Rattle.writing.proofs.RoundTrips.{read-write, write-read, read-valid}
 use Rattle.console.specs.Profiles.{passes, profileFrom}
 use Rattle.console.specs.Values.{valueSize, valueBytes, valueFrom, isValue}
 use Rattle.console.specs.Console.{roomFor, cadRead, readNumber, readArea, cadReadOf, cadReadArea, cadWrite, writeNumber, writeBits, cadWriteOf, cadWriteArea, cadWriteBits}
-use Rattle.console.proofs.CallLaws.{read-0, done-leaves}
+use Rattle.console.proofs.CallLaws.{read-0, read-number, done-leaves}
 use Rattle.console.proofs.RowLaws.{AreBytes}
 use Rattle.console.proofs.LayoutLaws.{value-there, value-back, value-taken, area-value}
 
@@ -178,7 +178,7 @@ module _ (profile : List ℕ) where
     Reads-back message n = (cadReadOf profile message n area ≡ 0) × (cadReadArea profile message n area ≡ sets area 0 value)
 
     laid-back : (a : List ℕ) (n : ℕ) → Wrote-by value l a n → Reads-back a n
-    unfolding writtenOf areaOf
+    unfolding writtenOf areaOf noStop
     laid-back a n w =
         let v = valueFrom value in
         let r = readingOf (readOf p a n) in
@@ -186,7 +186,7 @@ module _ (profile : List ℕ) where
         read-write p v l a (writtenOf (laid a n)) r (ap (λ (x : Write). writtenOf x) (sym (w .write)), ap (λ (x : Write). areaOf l x) (sym (w .write))) refl refl in
         let back : valueBytes (r .value) ≡ value = ap (λ (x : Reading). valueBytes (x .value)) trip ∙ value-there value are (w .shape) in
         let found = read-0 profile a n area (w .ok) p refl r refl (ap (λ (x : Reading). x .found) trip) room (sets area 0 (valueBytes (r .value))) refl in
-        (sym (found .0), sym (found .1) ∙ ap (λ (x : List ℕ). sets area 0 x) back)
+        (sym (read-number profile a n area noStop (found .0)), sym (found .1) ∙ ap (λ (x : List ℕ). sets area 0 x) back)
 
     pub c-write-read : cadWriteOf profile value l ≡ 0 → Reads-back (cadWriteArea profile value l) (cadWriteBits profile value l b)
     unfolding cadWriteOf cadWriteArea cadWriteBits writeNumber writeBits areaOf

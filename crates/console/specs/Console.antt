@@ -1,11 +1,13 @@
--- The C interface: what `cad_read` and `cad_write` answer and leave. 0, or the refusal's number; a refusal leaves everything.
+-- The C interface: what `cad_read`, `cad_read_at` and `cad_write` answer and leave. 0, or the refusal's number; a refusal leaves everything but
+-- the two numbers that tell of a 4.
 use Prim.Native.Nat.{ℕ}
 use mathlib.Core.Bool.{cond}
 use mathlib.Core.List.{List}
-use lib.Dec.{leb}
+use lib.Dec.{eqb, leb}
 use lib.ListN.{length}
 use lib.Seq.{sets}
-use Rattle.codec.specs.Stops.{refusal}
+use Rattle.codec.specs.Stops.{refusal, noStop}
+use Rattle.codec.specs.declared.Stop.{Stop}
 use Rattle.codec.specs.Codec.{Read, got, no}
 use Rattle.message.specs.Reading.{readOf}
 use Rattle.message.specs.declared.Value.{Value}
@@ -28,6 +30,11 @@ unfoldable pub readNumber : Read Value → ℕ
 readNumber (got v p) = 0
 readNumber (no s) = s .number
 
+-- the refusal whole
+unfoldable pub readStop : Read Value → Stop
+readStop (got v p) = noStop
+readStop (no s) = s
+
 -- the value's bytes from byte 0 on; what the area has beyond them stays
 unfoldable pub readArea : List ℕ → Read Value → List ℕ
 readArea area (got v p) = sets area 0 (valueBytes v)
@@ -38,6 +45,20 @@ cadReadOf profile message n area = readNumber (cadRead profile message n (length
 
 unfoldable pub cadReadArea : List ℕ → List ℕ → ℕ → List ℕ → List ℕ
 cadReadArea profile message n area = readArea area (cadRead profile message n (length area))
+
+unfoldable pub cadReadStop : List ℕ → List ℕ → ℕ → List ℕ → Stop
+cadReadStop profile message n area = readStop (cadRead profile message n (length area))
+
+-- what tells of a 4, where x stood before: with any other answer it stays
+unfoldable pub tells : Stop → ℕ → ℕ → ℕ
+tells s new x = cond (eqb (s .number) 4) new x
+
+-- where the element that did not fit begins, and which one it is
+unfoldable pub cadReadPosition : List ℕ → List ℕ → ℕ → List ℕ → ℕ → ℕ
+cadReadPosition profile message n area x = tells (cadReadStop profile message n area) (cadReadStop profile message n area .at) x
+
+unfoldable pub cadReadElement : List ℕ → List ℕ → ℕ → List ℕ → ℕ → ℕ
+cadReadElement profile message n area x = tells (cadReadStop profile message n area) (cadReadStop profile message n area .element) x
 
 -- ---- writing: 1, 22, 14
 

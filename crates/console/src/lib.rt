@@ -1,8 +1,9 @@
 // The C interface: reading and writing messages on numbers and byte buffers. Profile and value cross as bytes (specs/Profiles,
 // specs/Values); any other bytes get 1 or 22. Each function answers 0 or the refusal's number, and a refusal changes nothing that was
-// lent.
+// lent but the two numbers that tell of a 4.
 ghost use mathlib.Core.Path.{_≡_};
-ghost use Rattle.console.specs.Console.{cadReadOf, cadReadArea, cadWriteOf, cadWriteArea, cadWriteBits};
+ghost use Rattle.console.specs.Console.{cadReadStop, cadReadOf, cadReadArea, cadReadPosition, cadReadElement, cadWriteOf, cadWriteArea, cadWriteBits};
+use codec::Stop;
 
 mod number;
 mod profiles;
@@ -14,22 +15,53 @@ pub extern "C" fn cad_read(profile: &[u8], message: &[u8], bits: usize, value: &
     ensures { λ r. ⌜ (r ≡ cadReadOf (now (profile .entry)) (now (message .entry)) bits (now (value .entry)))
         × (now (value .exit) ≡ cadReadArea (now (profile .entry)) (now (message .entry)) bits (now (value .entry))) ⌝ }
 {
+    let s = read_into(profile, message, bits, value);
+    s.number as u32
+}
+
+// The same; with a 4 also where the element that did not fit begins, and which one it is.
+#[no_mangle]
+pub extern "C" fn cad_read_at(
+    profile: &[u8],
+    message: &[u8],
+    bits: usize,
+    value: &mut [u8],
+    position: &mut u32,
+    element: &mut u32,
+) -> u32
+    ensures { λ r. ⌜ (r ≡ cadReadOf (now (profile .entry)) (now (message .entry)) bits (now (value .entry)))
+        × ((now (value .exit) ≡ cadReadArea (now (profile .entry)) (now (message .entry)) bits (now (value .entry)))
+        × ((now (position .exit) ≡ cadReadPosition (now (profile .entry)) (now (message .entry)) bits (now (value .entry)) (now (position .entry)))
+        × (now (element .exit) ≡ cadReadElement (now (profile .entry)) (now (message .entry)) bits (now (value .entry)) (now (element .entry))))) ⌝ }
+{
+    let s = read_into(profile, message, bits, value);
+    if s.number == 4 {
+        *position = s.at as u32;
+        *element = s.element as u32;
+        return 4;
+    }
+    s.number as u32
+}
+
+fn read_into(profile: &[u8], message: &[u8], bits: usize, value: &mut [u8]) -> Stop
+    ensures { λ r. ⌜ (r ≡ cadReadStop (now (profile .entry)) (now (message .entry)) bits (now (value .entry)))
+        × (now (value .exit) ≡ cadReadArea (now (profile .entry)) (now (message .entry)) bits (now (value .entry))) ⌝ }
+{
     if profiles::passes(profile) {} else {
-        return 1;
+        return codec::refuse(1);
     }
     let r = reading::read(profiles::profile_from(profile), message, bits);
     let s = r.stop;
-    let number = s.number as u32;
     let found = r.found;
     if !found {
-        return number;
+        return s;
     }
     if value.len() < values::BYTES {
-        return 14;
+        return codec::refuse(14);
     }
     let v = r.value;
     values::put_value(value, v);
-    0
+    codec::no_stop()
 }
 
 // Writes the message of the value's bytes from the first byte of `message` on, and its length into `bits`.

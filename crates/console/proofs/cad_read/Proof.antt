@@ -1,68 +1,20 @@
 -- Written by tools/proofs from tools/console.conf. `console::cad_read` meets its contract. Assumes nothing.
-use mathlib.Core.Path.{sym, _∙_}
 use borrow.Author.Needs.{needs}
-use borrow.Author.Tests.{not-true, not-false}
-use Rattle.console.proofs.CallLaws.{read-1, read-14, read-0, read-no}
+use Rattle.console.proofs.CallLaws.{read-number}
 use Rattle.console.proofs.cad_read.Statement.{statement}
 use Rattle.console.proofs.cad_read.Tie as tie
 
-passes-requires : tie.Need-passes-requires
-passes-requires c κs = search needs
+read-into-requires : tie.Need-read-into-requires
+read-into-requires c κs = search needs
 
-returns : tie.Need-returns
-returns c = read-1 _ _ _ _ (sym (c .before .passes .ensures) ∙ c .if1 .left)
-
-profile-from-requires : tie.Need-profile-from-requires
-profile-from-requires c κs = search needs
-
-read-requires : tie.Need-read-requires
-read-requires c κs = search needs
-
-cast-number : tie.Need-cast-number
-cast-number c = search needs
-
-returns-2 : tie.Need-returns-2
-returns-2 c =
-    let r = c .before .before .before in
-    let f = r .before in
-    let t = f .before in
-    read-no _ _ _ _ (sym (t .before .passes .ensures) ∙ t .if1 .taken) _ (f .profile-from .ensures) (r .read .result) (r .read .ensures) (not-true _ (c .if2 .taken))
-
-returns-3 : tie.Need-returns-3
-returns-3 c =
-    let i = c .before in
-    let r = i .before .before .before in
-    let f = r .before in
-    let t = f .before in
-    read-14 _ _ _ _ (sym (t .before .passes .ensures) ∙ t .if1 .taken) _ (f .profile-from .ensures) (r .read .result) (r .read .ensures) (not-false _ (i .if2 .left)) (c .if3 .taken)
-
-put-value-requires : tie.Need-put-value-requires
-put-value-requires c κs = search needs
+cast-result : tie.Need-cast-result
+cast-result c = search needs
 
 same-length : tie.Need-same-length
 same-length c = search needs
 
-returns-4 : tie.Need-returns-4
-returns-4 c =
-    let w = c .before .before in
-    let h = w .before .before .before in
-    let i = h .before in
-    let r = i .before .before .before in
-    let f = r .before in
-    let t = f .before in
-    read-0 _ _ _ _ (sym (t .before .passes .ensures) ∙ t .if1 .taken) _ (f .profile-from .ensures) (r .read .result) (r .read .ensures) (not-false _ (i .if2 .left)) (h .if3 .left) _ (w .put-value .ensures)
+returns : tie.Need-returns
+returns c = let r = c .before .before .before .read-into .ensures in (read-number _ _ _ _ _ (r .0), r .1)
 
 pub cad-read-spec : {M : Type 1} → statement M
-cad-read-spec =
-    tie.close
-    (tie.spec
-    passes-requires
-    returns
-    profile-from-requires
-    read-requires
-    cast-number
-    returns-2
-    returns-3
-    put-value-requires
-    same-length
-    returns-4)
+cad-read-spec = tie.close (tie.spec read-into-requires cast-result same-length returns)
