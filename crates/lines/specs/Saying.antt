@@ -91,3 +91,7 @@ saidOf line = sayOf (lineOf line)
 -- the bytes of a text at the front of twenty: no name has more than fifteen, and `refused 4 at 2048` has seventeen
 unfoldable pub textOf : List ℕ → Text
 textOf xs = record { len = length xs; bytes = sets (replicate 20 0) 0 xs }
+
+-- `refused 4 at ` and up to four digits, as a text of len bytes
+unfoldable pub brokeAt : ℕ → ℕ → ℕ → ℕ → ℕ → Text
+brokeAt len a b c d = record { len = len; bytes = 114 ∷ 101 ∷ 102 ∷ 117 ∷ 115 ∷ 101 ∷ 100 ∷ 32 ∷ 52 ∷ 32 ∷ 97 ∷ 116 ∷ 32 ∷ a ∷ b ∷ c ∷ d ∷ 0 ∷ 0 ∷ 0 ∷ [] }

@@ -8,7 +8,7 @@ ghost use lib.ListN.{length, take, drop};
 ghost use Rattle.profile.specs.Sample.{sample};
 ghost use Rattle.message.specs.Reading.{readOf};
 ghost use Rattle.lines.specs.Shape.{isDigit, hexOf, noHex, hexAt, other, lineWith, afterDigits, lineOf};
-ghost use Rattle.lines.specs.Saying.{nameOf, refusedOf, digitOf, brokeOf, stopOf, answerOf, saidOf, textOf};
+ghost use Rattle.lines.specs.Saying.{nameOf, refusedOf, digitOf, brokeAt, brokeOf, stopOf, answerOf, saidOf, textOf};
 use codec::Stop;
 ghost use Rattle.lines.specs.Parsing.{Parses};
 
@@ -602,88 +602,29 @@ fn broke(at: usize) -> Text
     ensures { λ r. ⌜ r ≡ textOf (brokeOf at) ⌝ }
 {
     if at < 10 {
-        return Text {
-            len: 14,
-            bytes: [
-                b'r',
-                b'e',
-                b'f',
-                b'u',
-                b's',
-                b'e',
-                b'd',
-                b' ',
-                b'4',
-                b' ',
-                b'a',
-                b't',
-                b' ',
-                digit(at),
-                0,
-                0,
-                0,
-                0,
-                0,
-                0,
-            ],
-        };
+        return broke_at(14, digit(at), 0, 0, 0);
     }
     if at < 100 {
-        return Text {
-            len: 15,
-            bytes: [
-                b'r',
-                b'e',
-                b'f',
-                b'u',
-                b's',
-                b'e',
-                b'd',
-                b' ',
-                b'4',
-                b' ',
-                b'a',
-                b't',
-                b' ',
-                digit(at / 10),
-                digit(at),
-                0,
-                0,
-                0,
-                0,
-                0,
-            ],
-        };
+        return broke_at(15, digit(at / 10), digit(at), 0, 0);
     }
     if at < 1000 {
-        return Text {
-            len: 16,
-            bytes: [
-                b'r',
-                b'e',
-                b'f',
-                b'u',
-                b's',
-                b'e',
-                b'd',
-                b' ',
-                b'4',
-                b' ',
-                b'a',
-                b't',
-                b' ',
-                digit(at / 100),
-                digit(at / 10),
-                digit(at),
-                0,
-                0,
-                0,
-                0,
-            ],
-        };
+        return broke_at(16, digit(at / 100), digit(at / 10), digit(at), 0);
     }
+    broke_at(
+        17,
+        digit(at / 1000),
+        digit(at / 100),
+        digit(at / 10),
+        digit(at),
+    )
+}
+
+// The text of `len` bytes with these digits; 0 for each that it has not.
+fn broke_at(len: usize, a: u8, b: u8, c: u8, d: u8) -> Text
+    ensures { λ r. ⌜ r ≡ brokeAt len a b c d ⌝ }
+{
     Text {
-        len: 17,
+        len: len,
         bytes: [
             b'r',
             b'e',
@@ -698,10 +639,10 @@ fn broke(at: usize) -> Text
             b'a',
             b't',
             b' ',
-            digit(at / 1000),
-            digit(at / 100),
-            digit(at / 10),
-            digit(at),
+            a,
+            b,
+            c,
+            d,
             0,
             0,
             0,
