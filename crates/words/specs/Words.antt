@@ -1,5 +1,5 @@
 -- What is printed for an answer, after the line's number; and each part of a dump.
-use Prim.Native.Nat.{ℕ, zero, suc, _+_, _*_, _/_, _%_, _^_}
+use Prim.Native.Nat.{ℕ, zero, suc, _+_, _*_, _/_, _%_, _^_, min}
 use mathlib.Core.Bool.{Bool, true, false, not, cond}
 use mathlib.Core.List.{List, [], _∷_, _++_}
 use lib.Dec.{eqb, ltb}
@@ -115,9 +115,10 @@ wordIn ((k, word) ∷ rest) e = cond (eqb e k) word (wordIn rest e)
 unfoldable pub elementWord : ℕ → List ℕ
 elementWord e = wordIn elementWords e
 
--- with a 4 ` at `, the position where the element that did not fit begins, a space and its name
+-- with a 4 ` at `, the position where the element that did not fit begins, a space and its name; reading gives no position over 2,048
+-- (`position-most`, message), so 32 bits are enough
 unfoldable pub brokeWords : Stop → List ℕ
-brokeWords s = cond (eqb (s .number) 4) ((32 ∷ 97 ∷ 116 ∷ 32 ∷ []) ++ (decimalOf (s .at) ++ ((32 ∷ []) ++ elementWord (s .element)))) []
+brokeWords s = cond (eqb (s .number) 4) ((32 ∷ 97 ∷ 116 ∷ 32 ∷ []) ++ (decimalOf (min (s .at) 4294967295) ++ ((32 ∷ []) ++ elementWord (s .element)))) []
 
 -- no-record, other-post, active, not-active
 unfoldable pub stateWord : ℕ → List ℕ

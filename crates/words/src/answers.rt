@@ -1,6 +1,7 @@
 // The words of an answer, after those that a text has.
 ghost use mathlib.Core.Path.{_≡_};
 ghost use mathlib.Core.List.{_++_};
+ghost use Prim.Native.Nat.{min};
 ghost use lib.ListN.{getD};
 ghost use Rattle.profile.specs.Counting.{one};
 ghost use Rattle.blocks.specs.Texts.{Wrote};
@@ -33,7 +34,7 @@ pub(crate) fn answer(text: Text, answer: Answer, laid: Laid, area: &[u8]) -> Tex
 pub(crate) fn refused(text: Text, number: u8) -> Text
     ensures { λ r. ⌜ Wrote text r (refusedOf number) ⌝ }
 {
-    texts::add_number(texts::add(text, b"refused "), number as u64)
+    texts::add_number(texts::add(text, b"refused "), number as u32)
 }
 
 // Where a message broke off; nothing for any other refusal.
@@ -41,10 +42,20 @@ fn broke(text: Text, stop: Stop) -> Text
     ensures { λ r. ⌜ Wrote text r (brokeWords stop) ⌝ }
 {
     if stop.number == 4 {
-        let placed = texts::add_number(texts::add(text, b" at "), stop.at as u64);
+        let placed = texts::add_number(texts::add(text, b" at "), up_to_32_bits(stop.at));
         return element(texts::add(placed, b" "), stop.element);
     }
     text
+}
+
+// A position, as far as 32 bits go: reading gives none over 2,048.
+fn up_to_32_bits(at: usize) -> u32
+    ensures { λ r. ⌜ r ≡ min at 4294967295 ⌝ }
+{
+    if at < 4294967295 {
+        return at as u32;
+    }
+    4294967295
 }
 
 fn element(text: Text, e: u8) -> Text
@@ -131,7 +142,7 @@ fn state(text: Text, k: u8) -> Text
 fn acks(text: Text, laid: Laid, area: &[u8]) -> Text
     ensures { λ r. ⌜ Wrote text r (acksWords laid (now (area .entry))) ⌝ }
 {
-    let counted = texts::add_number(texts::add(text, b"acks "), laid.count as u64);
+    let counted = texts::add_number(texts::add(text, b"acks "), laid.count as u32);
     all_hex(all_bits(counted, laid), laid, area)
 }
 
@@ -156,7 +167,7 @@ fn ack_bits(text: Text, laid: Laid, k: u8) -> Text
     ensures { λ r. ⌜ Wrote text r (ackBits laid k) ⌝ }
 {
     if k < laid.count {
-        return texts::add_number(texts::add(text, b" "), bits_in(laid, k) as u64);
+        return texts::add_number(texts::add(text, b" "), bits_in(laid, k) as u32);
     }
     text
 }
@@ -173,8 +184,8 @@ fn ack_hex(text: Text, laid: Laid, area: &[u8], k: u8) -> Text
 fn admitted(text: Text, post: u8, place: u8, laid: Laid, area: &[u8]) -> Text
     ensures { λ r. ⌜ Wrote text r (admittedWords post place laid (now (area .entry))) ⌝ }
 {
-    let named = texts::add_number(texts::add(text, b"admitted "), post as u64);
-    let placed = texts::add_number(texts::add(named, b" "), place as u64);
+    let named = texts::add_number(texts::add(text, b"admitted "), post as u32);
+    let placed = texts::add_number(texts::add(named, b" "), place as u32);
     let first = message(texts::add(placed, b" "), laid, area, 0);
     message(texts::add(first, b" "), laid, area, 1)
 }
@@ -182,7 +193,7 @@ fn admitted(text: Text, post: u8, place: u8, laid: Laid, area: &[u8]) -> Text
 fn posted(text: Text, post: u8, laid: Laid, area: &[u8]) -> Text
     ensures { λ r. ⌜ Wrote text r (postWords post laid (now (area .entry))) ⌝ }
 {
-    let named = texts::add_number(text, post as u64);
+    let named = texts::add_number(text, post as u32);
     message(texts::add(named, b" "), laid, area, 0)
 }
 
@@ -216,7 +227,7 @@ pub(crate) fn place_part(text: Text, i: u8, place: Place) -> Text
     ensures { λ r. ⌜ Wrote text r (placeWords i place) ⌝ }
 {
     if place.used {
-        let numbered = texts::add_number(texts::add(text, b" "), i as u64);
+        let numbered = texts::add_number(texts::add(text, b" "), i as u32);
         let named = texts::add_field(numbered, place.identifier as u32);
         let posted = texts::add_field(named, place.post as u32);
         let asked = second_part(posted, place.more, place.second);
@@ -229,7 +240,7 @@ fn second_part(text: Text, more: bool, second: u8) -> Text
     ensures { λ r. ⌜ Wrote text r (secondWords more second) ⌝ }
 {
     if more {
-        return texts::add_number(texts::add(text, b">"), second as u64);
+        return texts::add_number(texts::add(text, b">"), second as u32);
     }
     text
 }
@@ -240,14 +251,14 @@ fn cause_part(text: Text, cause: u8) -> Text
     if cause == 0 {
         return text;
     }
-    texts::add_number(texts::add(text, b"!"), cause as u64)
+    texts::add_number(texts::add(text, b"!"), cause as u32)
 }
 
 pub(crate) fn record_part(text: Text, i: u8, row: Record) -> Text
     ensures { λ r. ⌜ Wrote text r (recordWords i row) ⌝ }
 {
     if row.in_use {
-        let numbered = texts::add_number(texts::add(text, b" "), i as u64);
+        let numbered = texts::add_number(texts::add(text, b" "), i as u32);
         let named = texts::add_field(texts::add_field(numbered, row.ssi), row.extension);
         let posted = texts::add_field(named, row.post as u32);
         return texts::add_field(posted, one_if(row.active));

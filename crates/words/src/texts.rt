@@ -14,7 +14,7 @@ pub(crate) fn add(text: Text, piece: &[u8]) -> Text
 
 // ---- numbers in decimal
 
-pub(crate) fn add_number(text: Text, n: u64) -> Text
+pub(crate) fn add_number(text: Text, n: u32) -> Text
     ensures { λ r. ⌜ Wrote text r (decimalOf n) ⌝ }
 {
     let mut text = text;
@@ -24,7 +24,7 @@ pub(crate) fn add_number(text: Text, n: u64) -> Text
     while left > 0 {
         left -= 1;
         power = power / 10;
-        let d = digit_at(n, power);
+        let d = digit_at(n as u64, power);
         seen = is_shown(seen, left, d);
         text = add_digit(text, seen, d);
     }
@@ -69,7 +69,7 @@ fn add_digit(text: Text, show: bool, d: u8) -> Text
 pub(crate) fn add_field(text: Text, n: u32) -> Text
     ensures { λ r. ⌜ Wrote text r (fieldOf n) ⌝ }
 {
-    add_number(add(text, b":"), n as u64)
+    add_number(add(text, b":"), n)
 }
 
 // ---- bytes in hex

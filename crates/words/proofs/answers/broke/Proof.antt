@@ -12,6 +12,9 @@ slice-aggregate-add c = search needs
 add-requires : tie.Need-add-requires
 add-requires c κs = search needs
 
+up-to-32-bits-requires : tie.Need-up-to-32-bits-requires
+up-to-32-bits-requires c κs = search needs
+
 add-number-requires : tie.Need-add-number-requires
 add-number-requires c κs = search needs
 
@@ -27,11 +30,12 @@ element-requires c κs = search needs
 returns : tie.Need-returns
 unfolding brokeWords
 returns c =
-    let p1 = c .before .before .before .before .before .before in
-    let p2 = c .before .before .before .before in
-    let p3 = c .before .before .before in
-    let p4 = c .before in
-    rw (eq-eqb _ _ (p1 .if1 .taken)) (wrote-join (p2 .add .ensures) (wrote-join (p3 .add-number .ensures) (wrote-join (p4 .add2 .ensures) (c .element .ensures))))
+    let p1 = c .before .before .before .before .before .before .before in
+    let p2 = c .before .before .before .before .before in
+    let p3 = c .before .before .before .before in
+    let p4 = c .before .before .before in
+    let p5 = c .before in
+    rw (eq-eqb _ _ (p1 .if1 .taken)) (wrote-join (p2 .add .ensures) (wrote-join (rw (p3 .up-to-32-bits .ensures) at (p4 .add-number .ensures)) (wrote-join (p5 .add2 .ensures) (c .element .ensures))))
 
 returns-2 : tie.Need-returns-2
 unfolding brokeWords
@@ -43,6 +47,7 @@ broke-spec =
     (tie.spec
     slice-aggregate-add
     add-requires
+    up-to-32-bits-requires
     add-number-requires
     slice-aggregate-add-2
     add-requires-2
