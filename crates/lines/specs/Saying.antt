@@ -68,9 +68,12 @@ positionOf n =
     (cond (leb 1000 n) (digitOf (n / 1000) ∷ digitOf (n / 100) ∷ digitOf (n / 10) ∷ digitOf n ∷ []) (digitOf (n / 100) ∷ digitOf (n / 10) ∷ digitOf n ∷ []))
     (digitOf (n / 10) ∷ digitOf n ∷ [])) (digitOf n ∷ [])
 
--- `refused 4 at ` and the position
+-- `refused 4 at ` and these digits
+abbrev pub brokeWith : List ℕ → List ℕ
+brokeWith digits = 114 ∷ 101 ∷ 102 ∷ 117 ∷ 115 ∷ 101 ∷ 100 ∷ 32 ∷ 52 ∷ 32 ∷ 97 ∷ 116 ∷ 32 ∷ digits
+
 unfoldable pub brokeOf : ℕ → List ℕ
-brokeOf at = 114 ∷ 101 ∷ 102 ∷ 117 ∷ 115 ∷ 101 ∷ 100 ∷ 32 ∷ 52 ∷ 32 ∷ 97 ∷ 116 ∷ 32 ∷ positionOf at
+brokeOf at = brokeWith (positionOf at)
 
 unfoldable pub stopOf : Stop → List ℕ
 stopOf s = cond (eqb (s .number) 4) (brokeOf (s .at)) (refusedOf (s .number))
@@ -92,6 +95,6 @@ saidOf line = sayOf (lineOf line)
 unfoldable pub textOf : List ℕ → Text
 textOf xs = record { len = length xs; bytes = sets (replicate 20 0) 0 xs }
 
--- `refused 4 at ` and up to four digits, as a text of len bytes
+-- the first len bytes of `refused 4 at ` and four digits
 unfoldable pub brokeAt : ℕ → ℕ → ℕ → ℕ → ℕ → Text
-brokeAt len a b c d = record { len = len; bytes = 114 ∷ 101 ∷ 102 ∷ 117 ∷ 115 ∷ 101 ∷ 100 ∷ 32 ∷ 52 ∷ 32 ∷ 97 ∷ 116 ∷ 32 ∷ a ∷ b ∷ c ∷ d ∷ 0 ∷ 0 ∷ 0 ∷ [] }
+brokeAt len a b c d = record { len = len; bytes = brokeWith (a ∷ b ∷ c ∷ d ∷ 0 ∷ 0 ∷ 0 ∷ []) }
