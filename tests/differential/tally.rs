@@ -1,6 +1,7 @@
 //! How often each answer came, each message where the answer was 0, and each element where it was
 //! 4.
 
+use crate::breakable::MESSAGES;
 use crate::element::NAMES as ELEMENTS;
 
 const ANSWERS: usize = 32;
@@ -9,23 +10,6 @@ pub struct Tally {
     answers: [u64; ANSWERS],
     messages: [u64; ANSWERS],
 }
-
-const NAMES: [(usize, &str); 14] = [
-    (2, "ACTIVATE"),
-    (3, "ACTIVATE ACK"),
-    (4, "DEACTIVATE"),
-    (5, "DEACTIVATE ACK"),
-    (8, "INTERROGATE"),
-    (10, "INTERCEPTED"),
-    (11, "REQUEST"),
-    (12, "ACCEPT"),
-    (13, "ACCEPTED"),
-    (14, "CANCEL"),
-    (15, "DIVERT"),
-    (16, "DIVERTED"),
-    (17, "REJECT"),
-    (18, "REJECTED"),
-];
 
 impl Tally {
     pub fn new() -> Self {
@@ -56,8 +40,8 @@ impl Tally {
                 all = false;
             }
         }
-        for (pdu, name) in NAMES {
-            if self.messages[pdu] == 0 {
+        for (pdu, name) in MESSAGES {
+            if self.messages[pdu as usize] == 0 {
                 println!("no {name} came");
                 all = false;
             }
@@ -74,9 +58,9 @@ impl Tally {
             }
         }
         println!("  answers {}", parts.join(", "));
-        let of_each: Vec<String> = NAMES
+        let of_each: Vec<String> = MESSAGES
             .iter()
-            .map(|(pdu, name)| format!("{name} {}", self.messages[*pdu]))
+            .map(|(pdu, name)| format!("{name} {}", self.messages[*pdu as usize]))
             .collect();
         println!("  of answer 0: {}", of_each.join(", "));
     }

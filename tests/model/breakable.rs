@@ -2,7 +2,7 @@
 //! what `breaks` wants to see.
 
 use crate::element::Element;
-use crate::trail::Part;
+use crate::trail::{Part, OF_OPTIONS};
 
 /// The type that is told of a message which breaks off before its type is known.
 pub const NO_TYPE: u32 = 0;
@@ -47,15 +47,6 @@ const USERS_AND_DISPATCHERS: &[Part] = &[
     Part::ToDispatcher,
 ];
 const PARTIES: &[Part] = &[Part::Option1, Part::Option2];
-const SEVEN: &[Part] = &[
-    Part::Option1,
-    Part::Option2,
-    Part::Option3,
-    Part::Option4,
-    Part::Option5,
-    Part::Option6,
-    Part::Option7,
-];
 
 /// Each of them once.
 pub fn places() -> Vec<(u32, Element, Part)> {
@@ -118,7 +109,7 @@ pub fn rows(pdu_type: u32) -> &'static [Row] {
             (Element::Cause, ONCE),
             (Element::Identifier, ONCE),
             (Element::OBit, ONCE),
-            (Element::PBit, SEVEN),
+            (Element::PBit, &OF_OPTIONS),
             (Element::Mni, &[Part::Option3]),
             (Element::Area, &[Part::Option4, Part::Option5]),
             (Element::BasicService, &[Part::Option6, Part::Option7]),

@@ -66,7 +66,7 @@ const OF_DISPATCHERS: [Part; 4] = [
     Part::FromDispatcher,
     Part::ToDispatcher,
 ];
-const OF_OPTIONS: [Part; 7] = [
+pub const OF_OPTIONS: [Part; 7] = [
     Part::Option1,
     Part::Option2,
     Part::Option3,

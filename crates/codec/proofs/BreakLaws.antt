@@ -1,6 +1,6 @@
 -- How a reading ends, combinator by combinator: a 4 has the first element along the bits that reaches past the length, and every length that
 -- ends within this element gives the same; any other refusal has its number and nothing else. Assumes nothing.
-use Prim.Native.Nat.{ℕ, zero, suc, _+_, _≤_, _<_}
+use Prim.Native.Nat.{ℕ, _+_, _≤_, _<_}
 use mathlib.Core.Path.{_≡_, refl}
 use mathlib.Core.Bool.{Bool, true, false, not, cond}
 use mathlib.Core.List.{List, [], _∷_, _++_}
@@ -11,11 +11,10 @@ use borrow.Author.Tests.{le-leb, lt-leb}
 use Rattle.bits.specs.Fields.{fieldAt}
 use Rattle.bits.proofs.SetLaws.{lt-or}
 use Rattle.codec.specs.Stops.{short, refusal}
-use Rattle.codec.specs.Codec.{Along, takes, asks, Read, got, no, bind, afterwards, Codec, number, guard, seq, map, vec, vecRead, vecThen}
-use Rattle.codec.specs.Options.{Optional, absent, there, thereC}
+use Rattle.codec.specs.Codec.{Along, takes, asks, Read, got, no, bind, afterwards, Codec, number, guard}
+use Rattle.codec.specs.Options.{Optional, absent, there}
 use Rattle.codec.specs.Breaks.{Element, firstPast}
-use Rattle.codec.specs.declared.Stop.{Stop}
-use Rattle.codec.proofs.Good.{Binary, View, refused, found, Came, Broken, Plain, Ended, came, failed, broke}
+use Rattle.codec.proofs.Good.{View, found, Came, Broken, Plain, Ended, came, failed, broke}
 
 -- ---- one list along the bits after another
 

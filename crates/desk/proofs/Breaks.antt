@@ -19,14 +19,11 @@ use Rattle.message.proofs.OrderLaws.{reading-exact}
 use Rattle.message.proofs.BreakLaws.{Broke, broke-off, carries-neither}
 use Rattle.places.specs.Held.{placeIn}
 use Rattle.places.specs.Spots.{placeOf}
-use Rattle.records.specs.declared.Identity.{Identity}
-use Rattle.records.specs.declared.Party.{Party}
 use Rattle.records.specs.declared.Record.{Record}
-use Rattle.desk.specs.Grounds.{notSent, partyFor, noPlaceFor, noPlaceThere, typeOrder, messageOrder, setUpOrder, rejectOrder, cancelOrder, eventOrder, orderOf}
+use Rattle.desk.specs.Grounds.{notSent, partyFor, typeOrder, messageOrder, setUpOrder, rejectOrder, cancelOrder, eventOrder, orderOf}
 use Rattle.desk.specs.Numbers.{stopOf}
-use Rattle.desk.specs.Orders.{postsOf, placesOf, answerOf}
+use Rattle.desk.specs.Orders.{postsOf, placesOf}
 use Rattle.desk.specs.Steps.{stepOf}
-use Rattle.desk.specs.declared.Answer.{Answer}
 use Rattle.desk.specs.declared.Answer.the-variants as answer
 use Rattle.desk.specs.declared.Desk.{Desk}
 use Rattle.desk.specs.declared.Event.{Event}
@@ -54,10 +51,6 @@ first-plain [] o = no-stop-plain
 first-plain ((s, true) ∷ rest) o = o .0
 first-plain ((s, false) ∷ rest) o = first-plain rest (o .1)
 
--- one refusal that is no 4
-one : (c : ℕ) → eqb c 4 ≡ false → Plain (refusal c)
-one c z = plain-refusal c z
-
 -- ---- what the first ground of a call's order gives: a refusal that is no 4, or reading's own
 
 -- this call's message gives s when it is read
@@ -74,25 +67,25 @@ data Gives (d : Desk) (l : List ℕ) (e : Event) (s : Stop) : Type 0 where
 module _ (d : Desk) (rows : List Record) (n : ℕ) (l : List ℕ) (room : ℕ) where
   type-others : (post : ℕ) (v : Value) → Others (typeOrder d rows n room post v)
   type-others post v =
-      others-cond (eqb (v .pdu) 2) _ _ (one 14 refl, (one 15 refl, (one 21 refl, tt)))
-      (others-cond (eqb (v .pdu) 4) _ _ (one 14 refl, (one 15 refl, tt))
-      (others-cond (eqb (v .pdu) 8) _ _ (one 15 refl, tt)
+      others-cond (eqb (v .pdu) 2) _ _ (plain-refusal 14 refl, (plain-refusal 15 refl, (plain-refusal 21 refl, tt)))
+      (others-cond (eqb (v .pdu) 4) _ _ (plain-refusal 14 refl, (plain-refusal 15 refl, tt))
+      (others-cond (eqb (v .pdu) 8) _ _ (plain-refusal 15 refl, tt)
       (others-cond (eqb (v .pdu) 12) _ _
-      (one 14 refl, (one 19 refl, (one 20 refl, others-cond (placeIn (placesOf d) (placeOf (placesOf d) (identifierIn v) .place) .more) _ _ (one 18 refl, tt) tt)))
-      (others-cond (eqb (v .pdu) 15) _ _ (one 14 refl, (one 19 refl, (one 20 refl, tt)))
-      (others-cond (eqb (v .pdu) 17) _ _ (one 14 refl, (one 19 refl, (one 20 refl, tt))) tt)))))
+      (plain-refusal 14 refl, (plain-refusal 19 refl, (plain-refusal 20 refl, others-cond (placeIn (placesOf d) (placeOf (placesOf d) (identifierIn v) .place) .more) _ _ (plain-refusal 18 refl, tt) tt)))
+      (others-cond (eqb (v .pdu) 15) _ _ (plain-refusal 14 refl, (plain-refusal 19 refl, (plain-refusal 20 refl, tt)))
+      (others-cond (eqb (v .pdu) 17) _ _ (plain-refusal 14 refl, (plain-refusal 19 refl, (plain-refusal 20 refl, tt))) tt)))))
 
   -- after reading: what was read goes on by its type, and a refusal of reading is handed on
   after-gives : (post bits : ℕ) (g : List Ground) (r : Read Value) → readOf (d .profile) l bits ≡ r → Told g r
       → Gives d l (event.Message post bits) (firstOf (g ++ afterwards r (λ v p. notSent v ∷ typeOrder d rows n room post v)))
   after-gives post bits g (got v p) e t =
-      itself (subst Plain (sym (none-join _ g t .1)) (first-plain (notSent v ∷ typeOrder d rows n room post v) (one 8 refl, type-others post v)))
+      itself (subst Plain (sym (none-join _ g t .1)) (first-plain (notSent v ∷ typeOrder d rows n room post v) (plain-refusal 8 refl, type-others post v)))
   after-gives post bits g (no s) e t = reading (e ∙ ap no (sym (some-join [] g (t .0) .1 ∙ t .1)))
 
   -- one ground before them
   before-gives : (e : Event) (c : ℕ) (holds : Bool) (rest : List Ground) → eqb c 4 ≡ false → Gives d l e (firstOf rest) → Gives d l e (firstOf ((refusal c, holds) ∷ rest))
   unfolding firstOf
-  before-gives e c true rest z w = itself (one c z)
+  before-gives e c true rest z w = itself (plain-refusal c z)
   before-gives e c false rest z w = w
 
   event-gives : (e : Event) → Gives d l e (firstOf (eventOrder d rows n l room e))
@@ -103,10 +96,10 @@ module _ (d : Desk) (rows : List Record) (n : ℕ) (l : List ℕ) (room : ℕ) w
   event-gives (event.SetUp caller called identifier cause) =
       itself
       (first-plain (setUpOrder d rows n room caller called identifier cause)
-      (one 16 refl, (one 14 refl, (one 15 refl, (one 17 refl, others-cond (partyFor rows n caller called .found) _ _ (one 18 refl, tt) tt)))))
+      (plain-refusal 16 refl, (plain-refusal 14 refl, (plain-refusal 15 refl, (plain-refusal 17 refl, others-cond (partyFor rows n caller called .found) _ _ (plain-refusal 18 refl, tt) tt)))))
   event-gives (event.Reject post identifier) =
-      itself (first-plain (rejectOrder d room post identifier) (one 2 refl, (one 16 refl, (one 14 refl, (one 19 refl, (one 20 refl, tt))))))
-  event-gives (event.Cancel identifier) = itself (first-plain (cancelOrder d room identifier) (one 16 refl, (one 14 refl, (one 19 refl, tt))))
+      itself (first-plain (rejectOrder d room post identifier) (plain-refusal 2 refl, (plain-refusal 16 refl, (plain-refusal 14 refl, (plain-refusal 19 refl, (plain-refusal 20 refl, tt))))))
+  event-gives (event.Cancel identifier) = itself (first-plain (cancelOrder d room identifier) (plain-refusal 16 refl, (plain-refusal 14 refl, (plain-refusal 19 refl, tt))))
 
   order-gives : (e : Event) → Gives d l e (firstOf (orderOf d rows n l room e))
   unfolding orderOf

@@ -4,7 +4,7 @@
 --     carries-neither  any other refusal has neither element nor position
 --     position-most    the position is at most 2,048
 use Prim.Native.Nat.{ℕ, suc, _+_, _*_, _≤_, _<_}
-use mathlib.Core.Path.{_≡_, refl, sym, ap, _∙_, subst}
+use mathlib.Core.Path.{_≡_, refl, sym, _∙_, subst}
 use mathlib.Core.Bool.{Bool, true, false, not, cond}
 use mathlib.Core.List.{List, [], _∷_, _++_}
 use native.Mathlib.Omega.{arith}
@@ -14,14 +14,13 @@ use borrow.Author.Tests.{le-leb, leb-true, eqb-true}
 use Rattle.bits.specs.Fields.{bitAt}
 use Rattle.bits.proofs.FieldLaws.{bit-lt}
 use Rattle.codec.specs.Stops.{refusal}
-use Rattle.codec.specs.Codec.{Along, asks, Read, got, no, bind, afterwards, both}
+use Rattle.codec.specs.Codec.{Along, asks, Read, got, no, bind, afterwards}
 use Rattle.codec.specs.Options.{there}
 use Rattle.codec.specs.Breaks.{firstPast}
 use Rattle.codec.specs.declared.Stop.{Stop}
-use Rattle.codec.proofs.Good.{both-true, both-left, both-right, not-both, Broken, Plain, Ended, came, failed, broke}
+use Rattle.codec.proofs.Good.{both-true, both-left, both-right, not-both, Plain, Ended, came, failed, broke}
 use Rattle.codec.proofs.BreakLaws.{past-some, plain-refusal}
 use Rattle.profile.specs.Rules.{profileOk}
-use Rattle.profile.specs.declared.Air.{Air}
 use Rattle.profile.specs.declared.Profile.{Profile}
 use Rattle.message.specs.Messages.{messageC}
 use Rattle.message.specs.Reading.{wholeOf, lengthOk, readBits, readOf, bitsOrder}
