@@ -1,8 +1,10 @@
 //! The desk of one network and its calls, each with its refusals in document 01's order.
 //! A call changes nothing before its last refusal is past.
 
+mod shares;
 mod waiting;
 
+pub use shares::Rows;
 pub use waiting::{posts_asked, restricted};
 
 use crate::ack::Ack;
@@ -81,6 +83,8 @@ pub enum Answer {
         post: u32,
         bits: usize,
     },
+    /// New shares are in force.
+    Taken,
 }
 
 /// What the host lends for one call beside the desk.

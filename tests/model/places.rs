@@ -1,6 +1,6 @@
 //! The 32 places of waiting calls, and the shares that the posts have in them.
 
-use crate::profile::{Profile, PLACES};
+use crate::profile::{Post, Profile, PLACES};
 
 /// A waiting call: the call identifier, the post at which it waits now, the post that has to
 /// accept it after that one, if there is one, and the interception cause of its REQUEST.
@@ -76,6 +76,20 @@ pub fn places_keep_rules(profile: &Profile, places: &Places) -> bool {
         && !two_with_one_identifier(places)
         && posts(profile).all(|post| held(places, post) <= profile.posts[post as usize].ceiling)
         && all_held(profile, places) + all_owed(profile, places) <= PLACES
+}
+
+/// Whether shares fit what is held: no post holds more than its ceiling, and what each post holds
+/// or has reserved, whichever is more, comes to no more than the places.
+pub fn shares_fit(posts: &[Post], places: &Places) -> bool {
+    let mut larger_ones = 0;
+    for (number, post) in posts.iter().enumerate() {
+        let held = held(places, number as u32);
+        if held > post.ceiling {
+            return false;
+        }
+        larger_ones += held.max(post.reserved);
+    }
+    larger_ones <= PLACES
 }
 
 /// A second post that is the call's own is no fault.

@@ -1,4 +1,5 @@
-//! The profile: what one network fixes at opening, and the rules that it has to keep.
+//! The profile: what one network gives at opening, and the rules that it has to keep. All of it but
+//! the posts' shares is fixed from then on.
 //! A profile that breaks a rule is refusal 1, which stands before every other refusal.
 
 pub const PLACES: u32 = 32;
@@ -14,7 +15,7 @@ pub enum Meaning {
 }
 
 /// A post's share of the places: g (reserved number) and c (ceiling).
-#[derive(Clone, PartialEq, Eq, Debug)]
+#[derive(Clone, Copy, PartialEq, Eq, Debug, Default)]
 pub struct Post {
     pub reserved: u32,
     pub ceiling: u32,
@@ -41,9 +42,14 @@ impl Profile {
             && self.reason_other_post <= 127
             && !self.posts.is_empty()
             && self.posts.len() <= MOST_POSTS
-            && self.posts.iter().all(post_keeps_rules)
-            && self.posts.iter().map(|post| post.reserved).sum::<u32>() <= PLACES
+            && shares_keep_rules(&self.posts)
     }
+}
+
+/// What the profile asks of the shares of its posts, whichever posts there are.
+pub fn shares_keep_rules(posts: &[Post]) -> bool {
+    posts.iter().all(post_keeps_rules)
+        && posts.iter().map(|post| post.reserved).sum::<u32>() <= PLACES
 }
 
 fn meaning_keeps_rules(meaning: &Meaning) -> bool {

@@ -1,5 +1,5 @@
-//! What a call gives instead of an answer: a number of document 01's table of refusals, and with
-//! number 4 where the message broke off.
+//! What a call gives instead of an answer: a number of document 01's table of refusals, or one that
+//! a request of document 02 adds to it, and with number 4 where the message broke off.
 
 use crate::element::Element;
 

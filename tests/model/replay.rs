@@ -79,6 +79,7 @@ impl Replay {
             } => self.desk.set_up(lent, caller, called, identifier, cause),
             Line::Reject { post, identifier } => self.desk.reject(lent, post, identifier),
             Line::Cancel { identifier } => self.desk.cancel(lent, identifier),
+            Line::Shares(rows) => self.desk.change_shares(&rows),
         };
         Some(words(outcome, &output))
     }
@@ -181,6 +182,7 @@ fn words(outcome: Result<Answer, Refusal>, output: &[u8]) -> String {
         Ok(Answer::Diverted { bits }) => format!("diverted {}", hex(0, bits)),
         Ok(Answer::Rejected { bits }) => format!("rejected {}", hex(0, bits)),
         Ok(Answer::Cancelled { post, bits }) => format!("cancelled {post} {}", hex(0, bits)),
+        Ok(Answer::Taken) => "taken".to_string(),
     }
 }
 

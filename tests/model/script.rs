@@ -1,6 +1,7 @@
 //! The shape of one line of a desk script. Words are parted by one space; lines are bytes.
 //! What is no such line is of another shape; README.md lists what was decided about it.
 
+use crate::desk::Rows;
 use crate::hex::read_hex;
 use crate::layout::read_meaning;
 use crate::places::Call;
@@ -12,6 +13,8 @@ const MOST_DIGITS: usize = 10;
 const MOST_HEX_DIGITS: usize = 512;
 /// SS type, home, U, N, sixteen meanings, number of posts.
 const NUMBERS_BEFORE_POSTS: usize = 21;
+/// A number of new shares that is larger counts as this one.
+const MOST_OF_SHARE: u32 = 255;
 
 pub enum Line {
     /// Nothing where the numbers are no profile that keeps the rules.
@@ -56,6 +59,7 @@ pub enum Line {
         place: usize,
         cause: u32,
     },
+    Shares(Rows),
     Dump,
 }
 
@@ -128,6 +132,7 @@ fn read_numbers_line(name: &[u8], numbers: &[u32]) -> Option<Line> {
             place: at_most(*place, PLACES - 1)? as usize,
             cause: at_most(*cause, 255)?,
         }),
+        (b"shares", _) => Some(Line::Shares(rows_of(&read_pairs(numbers)?))),
         (b"dump", []) => Some(Line::Dump),
         _ => None,
     }
@@ -148,24 +153,38 @@ fn set_up(parties: &[u32], identifier: u32, cause: u32) -> Line {
 }
 
 fn read_profile_line(numbers: &[u32]) -> Option<Line> {
-    let pairs = numbers.get(NUMBERS_BEFORE_POSTS..)?;
-    if pairs.is_empty() || pairs.len() % 2 != 0 || pairs.len() > 2 * MOST_POSTS {
-        return None;
-    }
-    Some(Line::Profile(profile_of(numbers, pairs)))
+    let posts = read_pairs(numbers.get(NUMBERS_BEFORE_POSTS..)?)?;
+    Some(Line::Profile(profile_of(numbers, posts)))
 }
 
-fn profile_of(numbers: &[u32], pairs: &[u32]) -> Option<Profile> {
+/// 1 to 8 pairs of a reserved number and a ceiling.
+fn read_pairs(numbers: &[u32]) -> Option<Vec<Post>> {
+    if numbers.is_empty() || numbers.len() % 2 != 0 || numbers.len() > 2 * MOST_POSTS {
+        return None;
+    }
+    let post = |pair: &[u32]| Post {
+        reserved: pair[0],
+        ceiling: pair[1],
+    };
+    Some(numbers.chunks(2).map(post).collect())
+}
+
+/// A row that is left out is 0 0.
+fn rows_of(posts: &[Post]) -> Rows {
+    let mut rows = Rows::default();
+    for (row, post) in rows.iter_mut().zip(posts) {
+        *row = Post {
+            reserved: post.reserved.min(MOST_OF_SHARE),
+            ceiling: post.ceiling.min(MOST_OF_SHARE),
+        };
+    }
+    rows
+}
+
+fn profile_of(numbers: &[u32], posts: Vec<Post>) -> Option<Profile> {
     let mut meanings = [Meaning::Reserved; 16];
     for (range, meaning) in meanings.iter_mut().enumerate() {
         *meaning = read_meaning(u8::try_from(numbers[4 + range]).ok()?)?;
-    }
-    let mut posts = Vec::new();
-    for pair in pairs.chunks(2) {
-        posts.push(Post {
-            reserved: pair[0],
-            ceiling: pair[1],
-        });
     }
     let profile = Profile {
         ss_type: numbers[0],
