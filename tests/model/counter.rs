@@ -1,5 +1,5 @@
-//! What `moves`, `requests` and `deactivations` do alike: a script is run on the model line by
-//! line, what a line brought is counted by the rule of each, and the counts are printed.
+//! What `moves`, `requests`, `deactivations` and `shares` do alike: a script is run on the model
+//! line by line, what a line brought is counted by the rule of each, and the counts are printed.
 
 use crate::line::lines_of;
 use crate::profile::PLACES;

@@ -11,6 +11,9 @@ mod odd;
 mod orders;
 mod profiles;
 mod scene;
+mod share_rows;
+mod share_scene;
+mod shares;
 
 use crate::dice::Dice;
 use crate::draw::user_ranges;
@@ -123,8 +126,10 @@ impl Source {
             },
             70..=73 => self.two_grounds(),
             74..=77 => self.shift(),
-            78..=80 => self.faulty_deactivation(),
-            81..=88 => self.broken_off(),
+            78..=82 => self.faulty_deactivation(),
+            83..=90 => self.broken_off(),
+            91..=92 => self.share_scene(),
+            93..=95 => self.share_change(),
             _ => self.call(),
         }
     }
@@ -139,12 +144,13 @@ impl Source {
     }
 
     fn odd_line(&mut self) -> Vec<u8> {
-        let good = match self.dice.below(8) {
+        let good = match self.dice.below(9) {
             0 => profiles::line(&self.replay.desk.profile),
             1 => self.record_line(),
             2 => b"place 31 16383 0".to_vec(),
             3 => b"second 31 0".to_vec(),
             4 => b"cause 31 31".to_vec(),
+            5 => self.share_change(),
             _ => self.call(),
         };
         odd::line(&mut self.dice, &good)

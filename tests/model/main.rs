@@ -39,6 +39,7 @@ mod rounds;
 mod script;
 mod selftest;
 mod shapes;
+mod shares;
 mod step;
 mod suite;
 mod table;
@@ -55,7 +56,7 @@ use std::process::ExitCode;
 
 const USAGE: &str = "usage: model listing | generate SEED COUNT | suite | count | rounds | \
     crossing | replay | script SEED COUNT | tally | moves | \
-    requests | deactivations | breaks listing | breaks replay | selftest";
+    requests | deactivations | shares | breaks listing | breaks replay | selftest";
 
 fn main() -> ExitCode {
     let arguments: Vec<String> = env::args_os()
@@ -101,6 +102,7 @@ fn run(words: &[&str]) -> io::Result<Option<bool>> {
         ["deactivations"] => {
             good = deactivations::count_deactivations(&standard_input()?, &mut out)?;
         }
+        ["shares"] => good = shares::count_shares(&standard_input()?, &mut out)?,
         ["breaks", "listing"] => good = breaks::count_in_listing(&standard_input()?, &mut out)?,
         ["breaks", "replay"] => good = breaks::count_in_replay(&standard_input()?, &mut out)?,
         ["count"] => good = count::count(&standard_input()?, &mut out)?,

@@ -4,8 +4,9 @@
 use crate::count::{is_position, print_counts, refusal};
 use crate::element::NAMES;
 use std::io::{self, Write};
+use std::ops::RangeInclusive;
 
-const ANSWERS: [&str; 16] = [
+const ANSWERS: [&str; 17] = [
     "acks 1",
     "acks 2",
     "acks 3",
@@ -20,16 +21,17 @@ const ANSWERS: [&str; 16] = [
     "diverted",
     "rejected",
     "cancelled",
+    "taken",
     "dump",
     "not understood",
 ];
 /// Those that a desk can give; 22 is for writing.
-const REFUSALS: std::ops::RangeInclusive<u32> = 1..=21;
+const REFUSALS: [RangeInclusive<u32>; 2] = [1..=21, 23..=24];
 
 /// Prints the counts, answers before refusals; false if one never came or isn't known.
 pub fn tally(replay: &[u8], out: &mut dyn Write) -> io::Result<bool> {
     let mut answers = ANSWERS.map(str::to_string).to_vec();
-    answers.extend(REFUSALS.map(refusal));
+    answers.extend(REFUSALS.into_iter().flatten().map(refusal));
     print_counts("replay", replay, &answers, answer_of, out)
 }
 

@@ -191,7 +191,7 @@ impl Source {
     fn faulty_message(&mut self) -> Vec<u8> {
         let post = self.post();
         let (dice, profile) = (&mut self.dice, &self.replay.desk.profile);
-        let mut bits = match dice.below(20) {
+        let mut bits = match dice.below(22) {
             0 => fault::ss_type(dice, profile),
             1 | 2 => fault::pdu_type(dice, profile),
             3 => user_fault::range_ends(dice, profile),
@@ -201,10 +201,10 @@ impl Source {
             7 => user_fault::mask(dice, profile),
             8 => fault::content(dice, profile),
             9 => fault::options(dice, profile),
-            10 | 11 => fault::about_waiting_call(dice, profile),
-            12 | 13 => bits_of(profile, &draw::about_waiting_call(dice, profile)),
-            14..=16 => user_fault::deactivation(dice, profile),
-            17 => fault::not_carried(dice, profile),
+            10..=12 => fault::about_waiting_call(dice, profile),
+            13 | 14 => bits_of(profile, &draw::about_waiting_call(dice, profile)),
+            15..=18 => user_fault::deactivation(dice, profile),
+            19 => fault::not_carried(dice, profile),
             _ => bits_of(profile, &draw::message(dice, profile)),
         };
         if dice.one_in(3) {

@@ -5,7 +5,7 @@ use crate::odd::with_byte;
 use crate::profile::sample;
 
 /// Lines at the edges of the numbers, good and one too far.
-const EDGES: [&str; 51] = [
+const EDGES: [&str; 59] = [
     "record 127 0 0 0 0 0",
     "record 256 1 1 1 0 0",
     "record 0 2 1 1 0 0",
@@ -57,6 +57,14 @@ const EDGES: [&str; 51] = [
     "post 0 11 25A0 25A0",
     "cancel 5 5",
     "reject 0",
+    "shares",
+    "shares 2",
+    "shares 2 30 4",
+    "shares 2 30 4 4294967296",
+    "shares 4294967295 4294967295",
+    "shares 0 0 0 0 0 0 0 0 0 0 0 0 0 0 0 0",
+    "shares 0 0 0 0 0 0 0 0 0 0 0 0 0 0 0 0 0",
+    "shares 0 0 0 0 0 0 0 0 0 0 0 0 0 0 0 0 0 0",
 ];
 
 /// Numbers that are of the shape, or nearly.
