@@ -19,6 +19,11 @@ mod request_scripts;
 mod requests;
 mod script_lines;
 mod scripts;
+mod share_cases;
+mod share_laws;
+mod share_scripts;
+mod share_variants;
+mod shares;
 mod writing;
 
 use std::io::{self, Write};
@@ -49,6 +54,7 @@ pub fn selftest(out: &mut dyn Write) -> io::Result<bool> {
     move_laws::check(&mut report)?;
     requests::check(&mut report)?;
     deactivations::check(&mut report)?;
+    shares::check(&mut report)?;
     breaks::check(&mut report)?;
     Ok(report.all_good)
 }

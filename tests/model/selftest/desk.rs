@@ -174,12 +174,14 @@ fn damaged_desks(report: &mut Report) -> io::Result<()> {
         ("32 held and owed", put(0, 28, 0), false),
     ];
     for (what, damage, damaged) in rows {
-        let script = format!("{damage}post 9 0\nsetup 0 0 0 0 16384\nreject 9 0\ncancel 16384\n");
+        let script = format!(
+            "{damage}post 9 0\nsetup 0 0 0 0 16384\nreject 9 0\ncancel 16384\nshares 0 0\n"
+        );
         let first = damage.lines().count() + 1;
         let numbers = if damaged {
-            [1, 1, 1, 1]
+            [1, 1, 1, 1, 1]
         } else {
-            [2, 16, 2, 16]
+            [2, 16, 2, 16, 23]
         };
         let answers: String = numbers
             .iter()

@@ -1,15 +1,21 @@
-//! What waits, told from a history's lines and answers alone: held is counted up by an admission,
-//! down by an end, and by both at a move.
+//! What waits and which shares are in force, told from a history's lines and answers alone: held is
+//! counted up by an admission, down by an end, and by both at a move; the shares are those of the
+//! last profile, or those taken since.
 
 use crate::message::{read, Message};
 use crate::places::{Call, Places, ALL_FREE};
-use crate::profile::{Profile, PLACES};
+use crate::profile::{Post, Profile, PLACES};
 use crate::records::{Identity, Record};
 use crate::script::Line;
+
+/// A post's reserved number and its ceiling.
+pub(super) type Share = (u32, u32);
 
 pub(super) struct Ledger {
     pub(super) places: Places,
     pub(super) held: [u32; 256],
+    /// Of each post.
+    pub(super) shares: Vec<Share>,
 }
 
 /// What an ACCEPT has to be answered; the posts are second posts, and a move has the call as it
@@ -41,15 +47,21 @@ pub(super) fn request_hex(profile: &Profile, call: &Call) -> String {
 
 /// No post over its ceiling, and all held plus all owed at most 32: each post counts for its
 /// held or its reserved number, whichever is more.
-pub(super) fn fit(profile: &Profile, held: &[u32; 256]) -> bool {
+pub(super) fn fit(shares: &[Share], held: &[u32; 256]) -> bool {
     let mut held_and_owed = 0;
-    for (post, share) in profile.posts.iter().enumerate() {
-        if held[post] > share.ceiling {
+    for (post, (reserved, ceiling)) in shares.iter().enumerate() {
+        if held[post] > *ceiling {
             return false;
         }
-        held_and_owed += held[post].max(share.reserved);
+        held_and_owed += held[post].max(*reserved);
     }
     held_and_owed <= PLACES
+}
+
+/// The shares of the posts, as pairs.
+pub(super) fn pairs(posts: &[Post]) -> Vec<Share> {
+    let pair = |post: &Post| (post.reserved, post.ceiling);
+    posts.iter().map(pair).collect()
 }
 
 impl Ledger {
@@ -57,6 +69,8 @@ impl Ledger {
         Ledger {
             places: ALL_FREE,
             held: [0; 256],
+            // Of the sample profile, which is in force at the start.
+            shares: vec![(2, 30), (4, 8)],
         }
     }
 
@@ -82,8 +96,8 @@ impl Ledger {
         None
     }
 
-    pub(super) fn is_sound(&self, profile: &Profile) -> bool {
-        let posts = profile.posts.len() as u32;
+    pub(super) fn is_sound(&self) -> bool {
+        let posts = self.shares.len() as u32;
         for (place, call) in self.places.iter().enumerate() {
             if let Some(call) = call {
                 let (first, _) = self.waiting(call.identifier).unwrap_or((place, *call));
@@ -97,22 +111,16 @@ impl Ledger {
                 }
             }
         }
-        fit(profile, &self.held)
+        fit(&self.shares, &self.held)
     }
 
     /// A move leaves one call less at the first post and one more at the second, and is refused
     /// exactly if that doesn't fit.
-    pub(super) fn accept(
-        &self,
-        profile: &Profile,
-        post: u32,
-        identifier: u32,
-        long_enough: bool,
-    ) -> Accept {
-        if !self.is_sound(profile) {
+    pub(super) fn accept(&self, post: u32, identifier: u32, long_enough: bool) -> Accept {
+        if !self.is_sound() {
             return Accept::Refused(1);
         }
-        if post as usize >= profile.posts.len() {
+        if post as usize >= self.shares.len() {
             return Accept::Refused(2);
         }
         if !long_enough {
@@ -127,7 +135,7 @@ impl Ledger {
                     let mut held = self.held;
                     held[post as usize] -= 1;
                     held[second as usize] += 1;
-                    if fit(profile, &held) {
+                    if fit(&self.shares, &held) {
                         Accept::Moved(second, call)
                     } else {
                         Accept::Refused18(second)
@@ -147,9 +155,13 @@ impl Ledger {
         let words: Vec<&str> = answer.split(' ').collect();
         let number = |word: usize| words[word].parse::<u32>().expect("a number");
         match line {
-            Line::Profile(_) if answer.is_empty() => {
+            Line::Profile(Some(profile)) if answer.is_empty() => {
                 self.places = ALL_FREE;
                 self.held = [0; 256];
+                self.shares = pairs(&profile.posts);
+            }
+            Line::Shares(rows) if answer == "taken" => {
+                self.shares = pairs(&rows[..self.shares.len()]);
             }
             Line::Place { place, call } => self.put(*place, *call),
             Line::Unplace { place } => self.take_out(*place),
@@ -215,7 +227,7 @@ impl Ledger {
 }
 
 /// The post of the party's record, the lowest in use, if that is marked.
-fn marked(records: &[Record], party: Identity) -> Option<u32> {
+pub(super) fn marked(records: &[Record], party: Identity) -> Option<u32> {
     for record in records {
         if record.in_use && record.ssi == party.ssi && record.extension == party.extension {
             return if record.active {

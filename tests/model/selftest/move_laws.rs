@@ -72,14 +72,14 @@ impl Seen {
         let mut ledger = Ledger::new();
         run_history(seed, |line, step| {
             let (before, after, answer) = (&step.before.desk, &step.after.desk, step.answer);
-            let sound = ledger.is_sound(&before.profile);
+            let sound = ledger.is_sound();
             if let Some((post, identifier)) = accept_of(&before.profile, &line) {
                 let long_enough = step.before.output_bytes >= 300;
-                let wanted = ledger.accept(&before.profile, post, identifier, long_enough);
+                let wanted = ledger.accept(post, identifier, long_enough);
                 let as_counted = answer == wanted.words(&before.profile);
                 self.laws.hold(Law::AcceptsCounted, as_counted);
                 if let Accept::Moved(second, _) | Accept::Refused18(second) = wanted {
-                    self.judge(&ledger, before, post, second, answer);
+                    self.judge(&ledger, post, second, answer);
                     self.try_on_copies(before, post, identifier, second, answer);
                 }
             }
@@ -87,20 +87,20 @@ impl Seen {
             self.laws
                 .hold(Law::PlacesTold, ledger.places == after.places);
             if sound && !answer.is_empty() {
-                let kept = fit(&after.profile, &ledger.held);
+                let kept = fit(&ledger.shares, &ledger.held);
                 self.laws.hold(Law::SharesKept, kept);
             }
         });
     }
 
-    fn judge(&mut self, ledger: &Ledger, before: &Desk, first: u32, second: u32, answer: &str) {
-        let share = &before.profile.posts[second as usize];
+    fn judge(&mut self, ledger: &Ledger, first: u32, second: u32, answer: &str) {
+        let (reserved, ceiling) = ledger.shares[second as usize];
         let held = ledger.held[second as usize] - u32::from(first == second);
         let got_18 = answer == "refused 18";
-        let below_reserve = held < share.reserved;
+        let below_reserve = held < reserved;
         self.laws.hold(Law::ReserveOpen, !(got_18 && below_reserve));
         self.laws.hold(Law::OwnOpen, !(got_18 && first == second));
-        match (got_18, held >= share.ceiling) {
+        match (got_18, held >= ceiling) {
             (false, _) => self.moves += 1,
             (true, true) => self.by_ceiling += 1,
             (true, false) => self.by_owed += 1,

@@ -182,7 +182,7 @@ impl Told {
         };
         let waiting = ledger.waiting(identifier).map(|(_, call)| call);
         let grounds = [
-            (!ledger.is_sound(profile), 1),
+            (!ledger.is_sound(), 1),
             (
                 post.map_or(false, |post| post as usize >= profile.posts.len()),
                 2,

@@ -1,6 +1,6 @@
 //! Single script lines: of another shape, and at the edges of the shape.
 
-pub const OTHER_SHAPES: [&str; 75] = [
+pub const OTHER_SHAPES: [&str; 90] = [
     "",
     " ",
     "dump ",
@@ -76,10 +76,25 @@ pub const OTHER_SHAPES: [&str; 75] = [
     "profile 9 0 1 2 16 1 2 3 0 0 0 0 0 0 0 0 0 0 0 17 9 1 1 1 1 1 1 1 1 1 1 1 1 1 1 1 1 1 1",
     "profile 9 0 1 2 16 1 2 3 0 0 0 0 0 0 0 0 0 0 0 17 2 2 30 4 8 ",
     "place 0 5 0\r",
+    "shares",
+    "shares ",
+    "shares 2",
+    "shares 2 30 4",
+    "shares 2 30 4 8 ",
+    "shares 2 30  4 8",
+    " shares 2 30 4 8",
+    "shares\t2 30 4 8",
+    "Shares 2 30 4 8",
+    "share 2 30 4 8",
+    "shares 2 30 4 -8",
+    "shares 2 30 4 4294967296",
+    "shares 2 30 4 00000000008",
+    "shares 2 30 4 8 1 1 1 1 1 1 1 1 1 1 1 1 1",
+    "shares 2 30 4 8 1 1 1 1 1 1 1 1 1 1 1 1 1 1",
 ];
 
 /// Numbers at their largest, leading zeros within ten digits, no hex, as many posts as there are.
-pub const EDGES: [&str; 23] = [
+pub const EDGES: [&str; 28] = [
     "dump",
     "post 4294967295 4294967295",
     "post 0000000000 0000000011 25A0",
@@ -103,4 +118,9 @@ pub const EDGES: [&str; 23] = [
     "profile 9 0 1 2 16 1 2 3 0 0 0 0 0 0 0 0 0 0 0 17 8 1 1 1 1 1 1 1 1 1 1 1 1 1 1 1 1",
     "profile 9 0 1 2 16 1 2 3 0 0 0 0 0 0 0 0 0 0 0 18 4294967295 1 1",
     "profile 4294967295 0 1 2 16 1 2 3 0 0 0 0 0 0 0 0 0 0 0 17 0 0 0",
+    "shares 2 30",
+    "shares 0 0",
+    "shares 4294967295 4294967295",
+    "shares 0000000002 0000000030 4 8 1 1 1 1 1 1 1 1 1 1 1 1",
+    "shares 2 30 4 8 4294967295 256 0 0",
 ];
