@@ -101,7 +101,7 @@ unfolding pastOne published
 past-published c e =
     let low = leb-true 2 c (both-left _ _ e) in
     let high = leb-true c 22 (both-right (leb 2 c) _ e) in
-    rw (le-leb 1 c (omega arith), le-leb c 22 high)
+    rw (le-leb 1 c (omega arith), le-leb c 24 (omega arith))
 
 reading-past : (c : ℕ) → isReading c ≡ true → pastOne c ≡ true
 unfolding isReading pastOne

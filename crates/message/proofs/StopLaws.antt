@@ -168,7 +168,7 @@ reading-published c e =
     let b = both-left (both (leb 3 c) (leb c 13)) _ e in
     let low = leb-true 3 c (both-left _ _ b) in
     let high = leb-true c 13 (both-right (leb 3 c) _ b) in
-    rw (le-leb 1 c (omega arith), le-leb c 22 (omega arith))
+    rw (le-leb 1 c (omega arith), le-leb c 24 (omega arith))
 
 only-bits : (air : Air) (l : List ℕ) (n : ℕ) → StopsBy isReading (readBits air l n)
 unfolding readBits wholeOf refusal
