@@ -4,4 +4,5 @@ pub mod HeldLaws
 pub mod PlaceLaws
 pub mod CallLaws
 pub mod MoveLaws
+pub mod FitLaws
 pub mod Cases

@@ -1,11 +1,12 @@
 -- Laws of `sum` and `every` over functions that agree, or differ at one number. Assumes nothing.
 use Prim.Native.Nat.{ℕ, zero, suc, _+_, _≤_, _<_}
-use mathlib.Core.Path.{_≡_, refl, sym, ap}
+use mathlib.Core.Path.{_≡_, refl, sym, ap, _∙_}
 use mathlib.Core.Bool.{Bool, true, false, cond}
 use native.Mathlib.Nat.{not-suc-le-zero}
 use native.Mathlib.Omega.{arith}
 use lib.Dec.{eqb}
 use borrow.Author.Tests.{eqb-true, eqb-false, eq-eqb, ne-eqb}
+use Rattle.codec.specs.Codec.{both}
 use Rattle.codec.proofs.Good.{both-true}
 use Rattle.profile.specs.Counting.{every, sum}
 use Rattle.profile.proofs.CountLaws.{sum-more}
@@ -14,6 +15,11 @@ pub every-all : (n : ℕ) (test : ℕ → Bool) → ((i : ℕ) → i < n → tes
 unfolding every
 every-all zero test h = refl
 every-all (suc n) test h = both-true (every n test) (test n) (every-all n test (λ i l. h i (omega arith))) (h n (omega arith))
+
+pub every-same : (n : ℕ) (s t : ℕ → Bool) → ((i : ℕ) → i < n → s i ≡ t i) → every n s ≡ every n t
+unfolding every
+every-same zero s t e = refl
+every-same (suc n) s t e = ap (λ (b : Bool). both b (s n)) (every-same n s t (λ i h. e i (omega arith))) ∙ ap (λ (b : Bool). both (every n t) b) (e n (omega arith))
 
 -- ---- a loop that adds up
 

@@ -1,3 +1,4 @@
 pub mod Held
 pub mod Grounds
+pub mod Fits
 pub mod Spots

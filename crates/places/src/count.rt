@@ -1,10 +1,11 @@
 // Held, free and owed, counted from the places.
 ghost use mathlib.Core.Path.{_≡_};
 ghost use mathlib.Core.Bool.{cond};
-ghost use Prim.Native.Nat.{_-_};
+ghost use Prim.Native.Nat.{_-_, max};
 ghost use Rattle.profile.specs.Counting.{one};
 ghost use Rattle.profile.specs.Rules.{shareIn};
 ghost use Rattle.places.specs.Held.{waitsAt, heldOf, usedOf, freeOf, owedOf, owedAll, owedOthers, loadOf};
+ghost use Rattle.places.specs.Fits.{claimOf, claimsOf};
 use crate::Place;
 use profile::Share;
 use profile::Shares;
@@ -132,4 +133,37 @@ pub(crate) fn load(shares: Shares, list: [Place; 32]) -> usize
     ensures { λ r. ⌜ r ≡ loadOf shares list ⌝ }
 {
     used(list) as usize + owed_all(shares, list) as usize
+}
+
+// What the post has a claim to: the larger of its reserved number and its held.
+fn claim(shares: Shares, list: [Place; 32], post: u8) -> u8
+    ensures { λ r. ⌜ r ≡ claimOf shares list post ⌝ }
+{
+    let rows = shares.share;
+    let share = share_of(rows, post);
+    let held = held(list, post);
+    larger(share.reserved, held)
+}
+
+fn larger(a: u8, b: u8) -> u8
+    ensures { λ r. ⌜ r ≡ max a b ⌝ }
+{
+    if a < b {
+        return b;
+    }
+    a
+}
+
+// The claims of all posts.
+pub(crate) fn claims(shares: Shares, list: [Place; 32]) -> u16
+    ensures { λ r. ⌜ r ≡ claimsOf shares list ⌝ }
+{
+    let posts = shares.posts;
+    let mut total: u16 = 0;
+    let mut q: u8 = 0;
+    while q < posts {
+        total += claim(shares, list, q) as u16;
+        q += 1;
+    }
+    total
 }

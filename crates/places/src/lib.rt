@@ -6,6 +6,7 @@
 ghost use mathlib.Core.Path.{_≡_};
 ghost use lib.ListN.{set};
 ghost use Rattle.places.specs.Held.{placeIn, admitsOf};
+ghost use Rattle.places.specs.Fits.{fitsOf};
 ghost use Rattle.places.specs.Grounds.{placesOk};
 ghost use Rattle.places.specs.Spots.{placeOf, lowestFree, takeOf, clearOf, moveOf};
 use profile::Shares;
@@ -68,6 +69,17 @@ pub fn places_ok(shares: Shares, places: Places) -> bool
         return false;
     }
     count::load(shares, list) <= Shares::PLACES
+}
+
+// These shares fit the calls that wait: no post holds more than its ceiling, and the 32 places are enough for what each post has a claim to.
+pub fn fits(shares: Shares, places: Places) -> bool
+    ensures { λ r. ⌜ r ≡ fitsOf shares (places .place) ⌝ }
+{
+    let list = places.place;
+    if ground::under_ceilings(shares, list) {
+        return count::claims(shares, list) as usize <= Shares::PLACES;
+    }
+    false
 }
 
 // The places rule: whether a call for the post is admitted.

@@ -301,7 +301,8 @@ pub fn list_ok(n: u8) -> bool
     n <= 15
 }
 
-fn shares_ok(shares: Shares) -> bool
+// The shares keep every rule: 1 to 8 posts, each with a ceiling of 1 to 32 and no more reserved, and all that is reserved in 32 places.
+pub fn shares_ok(shares: Shares) -> bool
     ensures { λ r. ⌜ r ≡ sharesOk shares ⌝ }
 {
     let posts = shares.posts as usize;
