@@ -249,13 +249,13 @@ pub data Comes (c : ℕ) : List Ground → Type 0 where
   here : (s : Stop) (rest : List Ground) → s .number ≡ c → Comes c ((s, true) ∷ rest)
   later : (s : Stop) (rest : List Ground) → Comes c rest → Comes c ((s, false) ∷ rest)
 
-first-comes : (c : ℕ) (order : List Ground) → 0 < c → firstOf order .number ≡ c → Comes c order
+pub first-comes : (c : ℕ) (order : List Ground) → 0 < c → firstOf order .number ≡ c → Comes c order
 unfolding firstOf noStop
 first-comes c [] h e = absurd (omega (arith, e))
 first-comes c ((s, true) ∷ rest) h e = here s rest e
 first-comes c ((s, false) ∷ rest) h e = later s rest (first-comes c rest h e)
 
-comes-first : (c : ℕ) (order : List Ground) → Comes c order → firstOf order .number ≡ c
+pub comes-first : (c : ℕ) (order : List Ground) → Comes c order → firstOf order .number ≡ c
 unfolding firstOf
 comes-first c ((_, true) ∷ rest) (here _ _ e) = e
 comes-first c ((_, false) ∷ rest) (later _ _ w) = comes-first c rest w

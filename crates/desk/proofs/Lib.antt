@@ -1,4 +1,5 @@
 pub mod DeskLaws
+pub mod ChangeLaws
 pub mod KeepLaws
 pub mod NoticeLaws
 pub mod EndLaws
@@ -11,6 +12,7 @@ pub mod Cancels
 pub mod Exactly
 pub mod Breaks
 pub mod Refusals
+pub mod Changes
 pub mod SetUps
 pub mod Endings
 pub mod Cases

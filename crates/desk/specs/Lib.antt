@@ -5,3 +5,4 @@ pub mod Notices
 pub mod Grounds
 pub mod Steps
 pub mod Outputs
+pub mod Changes

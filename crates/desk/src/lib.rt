@@ -2,15 +2,18 @@
 //
 // `step` takes the desk, the records and an event, and answers the step: the answer, the messages laid in the output area, the desk
 // afterwards and the records whose mark changes. It equals `stepOf`, and the area afterwards `areaAfter`, for every input (specs/Orders
-// has each call's order of refusals, specs/Steps what follows from an answer). The files: ending (how a waiting call ends), setup,
-// posted (a post's message by its type), marking (ACTIVATE and DEACTIVATE).
+// has each call's order of refusals, specs/Steps what follows from an answer). `change_shares` changes the posts' shares of the places
+// (specs/Changes). The files: ending (how a waiting call ends), setup, posted (a post's message by its type), marking (ACTIVATE and
+// DEACTIVATE), sharing (new shares).
 ghost use mathlib.Core.Path.{_≡_};
 ghost use Rattle.places.specs.Held.{noPlaces};
+ghost use Rattle.desk.specs.Changes.{changeOf};
 ghost use Rattle.desk.specs.Desks.{openOf, deskOk};
 ghost use Rattle.desk.specs.Steps.{stepOf, areaAfter};
 use codec::Stop;
 use places::Places;
 use profile::Profile;
+use profile::Share;
 use records::Identity;
 use records::Marks;
 use records::Record;
@@ -22,6 +25,7 @@ mod marking;
 mod notice;
 mod posted;
 mod setup;
+mod sharing;
 
 pub struct Desk {
     pub profile: Profile,
@@ -77,6 +81,18 @@ pub struct Stepped {
     pub marks: Marks,
 }
 
+// What a change of the shares is answered: it is taken, or refused.
+pub struct Change {
+    pub taken: bool,
+    pub stop: Stop,
+}
+
+// The answer, and the desk afterwards.
+pub struct Changed {
+    pub change: Change,
+    pub desk: Desk,
+}
+
 impl Desk {
     // All 32 places are free; 1 for a profile that breaks a rule.
     pub fn open(profile: Profile) -> Opened
@@ -126,6 +142,30 @@ pub fn step(
         };
     }
     kept::refused(desk, codec::refuse(1))
+}
+
+// New shares on a desk where calls may wait: a row for each post, reserved number and ceiling; rows past the posts are not looked at. 23 if
+// they break a rule of the profile, 24 if they don't fit what is held.
+pub fn change_shares(desk: Desk, rows: [Share; 8]) -> Changed
+    ensures { λ r. ⌜ r ≡ changeOf desk rows ⌝ }
+{
+    let profile = desk.profile;
+    let shares = profile.shares;
+    let places = desk.places;
+    let new = sharing::new_shares(shares.posts, rows);
+    let sound = desk_ok(desk);
+    let lawful = profile::shares_ok(new);
+    let fitting = places::fits(new, places);
+    if sound {} else {
+        return sharing::refused(desk, codec::refuse(1));
+    }
+    if lawful {} else {
+        return sharing::refused(desk, codec::refuse(23));
+    }
+    if fitting {} else {
+        return sharing::refused(desk, codec::refuse(24));
+    }
+    sharing::taken(desk, new)
 }
 
 fn no_places() -> Places
