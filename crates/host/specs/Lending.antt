@@ -7,7 +7,10 @@ use lib.ListN.{length, set}
 use Rattle.records.specs.Records.{noRecord, rowOf}
 use Rattle.records.specs.declared.Marks.{Marks}
 use Rattle.records.specs.declared.Record.{Record}
+use Rattle.profile.specs.declared.Share.{Share}
+use Rattle.desk.specs.Changes.{changeOf}
 use Rattle.desk.specs.Steps.{stepOf, areaAfter}
+use Rattle.desk.specs.declared.Change.{Change}
 use Rattle.desk.specs.declared.Desk.{Desk}
 use Rattle.desk.specs.declared.Event.{Event}
 use Rattle.desk.specs.declared.Stepped.{Stepped}
@@ -59,3 +62,10 @@ pub record Called (d : Desk) (rows : List Record) (l area : List ℕ) (e : Event
   pub desk : d₁ ≡ stepOn d rows l area e .desk
   pub records : rows₁ ≡ markedBy rows (stepOn d rows l area e .marks)
   pub output : area₁ ≡ areaAfter d (loadedOf rows) (length rows) l area e
+
+-- ---- new shares
+
+-- what the host is told, and the desk afterwards
+pub record SharesChanged (d : Desk) (rows : List Share) (x : Change) (d₁ : Desk) : Type 0 where
+  pub told : x ≡ changeOf d rows .change
+  pub desk : d₁ ≡ changeOf d rows .desk

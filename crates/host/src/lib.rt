@@ -1,17 +1,22 @@
 // One call of the host on what it lends (document 01, "User records and waiting calls"): the desk, the user records, the message and the
 // output area. Nothing is decided here. The records are loaded, desk's `step` is taken by value, the desk is stored and the marks are written.
+// New shares likewise: desk's `change_shares` is taken by value, and the desk is stored.
 //
-// The functions on lent records or a lent desk (`set_mark`, `set_marks`, `load`, `call`) are proved by walks, the others as everywhere.
+// The functions on lent records or a lent desk (`set_mark`, `set_marks`, `load`, `call`, `change_shares`) are proved by walks, the others
+// as everywhere.
 ghost use mathlib.Core.Path.{_≡_};
 ghost use mathlib.Core.Bool.{false};
 ghost use lib.ListN.{getD, replicate, set};
 ghost use Rattle.records.specs.Records.{noRecord};
-ghost use Rattle.host.specs.Lending.{loadedOf, setMark, markedBy, toldOf, Called};
+ghost use Rattle.host.specs.Lending.{loadedOf, setMark, markedBy, toldOf, Called, SharesChanged};
 use desk::Answer;
+use desk::Change;
+use desk::Changed;
 use desk::Desk;
 use desk::Event;
 use desk::Stepped;
 use profile::Profile;
+use profile::Share;
 use records::Marks;
 use records::Record;
 use sending::Laid;
@@ -59,6 +64,27 @@ pub fn call(
     *desk = desk_of(s);
     set_marks(records, marks_of(s));
     told_of(s)
+}
+
+// New shares on the lent desk, a row for each of its posts: taken, or refused and the desk as it stood.
+pub fn change_shares(desk: &mut Desk, rows: [Share; 8]) -> Change
+    ensures { λ r. ⌜ SharesChanged (now (desk .entry)) rows r (now (desk .exit)) ⌝ }
+{
+    let c = desk::change_shares(*desk, rows);
+    *desk = changed_desk(c);
+    change_of(c)
+}
+
+fn changed_desk(c: Changed) -> Desk
+    ensures { λ r. ⌜ r ≡ c .desk ⌝ }
+{
+    c.desk
+}
+
+fn change_of(c: Changed) -> Change
+    ensures { λ r. ⌜ r ≡ c .change ⌝ }
+{
+    c.change
 }
 
 // The parts of a step, each taken out by a function of its own: so `call` asks nothing of where they lie in it.
