@@ -14,12 +14,14 @@ use Rattle.codec.proofs.Good.{both-left, both-right, both-true, not-both}
 use Rattle.profile.specs.Counting.{one}
 use Rattle.profile.specs.Rules.{profileOk}
 use Rattle.profile.specs.declared.Profile.{Profile}
+use Rattle.profile.specs.declared.Shares.{Shares}
 use Rattle.places.specs.Held.{placeIn}
 use Rattle.places.specs.Spots.{placeOf}
 use Rattle.places.specs.declared.Place.{Place}
 use Rattle.places.proofs.SpotLaws.{spot-found, place-of-exactly}
 use Rattle.records.specs.Records.{noParty}
 use Rattle.records.specs.declared.Party.{Party}
+use Rattle.desk.specs.Changes.{changeOf}
 use Rattle.desk.specs.Desks.{deskWith}
 use Rattle.desk.specs.Grounds.{waits, waitsHere}
 use Rattle.desk.specs.Orders.{postsOf, placesOf, acceptAnswer, decideAnswer, rejectAnswer, answerOf}
@@ -31,10 +33,10 @@ use Rattle.desk.specs.declared.Event.{Event}
 use Rattle.desk.specs.declared.Event.the-variants as event
 use Rattle.desk.proofs.AnswerLaws.{step-answer}
 use Rattle.desk.proofs.Moves.{moved-so}
-use Rattle.history.specs.Histories.{Call, History, stepFor, runOf, Waiting, without, causeOf, meantBy, answered, afterwards, waitingAfter, waitingOf, countBy, isWaiting, IsSent, isAdmission, admitsNone}
+use Rattle.history.specs.Histories.{Call, Turn, one-call, one-change, History, stepFor, runOf, Waiting, without, causeOf, meantBy, answered, afterwards, afterNote, waitingAfter, waitingOf, countBy, isWaiting, IsSent, isAdmission, admitsNone}
 use Rattle.history.proofs.WaitingLaws.{hasSuch, without-count, some-such}
-use Rattle.history.proofs.RunLaws.{Along, along, along-step, meant-same, moved-other, step-profile, run-parts}
-use Rattle.history.proofs.Sharing.{waiting, next, kept, waiting-is, stays-ok}
+use Rattle.history.proofs.RunLaws.{Along, along, meant-same, moved-other, meant-air, afterwards-air, Stands, stands-turn, stands, run-parts}
+use Rattle.history.proofs.Sharing.{waiting, inForce, next, posts-next, waiting-is, stays-ok}
 use Rattle.history.proofs.Moving.{count-none, read-by, sent-accept, sent-divert, decide-19, decide-20, decide-here}
 
 -- a call with this identifier that waits elsewhere than at this post, or after which one more post is asked
@@ -105,29 +107,29 @@ not-true : (b : Bool) → not b ≡ true → b ≡ false
 not-true true e = not-both e
 not-true false e = refl
 
-stays-run : (calls : List Call) (d : Desk) (w : List Waiting) → Along d w → (identifier post : ℕ) → countBy (strays identifier post) w ≡ 0
-    → admitsNone (d .profile) identifier (runOf d calls) ≡ true → countBy (strays identifier post) (waitingAfter (d .profile) w (runOf d calls)) ≡ 0
+stays-run : (p : Profile) (turns : List Turn) (d : Desk) (s : Shares) (w : List Waiting) → Stands p d s w → (identifier post : ℕ) → countBy (strays identifier post) w ≡ 0
+    → admitsNone p identifier (runOf d turns) ≡ true → countBy (strays identifier post) (waitingAfter p w (runOf d turns)) ≡ 0
 unfolding runOf waitingAfter admitsNone
-stays-run [] d w a identifier post none h = none
-stays-run (c ∷ calls) d w a identifier post none h =
-    subst
-    (λ (q : Profile). countBy (strays identifier post) (waitingAfter q (afterwards (d .profile) w c (stepFor d c .answer)) (runOf (stepFor d c .desk) calls)) ≡ 0)
-    (step-profile d c)
-    (stays-run calls (stepFor d c .desk) (afterwards (d .profile) w c (stepFor d c .answer)) (along-step d w a c) identifier post
-    (stays-step d w a c identifier post none (not-true _ (both-left _ _ h)))
-    (subst (λ (q : Profile). admitsNone q identifier (runOf (stepFor d c .desk) calls) ≡ true) (sym (step-profile d c))
-    (both-right (not (both (isAdmission (stepFor d c .answer)) (eqb (meantBy (d .profile) (c .message) (c .event)) identifier))) _ h)))
+stays-run p [] d s w z identifier post none h = none
+stays-run p (one-call c ∷ turns) d s w z identifier post none h =
+    stays-run p turns (stepFor d c .desk) s (afterwards p w c (stepFor d c .answer)) (stands-turn p d s w z (one-call c)) identifier post
+    (subst (λ (v : List Waiting). countBy (strays identifier post) v ≡ 0) (afterwards-air p d (z .suits) w c (stepFor d c .answer))
+    (stays-step d w (z .along) c identifier post none
+    (ap (λ (k : ℕ). both (isAdmission (stepFor d c .answer)) (eqb k identifier)) (meant-air p d (z .suits) (c .message) (c .event)) ∙ not-true _ (both-left _ _ h))))
+    (both-right (not (both (isAdmission (stepFor d c .answer)) (eqb (meantBy p (c .message) (c .event)) identifier))) _ h)
+stays-run p (one-change rows ∷ turns) d s w z identifier post none h =
+    stays-run p turns (changeOf d rows .desk) _ w (stands-turn p d s w z (one-change rows)) identifier post none (both-right true _ h)
 
 -- ---- the parts of a history
 
-waiting-parts : (p : Profile) (h k : History) (w : List Waiting) → waitingAfter p w (h ++ k) ≡ waitingAfter p (waitingAfter p w h) k
+pub waiting-parts : (p : Profile) (h k : History) (w : List Waiting) → waitingAfter p w (h ++ k) ≡ waitingAfter p (waitingAfter p w h) k
 unfolding waitingAfter
 waiting-parts p [] k w = refl
-waiting-parts p (x ∷ h) k w = waiting-parts p h k (afterwards p w (x .0) (x .1))
+waiting-parts p (x ∷ h) k w = waiting-parts p h k (afterNote p w x)
 
 -- ---- after a move
 
-module _ (p : Profile) (opens : profileOk p ≡ true) (before : List Call) (m : Call) (to : ℕ) (moved : stepFor (next p opens before) m .answer ≡ answer.Moved to) (since : List Call) where
+module _ (p : Profile) (opens : profileOk p ≡ true) (before : List Turn) (m : Call) (to : ℕ) (moved : stepFor (next p opens before) m .answer ≡ answer.Moved to) (since : List Turn) where
   -- the call that moved, and the post that accepted it
   abbrev pub which : ℕ
   which = meantBy p (m .message) (m .event)
@@ -139,14 +141,11 @@ module _ (p : Profile) (opens : profileOk p ≡ true) (before : List Call) (m : 
   pub from-other : from ≡ to → ⊥
   from-other = moved-other (next p opens before) (waiting p opens before) (along p opens before) m to moved
 
-  abbrev pub all : List Call
-  all = before ++ (m ∷ since)
+  abbrev pub all : List Turn
+  all = before ++ (one-call m ∷ since)
 
   -- since then no call with its identifier was admitted
   module _ (none : admitsNone p which (runOf (stepFor (next p opens before) m .desk) since) ≡ true) where
-    first-desk : next p opens before .profile ≡ p
-    first-desk = kept p opens before
-
     -- what waits right after the move
     abbrev then : List Waiting
     then = afterwards p (waiting p opens before) m (stepFor (next p opens before) m .answer)
@@ -164,26 +163,19 @@ module _ (p : Profile) (opens : profileOk p ≡ true) (before : List Call) (m : 
         never true c = refl
         never false c = refl
 
-    then-along : Along (stepFor (next p opens before) m .desk) then
-    then-along =
-        subst (λ (q : Profile). Along (stepFor (next p opens before) m .desk) (afterwards q (waiting p opens before) m (stepFor (next p opens before) m .answer))) first-desk
-        (along-step (next p opens before) (waiting p opens before) (along p opens before) m)
-
-    then-profile : stepFor (next p opens before) m .desk .profile ≡ p
-    then-profile = step-profile (next p opens before) m ∙ first-desk
+    then-stands : Stands p (stepFor (next p opens before) m .desk) (inForce p opens before) then
+    then-stands = stands-turn p (next p opens before) (inForce p opens before) (waiting p opens before) (stands p opens before) (one-call m)
 
     waiting-all : waiting p opens all ≡ waitingAfter p then (runOf (stepFor (next p opens before) m .desk) since)
     unfolding runOf waitingAfter
     waiting-all =
-        ap (λ (h : History). waitingOf p h) (run-parts before (m ∷ since) (deskWith p))
+        ap (λ (h : History). waitingOf p h) (run-parts before (one-call m ∷ since) (deskWith p))
         ∙ waiting-parts p (runOf (deskWith p) before) _ []
 
     only-there : countBy (strays which to) (waiting p opens all) ≡ 0
     only-there =
         ap (λ (w : List Waiting). countBy (strays which to) w) waiting-all
-        ∙ subst (λ (q : Profile). countBy (strays which to) (waitingAfter q then (runOf (stepFor (next p opens before) m .desk) since)) ≡ 0) then-profile
-        (stays-run since (stepFor (next p opens before) m .desk) then then-along which to then-none
-        (subst (λ (q : Profile). admitsNone q which (runOf (stepFor (next p opens before) m .desk) since) ≡ true) (sym then-profile) none))
+        ∙ stays-run p since (stepFor (next p opens before) m .desk) (inForce p opens before) then then-stands which to then-none none
 
     abbrev desk : Desk
     desk = next p opens all
@@ -252,7 +244,7 @@ module _ (p : Profile) (opens : profileOk p ≡ true) (before : List Call) (m : 
         ∙ ap (λ (x : Event). answerOf desk (c .rows) (c .count) (c .message) (length (c .area)) x) is
         ∙ rw (
           stays-ok p opens all,
-          lt-ltb post (postsOf desk) (subst (λ (x : Profile). post < x .shares .posts) (sym (kept p opens all)) below),
+          lt-ltb post (postsOf desk) (subst (λ (k : ℕ). post < k) (sym (posts-next p opens all)) below),
           lt-ltb which (2 ^ 14) small,
         )
         (decide-20 desk (length (c .area)) post which answer.Rejected room (waits-so true e) (elsewhere post other (waits-so true e)))

@@ -15,6 +15,7 @@ use Rattle.codec.proofs.Good.{both-true, both-left, both-right, not-both}
 use Rattle.profile.specs.Counting.{one}
 use Rattle.profile.specs.Rules.{profileOk}
 use Rattle.profile.specs.declared.Profile.{Profile}
+use Rattle.profile.specs.declared.Shares.{Shares}
 use Rattle.message.specs.Rows.{ackRow, table, rowIn, rowOf}
 use Rattle.message.specs.Values.{blank}
 use Rattle.message.specs.declared.Group.{Group}
@@ -28,10 +29,12 @@ use Rattle.records.specs.Records.{noParty}
 use Rattle.records.specs.declared.Record.{Record}
 use Rattle.records.specs.declared.Sorted.{Sorted}
 use Rattle.sending.specs.Acks.{isThere, ackV, ackOf, acksOf}
+use Rattle.sending.specs.declared.Laid.{Laid}
+use Rattle.desk.specs.Changes.{changeOf}
 use Rattle.desk.specs.Desks.{deskWith}
 use Rattle.desk.specs.Notices.{intercepted, requestWith, requestOf, cancelOf}
 use Rattle.desk.specs.Orders.{placesOf}
-use Rattle.desk.specs.Outputs.{messagesFor, sentBy}
+use Rattle.desk.specs.Outputs.{ReadBack, messagesFor, sentBy}
 use Rattle.desk.specs.Steps.{askedOf, spokenOf, acksFor, postOf, identifierOf}
 use Rattle.desk.specs.declared.Answer.{Answer}
 use Rattle.desk.specs.declared.Answer.the-variants as answer
@@ -42,12 +45,12 @@ use Rattle.desk.proofs.Cancels.{cancelled-so}
 use Rattle.desk.proofs.MarkingLaws.{event-ack}
 use Rattle.desk.proofs.Outputs.{sent-count, sent-read}
 use Rattle.desk.proofs.SetUps.{admitted-so}
-use Rattle.history.specs.Histories.{Call, stepFor, runOf, Waiting, without, causeOf, meantBy, answered, afterwards, waitingAfter, countBy, isWaiting}
+use Rattle.history.specs.Histories.{Call, Turn, one-call, one-change, stepFor, runOf, Waiting, without, causeOf, meantBy, answered, afterwards, waitingAfter, countBy, isWaiting}
 use Rattle.history.specs.Radio as radio
 use Rattle.history.specs.Radio.{Entry, entryOf, logOf, Written, isRequestOf, requestsIn, Silent, AllSilent, Came, Asked, isWaitingSo, isWaitingAt}
 use Rattle.history.proofs.WaitingLaws.{hasSuch, without-count, some-such, waiting-same}
-use Rattle.history.proofs.RunLaws.{Along, along-open, along, spoken, afterwards-is, along-step, meant-same, moved-cause, first, step-profile}
-use Rattle.history.proofs.Sharing.{waiting, next, kept}
+use Rattle.history.proofs.RunLaws.{Along, along, spoken, afterwards-is, meant-same, moved-cause, first, Suits, read-air, meant-air, afterwards-air, Stands, stands-turn, stands-open}
+use Rattle.history.proofs.Sharing.{waiting, next, suits}
 use Rattle.history.proofs.Moving.{count-none}
 use Rattle.history.proofs.AfterMoves.{fewer}
 
@@ -244,59 +247,77 @@ module _ (d : Desk) (w : List Waiting) (a : Along d w) (c : Call) (which at caus
 abbrev Along-log : Profile → ℕ → ℕ → ℕ → List Waiting → List Entry → Type 0
 Along-log p which at cause w h = Asked p which at cause h ⊎ ((0 < countBy (λ x. both (eqb (x .identifier) which) (both (eqb (x .post) at) (eqb (x .cause) cause))) w) × AllSilent p which h)
 
-run-asked : (which at cause : ℕ) (calls : List Call) (d : Desk) (w : List Waiting) → Along d w → (p : Profile) → d .profile ≡ p
-    → 0 < countBy (λ x. both (eqb (x .identifier) which) (both (eqb (x .post) at) (eqb (x .cause) cause))) (waitingAfter p w (runOf d calls))
-    → Along-log p which at cause w (logOf d calls)
+-- read by the profile at the opening, as by the one in force
+module _ (p : Profile) (d : Desk) (s : Suits p d) where
+  read-back-air : (x : Laid) (area : List ℕ) (k : ℕ) (vs : List Value) → ReadBack (d .profile) x area k vs → ReadBack p x area k vs
+  read-back-air x area k [] r = tt
+  read-back-air x area k (v ∷ vs) r = (sym (read-air p d s _ _) ∙ r .0, read-back-air x area (k + 1) vs (r .1))
+
+  written-air : (x : Entry) (vs : List Value) → Written (d .profile) x vs → Written p x vs
+  written-air x vs r = (r .0, read-back-air (x .laid) (x .output) 0 vs (r .1))
+
+  silent-air : (which : ℕ) (x : Entry) → Silent (d .profile) which x → Silent p which x
+  silent-air which x r = record { messages = r .messages; written = written-air x (r .messages) (r .written); none = r .none }
+
+  came-air : (which at cause : ℕ) (x : Entry) → Came (d .profile) which at cause x → Came p which at cause x
+  came-air which at cause x (radio.admitted place m a r) =
+      radio.admitted place (sym (meant-air p d s (x .call .message) (x .call .event)) ∙ m) a (written-air x (intercepted ∷ requestWith which cause ∷ []) r)
+  came-air which at cause x (radio.moved m a r) =
+      radio.moved (sym (meant-air p d s (x .call .message) (x .call .event)) ∙ m) a (written-air x (requestWith which cause ∷ []) r)
+
+run-asked : (which at cause : ℕ) (p : Profile) (turns : List Turn) (d : Desk) (s : Shares) (w : List Waiting) → Stands p d s w
+    → 0 < countBy (λ x. both (eqb (x .identifier) which) (both (eqb (x .post) at) (eqb (x .cause) cause))) (waitingAfter p w (runOf d turns))
+    → Along-log p which at cause w (logOf d turns)
 unfolding runOf waitingAfter logOf
-run-asked which at cause [] d w a p e = λ h. inr (h, tt)
-run-asked which at cause (c ∷ calls) d w a p e =
-    subst
-    (λ (q : Profile). 0 < countBy (λ x. both (eqb (x .identifier) which) (both (eqb (x .post) at) (eqb (x .cause) cause)))
-    (waitingAfter q (afterwards q w c (stepFor d c .answer)) (runOf (stepFor d c .desk) calls))
-    → Along-log q which at cause w (entryOf d c ∷ logOf (stepFor d c .desk) calls))
-    e
-    (λ h.
+run-asked which at cause p [] d s w z h = inr (h, tt)
+run-asked which at cause p (one-call c ∷ turns) d s w z h =
     ⊎-elim
-    (λ asked. inl (radio.later (entryOf d c) (logOf (stepFor d c .desk) calls) asked))
+    (λ asked. inl (radio.later (entryOf d c) (logOf (stepFor d c .desk) turns) asked))
     (λ r.
     ⊎-elim
-    (λ came. inl (radio.last (entryOf d c) (logOf (stepFor d c .desk) calls) came (r .1)))
-    (λ s. inr (s .0, (s .1, r .1)))
-    (step-asked d w a c which at cause (r .0)))
-    (run-asked which at cause calls (stepFor d c .desk) (afterwards (d .profile) w c (stepFor d c .answer)) (along-step d w a c) (d .profile) (step-profile d c) h))
+    (λ came. inl (radio.last (entryOf d c) (logOf (stepFor d c .desk) turns) (came-air p d (z .suits) which at cause (entryOf d c) came) (r .1)))
+    (λ k. inr (k .0, (silent-air p d (z .suits) which (entryOf d c) (k .1), r .1)))
+    (step-asked d w (z .along) c which at cause (waited (r .0))))
+    (run-asked which at cause p turns (stepFor d c .desk) s (afterwards p w c (stepFor d c .answer)) (stands-turn p d s w z (one-call c)) h)
+  where
+    so-here : Waiting → Bool
+    so-here x = both (eqb (x .identifier) which) (both (eqb (x .post) at) (eqb (x .cause) cause))
+
+    waited : 0 < countBy so-here (afterwards p w c (stepFor d c .answer)) → 0 < countBy so-here (afterwards (d .profile) w c (stepFor d c .answer))
+    waited k = subst (λ (v : List Waiting). 0 < countBy so-here v) (sym (afterwards-air p d (z .suits) w c (stepFor d c .answer))) k
+run-asked which at cause p (one-change rows ∷ turns) d s w z h =
+    run-asked which at cause p turns (changeOf d rows .desk) _ w (stands-turn p d s w z (one-change rows)) h
 
 -- ---- from an opened desk
 
-module _ (p : Profile) (opens : profileOk p ≡ true) (calls : List Call) where
+module _ (p : Profile) (opens : profileOk p ≡ true) (turns : List Turn) where
   -- whenever a call waits at a post, a REQUEST with its identifier and cause was written when it came there, and no other for it since
-  pub waiting-asked : (which at cause : ℕ) → isWaitingSo (waiting p opens calls) which at cause ≡ true → Asked p which at cause (logOf (deskWith p) calls)
+  pub waiting-asked : (which at cause : ℕ) → isWaitingSo (waiting p opens turns) which at cause ≡ true → Asked p which at cause (logOf (deskWith p) turns)
   unfolding isWaitingSo countBy
   waiting-asked which at cause e =
       ⊎-elim (λ asked. asked) (λ r. absurd (omega (arith, r .0)))
-      (run-asked which at cause calls (deskWith p) [] (along-open p opens) p refl (ltb-true _ _ e))
+      (run-asked which at cause p turns (deskWith p) (p .shares) [] (stands-open p opens) (ltb-true _ _ e))
 
   -- whenever the next call cancels one, that waited at the post which the answer names, and CANCEL with its identifier is written
   pub record CancelTold (c : Call) (post : ℕ) : Type 0 where
-    pub waited : isWaitingAt (waiting p opens calls) (meantBy p (c .message) (c .event)) post ≡ true
-    pub written : Written p (entryOf (next p opens calls) c) (cancelOf (meantBy p (c .message) (c .event)) ∷ [])
+    pub waited : isWaitingAt (waiting p opens turns) (meantBy p (c .message) (c .event)) post ≡ true
+    pub written : Written p (entryOf (next p opens turns) c) (cancelOf (meantBy p (c .message) (c .event)) ∷ [])
 
-  pub cancel-told : (c : Call) (post : ℕ) → stepFor (next p opens calls) c .answer ≡ answer.Cancelled post → CancelTold c post
+  pub cancel-told : (c : Call) (post : ℕ) → stepFor (next p opens turns) c .answer ≡ answer.Cancelled post → CancelTold c post
   unfolding isWaitingAt hasSuch
   cancel-told c post z =
-      let d = next p opens calls in
-      let a = along p opens calls in
+      let d = next p opens turns in
+      let a = along p opens turns in
       let i = identifierOf (d .profile) (c .message) (c .event) in
       let k = cancelled-so d (c .rows) (c .count) (c .message) (c .area) post (c .event) z in
       let f = place-of-exactly (placesOf d) i (placeOf (placesOf d) i .place) (spot-found (placeOf (placesOf d) i) (k .waiting)) in
       let m : meantBy p (c .message) (c .event) ≡ i =
-      ap (λ (q : Profile). meantBy q (c .message) (c .event)) (sym (kept p opens calls)) ∙ meant-same d (waiting p opens calls) a c (c .event) in
+      sym (meant-air p d (suits p opens turns) (c .message) (c .event)) ∙ meant-same d (waiting p opens turns) a c (c .event) in
       record {
         waited =
             rw m
             (lt-ltb 0 _
-            (some-such (placesOf d) (waiting p opens calls) (a .same) (λ x. both (eqb (x .identifier) i) (eqb (x .post) post)) (placeOf (placesOf d) i .place) (f .inside)
+            (some-such (placesOf d) (waiting p opens turns) (a .same) (λ x. both (eqb (x .identifier) i) (eqb (x .post) post)) (placeOf (placesOf d) i .place) (f .inside)
             (both-true _ _ (f .used) (both-true _ _ (eq-eqb _ _ (f .same)) (eq-eqb _ _ (k .there))))));
-        written =
-            rw m
-            (subst (λ (q : Profile). Written q (entryOf d c) (cancelOf i ∷ [])) (kept p opens calls) (written-by d c (answer.Cancelled post) z));
+        written = rw m (written-air p d (suits p opens turns) (entryOf d c) (cancelOf i ∷ []) (written-by d c (answer.Cancelled post) z));
       }

@@ -4,6 +4,9 @@ pub mod RunLaws
 pub mod Sharing
 pub mod Moving
 pub mod AfterMoves
+pub mod Selling
+pub mod Unchanged
 pub mod Asking
 pub mod HostSharing
+pub mod HostSelling
 pub mod HostAsking

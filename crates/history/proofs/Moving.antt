@@ -1,5 +1,5 @@
 -- Demand 3 of a move (document 02, iii), over any history from an opened desk, counted from the history alone: an ACCEPT of a call that has
--- a second post goes by the same rule as a set-up, for that post, with the call's own place taken as free. After a move the call proceeds
+-- a second post goes by the same rule as a set-up, for that post, by the shares in force, with the call's own place taken as free. After a move the call proceeds
 -- by the second post's ACCEPT alone. Assumes nothing.
 use Prim.Native.Nat.{ℕ, zero, suc, _+_, _<_, _≤_}
 use mathlib.Core.Path.{_≡_, refl, sym, ap, _∙_, subst}
@@ -14,8 +14,9 @@ use Rattle.codec.specs.Codec.{both}
 use Rattle.codec.specs.Stops.{refusal}
 use Rattle.codec.proofs.Good.{both-left, both-right, not-both}
 use Rattle.profile.specs.Counting.{one, sum}
-use Rattle.profile.specs.Rules.{sharesOk, profileOk}
+use Rattle.profile.specs.Rules.{profileOk}
 use Rattle.profile.specs.declared.Profile.{Profile}
+use Rattle.profile.specs.declared.Shares.{Shares}
 use Rattle.message.specs.Values.{identifierIn}
 use Rattle.message.specs.Reading.{readOf}
 use Rattle.message.specs.declared.Value.{Value}
@@ -36,11 +37,11 @@ use Rattle.desk.specs.declared.Event.{Event}
 use Rattle.desk.specs.declared.Event.the-variants as event
 use Rattle.desk.proofs.AnswerLaws.{step-answer}
 use Rattle.desk.proofs.Moves.{isMoved}
-use Rattle.history.specs.Histories.{Call, stepFor, Waiting, without, countBy, heldBy, freeBy, owedToOthers, isAskedNext, isAskedLast, IsSent}
+use Rattle.history.specs.Histories.{Call, Turn, stepFor, Waiting, without, countBy, heldBy, freeBy, owedToOthers, isAskedNext, isAskedLast, IsSent}
 use Rattle.history.proofs.WaitingLaws.{callIn, hasSuch, Same, same-clear}
 use Rattle.history.proofs.RuleLaws.{reserved-yes, none-no, else-yes, no-none}
-use Rattle.history.proofs.RunLaws.{along}
-use Rattle.history.proofs.Sharing.{waiting, next, share, kept, sound, stays-ok}
+use Rattle.history.proofs.RunLaws.{read-air, along}
+use Rattle.history.proofs.Sharing.{waiting, inForce, next, share, suits, in-force, posts-next, fit, sound, stays-ok}
 
 -- ---- where a waiting call stands
 
@@ -99,22 +100,22 @@ module _ (d : Desk) (room post identifier : ℕ) (a : Answer) (roomy : 300 ≤ r
 
 -- ---- the history, its desk and its waiting calls
 
-module _ (p : Profile) (opens : profileOk p ≡ true) (calls : List Call) where
+module _ (p : Profile) (opens : profileOk p ≡ true) (turns : List Turn) where
   abbrev desk : Desk
-  desk = next p opens calls
+  desk = next p opens turns
 
   abbrev places : List Place
   places = placesOf desk
 
   abbrev size : length places ≡ 32
-  size = along p opens calls .size
+  size = along p opens turns .size
 
-  abbrev same : Same places (waiting p opens calls)
-  same = along p opens calls .same
+  abbrev same : Same places (waiting p opens turns)
+  same = along p opens turns .same
 
-  fit : sharesOk (p .shares) ≡ true
-  unfolding profileOk
-  fit = both-right _ _ opens
+  -- the shares in force
+  abbrev shares : Shares
+  shares = inForce p opens turns
 
   -- the next call, a message of one type from a post, which means this call
   module _ (c : Call) (type post identifier : ℕ) (sent : IsSent p type c post identifier) where
@@ -124,9 +125,9 @@ module _ (p : Profile) (opens : profileOk p ≡ true) (calls : List Call) where
         step-answer desk (c .rows) (c .count) (c .message) (c .area) (c .event)
         ∙ ap (λ (e : Event). answerOf desk (c .rows) (c .count) (c .message) (length (c .area)) e) (sent .event-is)
         ∙ rw (
-          stays-ok p opens calls,
-          lt-ltb post (postsOf desk) (subst (λ (x : Profile). post < x .shares .posts) (sym (kept p opens calls)) (sent .below)),
-          ap (λ (x : Profile). readOf x (c .message) (sent .bits)) (kept p opens calls) ∙ sent .reads,
+          stays-ok p opens turns,
+          lt-ltb post (postsOf desk) (subst (λ (k : ℕ). post < k) (sym (posts-next p opens turns)) (sent .below)),
+          read-air p desk (suits p opens turns) (c .message) (sent .bits) ∙ sent .reads,
         ) refl
 
   -- ---- an ACCEPT
@@ -155,7 +156,7 @@ module _ (p : Profile) (opens : profileOk p ≡ true) (calls : List Call) where
         let a = both-right (placeIn places i .used) _ e in
         let b = both-right (eqb (placeIn places i .identifier) identifier) _ a in (
           record {
-            at = place-of-waiting places i (p .shares) (sound p opens calls) identifier h u (eqb-true _ _ (both-left _ _ a));
+            at = place-of-waiting places i shares (sound p opens turns) identifier h u (eqb-true _ _ (both-left _ _ a));
             used = u;
             inside = h;
             is-here = eqb-true _ _ (both-left _ _ b);
@@ -173,10 +174,10 @@ module _ (p : Profile) (opens : profileOk p ≡ true) (calls : List Call) where
           (eq-eqb _ _ (ap (λ (k : ℕ). placeIn places k .post) place-is ∙ here .is-here))
 
     -- after which none is asked: it proceeds
-    pub proceeds : isAskedLast (waiting p opens calls) identifier post ≡ true → stepFor desk c .answer ≡ answer.Proceed
+    pub proceeds : isAskedLast (waiting p opens turns) identifier post ≡ true → stepFor desk c .answer ≡ answer.Proceed
     unfolding isAskedLast acceptAnswer
     proceeds asked =
-        let s = such-at places (waiting p opens calls) same (λ x. both (eqb (x .identifier) identifier) (both (eqb (x .post) post) (not (x .second .found)))) asked in
+        let s = such-at places (waiting p opens turns) same (λ x. both (eqb (x .identifier) identifier) (both (eqb (x .post) post) (not (x .second .found)))) asked in
         let f = found-here (λ x. not (x .second .found)) (s .i) (s .inside) (s .yes) in
         let none : placeIn places place .more ≡ false = ap (λ (k : ℕ). placeIn places k .more) (place-is (s .i) (f .0)) ∙ not-true (placeIn places (s .i) .more) (f .1) in
         accepted (s .i) (f .0) ∙ rw none refl
@@ -186,10 +187,10 @@ module _ (p : Profile) (opens : profileOk p ≡ true) (calls : List Call) where
         not-true false e = refl
 
     -- and one for which this post is asked second
-    module _ (second : ℕ) (asked : isAskedNext (waiting p opens calls) identifier post second ≡ true) where
+    module _ (second : ℕ) (asked : isAskedNext (waiting p opens turns) identifier post second ≡ true) where
       -- the waiting calls without this one: its own place is taken as free
       abbrev pub others : List Waiting
-      others = without identifier (waiting p opens calls)
+      others = without identifier (waiting p opens turns)
 
       record Two : Type 0 where
         pub i : ℕ
@@ -200,7 +201,7 @@ module _ (p : Profile) (opens : profileOk p ≡ true) (calls : List Call) where
       two : Two
       unfolding isAskedNext
       two =
-          let s = such-at places (waiting p opens calls) same (λ x. both (eqb (x .identifier) identifier) (both (eqb (x .post) post) (both (x .second .found) (eqb (x .second .post) second)))) asked in
+          let s = such-at places (waiting p opens turns) same (λ x. both (eqb (x .identifier) identifier) (both (eqb (x .post) post) (both (x .second .found) (eqb (x .second .post) second)))) asked in
           let f = found-here (λ x. both (x .second .found) (eqb (x .second .post) second)) (s .i) (s .inside) (s .yes) in
           record { i = s .i; here = f .0; more = both-left _ _ (f .1); second-is = eqb-true _ _ (both-right (placeIn places (s .i) .more) _ (f .1)) }
 
@@ -216,46 +217,46 @@ module _ (p : Profile) (opens : profileOk p ≡ true) (calls : List Call) where
           let q : placeIn places place .second ≡ second = ap (λ (k : ℕ). placeIn places k .second) e ∙ two .second-is in
           accepted (two .i) (two .here) ∙ rw m (ap (λ (k : ℕ). moveAnswer desk place k) q ∙ ap (λ (k : ℕ). moveAnswer desk k second) e)
 
-      yes : admitsOf (p .shares) rest second ≡ true → stepFor desk c .answer ≡ answer.Moved second
+      yes : admitsOf shares rest second ≡ true → stepFor desk c .answer ≡ answer.Moved second
       unfolding moveAnswer
-      yes e = moving ∙ rw (ap (λ (x : Profile). admitsOf (x .shares) rest second) (kept p opens calls) ∙ e) refl
+      yes e = moving ∙ rw (ap (λ (x : Shares). admitsOf x rest second) (in-force p opens turns) ∙ e) refl
 
-      no : admitsOf (p .shares) rest second ≡ false → stepFor desk c .answer ≡ answer.Refused (refusal 18)
+      no : admitsOf shares rest second ≡ false → stepFor desk c .answer ≡ answer.Refused (refusal 18)
       unfolding moveAnswer
-      no e = moving ∙ rw (ap (λ (x : Profile). admitsOf (x .shares) rest second) (kept p opens calls) ∙ e) refl
+      no e = moving ∙ rw (ap (λ (x : Shares). admitsOf x rest second) (in-force p opens turns) ∙ e) refl
 
-      below : second < p .shares .posts
-      below = subst (λ (k : ℕ). k < p .shares .posts) (two .second-is) (passes (p .shares) places (sound p opens calls) .calls (two .i) (two .here .inside) (two .here .used) .second (two .more))
+      pub below : second < shares .posts
+      below = subst (λ (k : ℕ). k < shares .posts) (two .second-is) (passes shares places (sound p opens turns) .calls (two .i) (two .here .inside) (two .here .used) .second (two .more))
 
       rest-size : length rest ≡ 32
       rest-size = length-clear places (two .i) ∙ size
 
-      rest-sound : placesOk (p .shares) rest ≡ true
-      rest-sound = clear-keeps (p .shares) places size (two .i) (sound p opens calls)
+      rest-sound : placesOk shares rest ≡ true
+      rest-sound = clear-keeps shares places size (two .i) (sound p opens turns)
 
       rest-same : Same rest others
-      rest-same = same-clear (p .shares) places (waiting p opens calls) size (sound p opens calls) same (two .i) identifier (two .here .at)
+      rest-same = same-clear shares places (waiting p opens turns) size (sound p opens turns) same (two .i) identifier (two .here .at)
 
       -- a move to a post below its reserved number is never refused for want of a place
-      pub move-reserved : heldBy others second < share p opens calls second .reserved → stepFor desk c .answer ≡ answer.Moved second
-      move-reserved h = yes (reserved-yes (p .shares) fit rest others rest-size rest-sound rest-same second below h)
+      pub move-reserved : heldBy others second < share p opens turns second .reserved → stepFor desk c .answer ≡ answer.Moved second
+      move-reserved h = yes (reserved-yes shares (fit p opens turns) rest others rest-size rest-sound rest-same second below h)
 
       -- the second post is at its ceiling, or the free places are no more than the other posts are owed, this call not counted
       abbrev pub NoPlaceThere : Type 0
-      NoPlaceThere = (heldBy others second ≡ share p opens calls second .ceiling) ⊎ (freeBy others ≤ owedToOthers (p .shares) others second)
+      NoPlaceThere = (heldBy others second ≡ share p opens turns second .ceiling) ⊎ (freeBy others ≤ owedToOthers shares others second)
 
       -- otherwise it gets 18 exactly if there is no place for it
-      pub move-refused-exactly : share p opens calls second .reserved ≤ heldBy others second
+      pub move-refused-exactly : share p opens turns second .reserved ≤ heldBy others second
           → (NoPlaceThere → stepFor desk c .answer ≡ answer.Refused (refusal 18)) × (stepFor desk c .answer ≡ answer.Refused (refusal 18) → NoPlaceThere)
       move-refused-exactly h = (
-        λ k. no (none-no (p .shares) fit rest others rest-size rest-sound rest-same second below h k),
-        λ z. no-none (p .shares) fit rest others rest-size rest-sound rest-same second below (go z (admitsOf (p .shares) rest second) refl) .1,
+        λ k. no (none-no shares (fit p opens turns) rest others rest-size rest-sound rest-same second below h k),
+        λ z. no-none shares (fit p opens turns) rest others rest-size rest-sound rest-same second below (go z (admitsOf shares rest second) refl) .1,
       )
         where
-          go : stepFor desk c .answer ≡ answer.Refused (refusal 18) → (b : Bool) → admitsOf (p .shares) rest second ≡ b → b ≡ false
+          go : stepFor desk c .answer ≡ answer.Refused (refusal 18) → (b : Bool) → admitsOf shares rest second ≡ b → b ≡ false
           go z true e = not-both (ap isMoved (sym z ∙ yes e))
           go z false e = refl
 
       -- and moves else
-      pub move-else : share p opens calls second .reserved ≤ heldBy others second → (NoPlaceThere → ⊥) → stepFor desk c .answer ≡ answer.Moved second
-      move-else h k = yes (else-yes (p .shares) fit rest others rest-size rest-sound rest-same second below h k)
+      pub move-else : share p opens turns second .reserved ≤ heldBy others second → (NoPlaceThere → ⊥) → stepFor desk c .answer ≡ answer.Moved second
+      move-else h k = yes (else-yes shares (fit p opens turns) rest others rest-size rest-sound rest-same second below h k)

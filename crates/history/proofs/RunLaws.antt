@@ -1,16 +1,20 @@
--- Along any history the desk stays one that 1 passes, and its used places are the calls that the history has waiting. Assumes nothing.
+-- Along any history the desk stays one that 1 passes, its used places are the calls that the history has waiting, and its shares are those
+-- that the history has in force. Assumes nothing.
 use Prim.Native.Nat.{ℕ, _<_}
 use mathlib.Core.Path.{_≡_, refl, sym, ap, _∙_, subst}
-use mathlib.Core.Bool.{Bool, true, false, cond}
+use mathlib.Core.Bool.{Bool, true, false, not, cond}
 use mathlib.Core.List.{List, [], _∷_, _++_}
 use native.Mathlib.Omega.{arith}
 use lib.ListN.{length, take, set}
 use borrow.Author.Tests.{eqb-true}
 use Rattle.codec.specs.Codec.{Read, got, no}
 use Rattle.codec.specs.Stops.{refusal, noStop}
-use Rattle.codec.proofs.Good.{both-right, not-both}
+use Rattle.codec.specs.declared.Stop.{Stop}
+use Rattle.codec.proofs.Good.{both-true, both-left, both-right, not-both}
 use Rattle.profile.specs.Rules.{profileOk, noProfile}
 use Rattle.profile.specs.declared.Profile.{Profile}
+use Rattle.profile.specs.declared.Share.{Share}
+use Rattle.profile.specs.declared.Shares.{Shares}
 use Rattle.message.specs.Reading.{readOf}
 use Rattle.message.specs.Numbers as numbers
 use Rattle.message.specs.Values.{blank, identifierIn, numberAt}
@@ -20,24 +24,28 @@ use Rattle.places.specs.Grounds.{placesOk}
 use Rattle.places.specs.Spots.{spotAt, placeOf, lowestFree, placeFor, takeOf, clearOf, movedOn, moveOf}
 use Rattle.places.specs.declared.Place.{Place}
 use Rattle.places.specs.declared.Spot.{Spot}
+use Rattle.places.proofs.FitLaws.{fits-pass}
 use Rattle.places.proofs.HeldLaws.{set-by, none-at, length-take, length-clear, length-none}
 use Rattle.places.proofs.SpotLaws.{WaitsFirst, spot-found, lowest-free-exactly, place-of-exactly}
 use Rattle.places.proofs.MoveLaws.{move-is, length-move, clear-free, move-keeps}
 use Rattle.records.specs.Records.{noParty}
 use Rattle.places.proofs.PlaceLaws.{take-keeps, clear-keeps, none-waiting-ok}
+use Rattle.desk.specs.Changes.{newShares, sharesFor, refusedChange, changeOf}
 use Rattle.desk.specs.Desks.{deskWith, openOf}
 use Rattle.desk.specs.Orders.{placesOf}
 use Rattle.desk.specs.Steps.{nothing, begins, moves, ends, effectBy, effectOf, valueBy, identifierOf, Spoken, secondFor, causeFor, spokenOf, callFor, postOf, deskAfter}
 use Rattle.desk.specs.declared.Answer.{Answer}
 use Rattle.desk.specs.declared.Answer.the-variants as answer
+use Rattle.desk.specs.declared.Changed.{Changed}
 use Rattle.desk.specs.declared.Desk.{Desk}
 use Rattle.desk.specs.declared.Event.{Event}
 use Rattle.desk.specs.declared.Event.the-variants as event
 use Rattle.desk.specs.declared.Opened.{Opened}
+use Rattle.desk.proofs.Changes.{Outcome, by-1, by-23, by-24, new, outcome, new-posts, change-air, change-shares}
 use Rattle.desk.proofs.SetUps.{step-desk, admitted-so}
 use Rattle.desk.proofs.Endings.{isEnding, ended-waits}
 use Rattle.desk.proofs.Moves.{MovedCall, moved-so}
-use Rattle.history.specs.Histories.{Call, History, stepFor, runOf, leftBy, Waiting, without, namedBy, meantBy, askedSecond, causeBy, givenCause, causeOf, answered, afterwards, waitingAfter, waitingOf}
+use Rattle.history.specs.Histories.{Call, Turn, one-call, one-change, call-noted, change-noted, History, stepFor, noteFor, deskBy, runOf, leftBy, sharesAfter, sharesBy, takesNone, sharesOf, Waiting, without, namedBy, meantBy, askedSecond, causeBy, givenCause, causeOf, answered, afterwards, afterNote, waitingAfter, waitingOf}
 use Rattle.history.proofs.WaitingLaws.{waitingFor, Same, same-none, same-take, same-clear, cause-same}
 
 -- a second post is another than the one where the call waits
@@ -200,28 +208,130 @@ pub step-profile : (d : Desk) (c : Call) → stepFor d c .desk .profile ≡ d .p
 unfolding deskAfter
 step-profile d c = ap (λ (x : Desk). x .profile) (step-desk d (c .rows) (c .count) (c .message) (c .area) (c .event))
 
--- ---- any number of them
+-- ---- one change of the shares
 
-pub run-profile : (calls : List Call) (d : Desk) → leftBy d calls .profile ≡ d .profile
-unfolding leftBy
-run-profile [] d = refl
-run-profile (c ∷ calls) d = run-profile calls (stepFor d c .desk) ∙ step-profile d c
+-- the same calls wait, and the desk stays one that passes
+pub along-change : (d : Desk) (w : List Waiting) → Along d w → (rows : List Share) → Along (changeOf d rows .desk) w
+along-change d w a rows = go (outcome d rows)
+  where
+    stays : (s : Stop) → changeOf d rows ≡ refusedChange d s → Along (changeOf d rows .desk) w
+    stays s e = subst (λ (x : Changed). Along (x .desk) w) (sym e) a
 
-pub along-run : (calls : List Call) (d : Desk) (w : List Waiting) → Along d w → Along (leftBy d calls) (waitingAfter (d .profile) w (runOf d calls))
-unfolding leftBy runOf waitingAfter
-along-run [] d w a = a
-along-run (c ∷ calls) d w a =
-    subst
-    (λ (p : Profile). Along (leftBy (stepFor d c .desk) calls)
-    (waitingAfter p (afterwards (d .profile) w c (stepFor d c .answer)) (runOf (stepFor d c .desk) calls)))
-    (step-profile d c)
-    (along-run calls (stepFor d c .desk) _ (along-step d w a c))
+    go : Outcome d rows → Along (changeOf d rows .desk) w
+    go (by-1 k e) = stays (refusal 1) e
+    go (by-23 k l e) = stays (refusal 23) e
+    go (by-24 k l f e) = stays (refusal 24) e
+    go (new k l f e) =
+        subst (λ (x : Changed). Along (x .desk) w) (sym e)
+        (record { size = a .size; sound = fits-pass (d .profile .shares) (sharesFor d rows) (placesOf d) (new-posts d rows) (a .sound) f; same = a .same; other = a .other })
 
--- the history of the first calls is the first part of the history: what holds of any calls holds after each prefix of them
-pub run-parts : (xs ys : List Call) (d : Desk) → runOf d (xs ++ ys) ≡ runOf d xs ++ runOf (leftBy d xs) ys
+-- ---- what does not change: the part of the profile that goes by the air, and that the profile keeps the rules
+
+pub record Suits (p : Profile) (d : Desk) : Type 0 where
+  pub air : d .profile .air ≡ p .air
+  pub passes : profileOk (d .profile) ≡ true
+  pub opens : profileOk p ≡ true
+
+-- so a message reads the same, by the profile at the opening and by the one in force
+module _ (p : Profile) (d : Desk) (s : Suits p d) where
+  pub read-air : (l : List ℕ) (n : ℕ) → readOf (d .profile) l n ≡ readOf p l n
+  unfolding readOf
+  read-air l n = rw (s .passes, s .opens, s .air) refl
+
+  pub meant-air : (l : List ℕ) (e : Event) → meantBy (d .profile) l e ≡ meantBy p l e
+  meant-air l (event.Message post bits) = ap namedBy (read-air l bits)
+  meant-air l (event.SetUp caller called identifier cause) = refl
+  meant-air l (event.Reject post identifier) = refl
+  meant-air l (event.Cancel identifier) = refl
+
+  given-air : (l : List ℕ) (e : Event) → givenCause (d .profile) l e ≡ givenCause p l e
+  given-air l (event.Message post bits) = ap causeBy (read-air l bits)
+  given-air l (event.SetUp caller called identifier cause) = refl
+  given-air l (event.Reject post identifier) = refl
+  given-air l (event.Cancel identifier) = refl
+
+  pub afterwards-air : (w : List Waiting) (c : Call) (x : Answer) → afterwards (d .profile) w c x ≡ afterwards p w c x
+  unfolding afterwards
+  afterwards-air w c x = rw (meant-air (c .message) (c .event), given-air (c .message) (c .event)) refl
+
+pub suits-step : (p : Profile) (d : Desk) → Suits p d → (c : Call) → Suits p (stepFor d c .desk)
+suits-step p d s c =
+    record { air = ap (λ (x : Profile). x .air) (step-profile d c) ∙ s .air; passes = ap profileOk (step-profile d c) ∙ s .passes; opens = s .opens }
+
+pub suits-change : (p : Profile) (d : Desk) → Suits p d → (rows : List Share) → Suits p (changeOf d rows .desk)
+unfolding profileOk
+suits-change p d s rows = record { air = change-air d rows ∙ s .air; passes = go (outcome d rows); opens = s .opens }
+  where
+    stays : (t : Stop) → changeOf d rows ≡ refusedChange d t → profileOk (changeOf d rows .desk .profile) ≡ true
+    stays t e = ap (λ (x : Changed). profileOk (x .desk .profile)) e ∙ s .passes
+
+    go : Outcome d rows → profileOk (changeOf d rows .desk .profile) ≡ true
+    go (by-1 k e) = stays (refusal 1) e
+    go (by-23 k l e) = stays (refusal 23) e
+    go (by-24 k l f e) = stays (refusal 24) e
+    go (new k l f e) = ap (λ (x : Changed). profileOk (x .desk .profile)) e ∙ both-true _ _ (both-left _ _ (s .passes)) l
+
+-- ---- any number of turns
+
+-- what is known of a desk along a history that was opened with this profile, has these shares in force, and these calls waiting
+pub record Stands (p : Profile) (d : Desk) (s : Shares) (w : List Waiting) : Type 0 where
+  pub along : Along d w
+  pub suits : Suits p d
+  pub shares : d .profile .shares ≡ s
+
+pub stands-turn : (p : Profile) (d : Desk) (s : Shares) (w : List Waiting) → Stands p d s w → (t : Turn) → Stands p (deskBy d t) (sharesAfter s (noteFor d t)) (afterNote p w (noteFor d t))
+stands-turn p d s w z (one-call c) =
+    record {
+      along = subst (λ (v : List Waiting). Along (stepFor d c .desk) v) (afterwards-air p d (z .suits) w c (stepFor d c .answer)) (along-step d w (z .along) c);
+      suits = suits-step p d (z .suits) c;
+      shares = ap (λ (x : Profile). x .shares) (step-profile d c) ∙ z .shares;
+    }
+stands-turn p d s w z (one-change rows) =
+    record {
+      along = along-change d w (z .along) rows;
+      suits = suits-change p d (z .suits) rows;
+      shares =
+          change-shares d rows ∙ ap (λ (x : Shares). cond (changeOf d rows .change .taken) (newShares (x .posts) rows) x) (z .shares);
+    }
+
+pub stands-run : (p : Profile) (turns : List Turn) (d : Desk) (s : Shares) (w : List Waiting) → Stands p d s w
+    → Stands p (leftBy d turns) (sharesBy s (runOf d turns)) (waitingAfter p w (runOf d turns))
+unfolding leftBy runOf waitingAfter sharesBy
+stands-run p [] d s w z = z
+stands-run p (t ∷ turns) d s w z = stands-run p turns (deskBy d t) _ _ (stands-turn p d s w z t)
+
+-- the number of posts is fixed
+pub posts-fixed : (h : History) (s : Shares) → sharesBy s h .posts ≡ s .posts
+unfolding sharesBy newShares
+posts-fixed [] s = refl
+posts-fixed (call-noted c a ∷ h) s = posts-fixed h s
+posts-fixed (change-noted rows x ∷ h) s = posts-fixed h (cond (x .taken) (newShares (s .posts) rows) s) ∙ go (x .taken)
+  where
+    go : (b : Bool) → cond b (newShares (s .posts) rows) s .posts ≡ s .posts
+    go true = refl
+    go false = refl
+
+-- where no change is taken the shares stay
+pub shares-stay : (h : History) (s : Shares) → takesNone h ≡ true → sharesBy s h ≡ s
+unfolding sharesBy takesNone
+shares-stay [] s e = refl
+shares-stay (call-noted c a ∷ h) s e = shares-stay h s (both-right true _ e)
+shares-stay (change-noted rows x ∷ h) s e = go (x .taken) refl (both-left _ _ e) (shares-stay h s (both-right (not (x .taken)) _ e))
+  where
+    go : (b : Bool) → x .taken ≡ b → not (x .taken) ≡ true → sharesBy s h ≡ s → sharesBy (cond b (newShares (s .posts) rows) s) h ≡ s
+    go true k n r = not-both (ap not (sym k) ∙ n)
+    go false k n r = r
+
+-- the history of the first turns is the first part of the history: what holds of any turns holds after each prefix of them
+pub run-parts : (xs ys : List Turn) (d : Desk) → runOf d (xs ++ ys) ≡ runOf d xs ++ runOf (leftBy d xs) ys
 unfolding runOf leftBy
 run-parts [] ys d = refl
-run-parts (c ∷ xs) ys d = ap (λ (h : History). (c, stepFor d c .answer) ∷ h) (run-parts xs ys (stepFor d c .desk))
+run-parts (t ∷ xs) ys d = ap (λ (h : History). noteFor d t ∷ h) (run-parts xs ys (deskBy d t))
+
+pub shares-parts : (h k : History) (s : Shares) → sharesBy s (h ++ k) ≡ sharesBy (sharesBy s h) k
+unfolding sharesBy
+shares-parts [] k s = refl
+shares-parts (x ∷ h) k s = shares-parts h k (sharesAfter s x)
 
 -- ---- from an opened desk
 
@@ -242,5 +352,11 @@ module _ (p : Profile) (opens : profileOk p ≡ true) where
   unfolding profileOk
   along-open = record { size = length-none; sound = none-waiting-ok (p .shares) (both-right _ _ opens); same = same-none; other = λ i h u. not-both (rw (none-at i) at u) }
 
-  pub along : (calls : List Call) → Along (leftBy (deskWith p) calls) (waitingOf p (runOf (deskWith p) calls))
-  along calls = along-run calls (deskWith p) [] along-open
+  pub stands-open : Stands p (deskWith p) (p .shares) []
+  stands-open = record { along = along-open; suits = record { air = refl; passes = opens; opens = opens }; shares = refl }
+
+  pub stands : (turns : List Turn) → Stands p (leftBy (deskWith p) turns) (sharesOf p (runOf (deskWith p) turns)) (waitingOf p (runOf (deskWith p) turns))
+  stands turns = stands-run p turns (deskWith p) (p .shares) [] stands-open
+
+  pub along : (turns : List Turn) → Along (leftBy (deskWith p) turns) (waitingOf p (runOf (deskWith p) turns))
+  along turns = stands turns .along

@@ -1,15 +1,17 @@
--- A history is what an outsider could have written down: each call with all that was lent, and its answer. No desk is in it. Which
--- calls wait, and so what each post holds and is owed, is counted from it alone, and not as the desk counts.
-use Prim.Native.Nat.{ℕ, _+_, _-_, _<_, _≤_}
+-- A history is what an outsider could have written down: each call with all that was lent, each change of the shares with what was asked
+-- for, and the answer. No desk is in it. Which calls wait, and so what each post holds and is owed, and which shares are in force, is
+-- counted from it alone, and not as the desk counts.
+use Prim.Native.Nat.{ℕ, _+_, _-_, _<_, _≤_, max}
 use mathlib.Core.Path.{_≡_}
 use mathlib.Core.Bool.{Bool, true, false, not, cond}
 use mathlib.Core.List.{List, [], _∷_}
-use lib.Dec.{eqb, ltb}
+use lib.Dec.{eqb, leb, ltb}
 use lib.ListN.{length, take}
 use Rattle.codec.specs.Codec.{Read, got, no, both}
-use Rattle.profile.specs.Counting.{one, sum}
+use Rattle.profile.specs.Counting.{every, one, sum}
 use Rattle.profile.specs.Rules.{shareIn}
 use Rattle.profile.specs.declared.Profile.{Profile}
+use Rattle.profile.specs.declared.Share.{Share}
 use Rattle.profile.specs.declared.Shares.{Shares}
 use Rattle.message.specs.Numbers as place
 use Rattle.message.specs.Values.{numberAt, identifierIn}
@@ -19,11 +21,13 @@ use Rattle.records.specs.Records.{recordsOk, noParty, secondOf}
 use Rattle.records.specs.declared.Identity.{Identity}
 use Rattle.records.specs.declared.Party.{Party}
 use Rattle.records.specs.declared.Record.{Record}
+use Rattle.desk.specs.Changes.{newShares, changeOf}
 use Rattle.desk.specs.Grounds.{partyFor}
 use Rattle.desk.specs.Orders.{setUpOk}
 use Rattle.desk.specs.Steps.{stepOf}
 use Rattle.desk.specs.declared.Answer.{Answer}
 use Rattle.desk.specs.declared.Answer.the-variants as answer
+use Rattle.desk.specs.declared.Change.{Change}
 use Rattle.desk.specs.declared.Desk.{Desk}
 use Rattle.desk.specs.declared.Event.{Event}
 use Rattle.desk.specs.declared.Event.the-variants as event
@@ -39,22 +43,65 @@ pub record Call : Type 0 where
   pub area : List ℕ
   pub event : Event
 
+-- what comes to a desk: a call, or new shares, a row for each post
+pub data Turn : Type 0 where
+  one-call : Call → Turn
+  one-change : List Share → Turn
+
+-- what was written down of it
+pub data Noted : Type 0 where
+  call-noted : Call → Answer → Noted
+  change-noted : List Share → Change → Noted
+
 abbrev pub History : Type 0
-History = List (Call × Answer)
+History = List Noted
 
 -- the call on a desk
 abbrev pub stepFor : Desk → Call → Stepped
 stepFor d c = stepOf d (c .rows) (c .count) (c .message) (c .area) (c .event)
 
--- some calls, the first one first, each on the desk that the one before left, refused ones included; the records, the message and the
--- area are new for each. What was written down, and the desk that is left
-unfoldable pub runOf : Desk → List Call → History
-runOf d [] = []
-runOf d (c ∷ calls) = (c, stepFor d c .answer) ∷ runOf (stepFor d c .desk) calls
+-- what is written down of a turn on a desk, and the desk that it leaves
+abbrev pub noteFor : Desk → Turn → Noted
+noteFor d (one-call c) = call-noted c (stepFor d c .answer)
+noteFor d (one-change rows) = change-noted rows (changeOf d rows .change)
 
-unfoldable pub leftBy : Desk → List Call → Desk
+abbrev pub deskBy : Desk → Turn → Desk
+deskBy d (one-call c) = stepFor d c .desk
+deskBy d (one-change rows) = changeOf d rows .desk
+
+-- some turns, the first one first, each on the desk that the one before left, refused ones included; the records, the message and the
+-- area are new for each call. What was written down, and the desk that is left
+unfoldable pub runOf : Desk → List Turn → History
+runOf d [] = []
+runOf d (t ∷ turns) = noteFor d t ∷ runOf (deskBy d t) turns
+
+unfoldable pub leftBy : Desk → List Turn → Desk
 leftBy d [] = d
-leftBy d (c ∷ calls) = leftBy (stepFor d c .desk) calls
+leftBy d (t ∷ turns) = leftBy (deskBy d t) turns
+
+-- ---- which shares are in force
+
+-- a change that was taken puts its rows in force, for as many posts as there were; nothing else changes them
+abbrev pub sharesAfter : Shares → Noted → Shares
+sharesAfter s (call-noted c a) = s
+sharesAfter s (change-noted rows x) = cond (x .taken) (newShares (s .posts) rows) s
+
+unfoldable pub sharesBy : Shares → History → Shares
+sharesBy s [] = s
+sharesBy s (x ∷ h) = sharesBy (sharesAfter s x) h
+
+-- no change of the shares was taken in a history
+abbrev pub takesIt : Noted → Bool
+takesIt (call-noted c a) = false
+takesIt (change-noted rows x) = x .taken
+
+unfoldable pub takesNone : History → Bool
+takesNone [] = true
+takesNone (x ∷ h) = both (not (takesIt x)) (takesNone h)
+
+-- from an opened desk, on which they are the profile's
+abbrev pub sharesOf : Profile → History → Shares
+sharesOf p h = sharesBy (p .shares) h
 
 -- ---- which calls wait
 
@@ -134,10 +181,15 @@ afterwards p w c a =
     (record { identifier = meantBy p (c .message) (c .event); second = askedSecond (take (c .count) (c .rows)) (c .event); cause = givenCause p (c .message) (c .event) })
     a w
 
+-- after anything that was written down: no change of the shares makes a call wait or go away
+abbrev pub afterNote : Profile → List Waiting → Noted → List Waiting
+afterNote p w (call-noted c a) = afterwards p w c a
+afterNote p w (change-noted rows x) = w
+
 -- and after a history
 unfoldable pub waitingAfter : Profile → List Waiting → History → List Waiting
 waitingAfter p w [] = w
-waitingAfter p w (x ∷ h) = waitingAfter p (afterwards p w (x .0) (x .1)) h
+waitingAfter p w (x ∷ h) = waitingAfter p (afterNote p w x) h
 
 -- from an opened desk, on which none waits
 abbrev pub waitingOf : Profile → History → List Waiting
@@ -167,6 +219,14 @@ owedBy shares w post = shareIn (shares .share) post .reserved - heldBy w post
 
 unfoldable pub owedToOthers : Shares → List Waiting → ℕ → ℕ
 owedToOthers shares w post = sum (shares .posts) (λ q. cond (eqb q post) 0 (owedBy shares w q))
+
+-- ---- shares that fit what is held
+
+-- no post holds more than its ceiling, and 32 places are enough for the larger of reserved number and held of every post
+unfoldable pub fitsBy : Shares → List Waiting → Bool
+fitsBy shares w =
+    both (every (shares .posts) (λ q. leb (heldBy w q) (shareIn (shares .share) q .ceiling)))
+    (leb (sum (shares .posts) (λ q. max (shareIn (shares .share) q .reserved) (heldBy w q))) 32)
 
 -- ---- a well-formed new restricted call
 
@@ -213,7 +273,10 @@ isAdmission answer.Rejected = false
 isAdmission (answer.Cancelled post) = false
 isAdmission (answer.Moved post) = false
 
+abbrev pub admitsIt : Profile → ℕ → Noted → Bool
+admitsIt p identifier (call-noted c a) = both (isAdmission a) (eqb (meantBy p (c .message) (c .event)) identifier)
+admitsIt p identifier (change-noted rows x) = false
+
 unfoldable pub admitsNone : Profile → ℕ → History → Bool
 admitsNone p identifier [] = true
-admitsNone p identifier (x ∷ h) =
-    both (not (both (isAdmission (x .1)) (eqb (meantBy p (x .0 .message) (x .0 .event)) identifier))) (admitsNone p identifier h)
+admitsNone p identifier (x ∷ h) = both (not (admitsIt p identifier x)) (admitsNone p identifier h)

@@ -18,7 +18,8 @@ use Rattle.desk.specs.Steps.{areaAfter}
 use Rattle.desk.specs.declared.Answer.{Answer}
 use Rattle.desk.specs.declared.Answer.the-variants as answer
 use Rattle.desk.specs.declared.Desk.{Desk}
-use Rattle.history.specs.Histories.{Call, stepFor, Waiting, countBy, meantBy}
+use Rattle.desk.specs.Changes.{changeOf}
+use Rattle.history.specs.Histories.{Call, Turn, one-call, one-change, stepFor, Waiting, countBy, meantBy}
 
 -- a call, its answer, how many messages it wrote and their lengths, and the output area afterwards
 pub record Entry : Type 0 where
@@ -36,10 +37,11 @@ entryOf d c =
       output = areaAfter d (c .rows) (c .count) (c .message) (c .area) (c .event);
     }
 
--- of some calls, the first one first
-unfoldable pub logOf : Desk → List Call → List Entry
+-- of some turns, the first one first; new shares are nothing on the radio
+unfoldable pub logOf : Desk → List Turn → List Entry
 logOf d [] = []
-logOf d (c ∷ calls) = entryOf d c ∷ logOf (stepFor d c .desk) calls
+logOf d (one-call c ∷ turns) = entryOf d c ∷ logOf (stepFor d c .desk) turns
+logOf d (one-change rows ∷ turns) = logOf (changeOf d rows .desk) turns
 
 -- the messages that it wrote are these: as many as it says, the k-th read from byte 100 × k with the length that it says
 abbrev pub Written : Profile → Entry → List Value → Type 0
