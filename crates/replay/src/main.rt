@@ -278,6 +278,7 @@ fn answer(output: &mut [u8], filled: usize, number: u64, state: State, line: Lin
         Task::Dump => dump(output, filled, number, state),
         Task::Second { at, post } => silent(filled, with_second(state, at, post)),
         Task::Cause { at, cause } => silent(filled, with_cause(state, at, cause)),
+        Task::Shares => change_shares(output, filled, number, state, line),
     }
 }
 
@@ -434,6 +435,30 @@ fn open(output: &mut [u8], filled: usize, number: u64, state: State, line: Line)
     silent(
         print(output, filled, number, words::said_refused(stop.number)),
         state,
+    )
+}
+
+// New shares on the desk, or a refusal and the desk as it stands.
+fn change_shares(
+    output: &mut [u8],
+    filled: usize,
+    number: u64,
+    state: State,
+    line: Line,
+) -> Answered
+    requires { ⌜ (length (now output) ≡ 65536) × (filled ≤ 65536) ⌝ }
+    ensures { λ r. ⌜ r .filled ≤ 65536 ⌝ }
+{
+    let profile = line.profile;
+    let shares = profile.shares;
+    let rows = shares.share;
+    let old = state.desk;
+    let changed = desk::change_shares(old, rows);
+    let change = changed.change;
+    let desk = changed.desk;
+    silent(
+        print(output, filled, number, words::said_change(change)),
+        with_desk(state, desk),
     )
 }
 

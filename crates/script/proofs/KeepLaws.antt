@@ -18,8 +18,8 @@ use Rattle.bits.proofs.SetLaws.{lt-or}
 use Rattle.lines.specs.Shape.{isDigit, hexOf, noHex, hexAt}
 use Rattle.lines.proofs.ShapeLaws.{hex-long}
 use Rattle.script.specs.Shape.{noNumber, numberIf, digitsThen, numberAt, noRow, noNumbers, numbersFrom, numbersAt}
-use Rattle.script.specs.Profiles.{pairsIn}
-use Rattle.script.specs.Lines.{when, recordTask, setUpTask, rejectTask, cancelTask, outTask, placeTask, unplaceTask, secondTask, causeTask, plainLine, postLine, profileLine, taskOf, lineOf}
+use Rattle.script.specs.Profiles.{pairsIn, isPairs}
+use Rattle.script.specs.Lines.{when, recordTask, setUpTask, rejectTask, cancelTask, outTask, placeTask, unplaceTask, secondTask, causeTask, plainLine, postLine, profileLine, sharesLine, taskOf, lineOf}
 use Rattle.blocks.specs.Texts.{noText, textOf, keepOf}
 use Rattle.script.specs.declared.Task.the-variants as task
 use Rattle.script.specs.declared.shape.Number.{Number}
@@ -191,6 +191,10 @@ module _ (l : List ℕ) (h : 539 < length l) where
   unfolding profileLine pairsIn
   profile-long = ⊎-elim (λ a. rw a) (λ a. rw (a .0)) (counted 8 (omega arith) (omega arith))
 
+  shares-long : sharesLine (numbersAt 38 l 7) ≡ plainLine task.Unknown
+  unfolding sharesLine isPairs
+  shares-long = ⊎-elim (λ a. rw a) (λ a. rw (a .0)) (counted 7 (omega arith) (omega arith))
+
   post-long : postLine (numbersAt 2 l 5) l ≡ plainLine task.Unknown
   unfolding postLine numbersAt hexAt noHex
   post-long = ⊎-elim (λ a. rw a) (λ a. two (a .0) (a .1)) (numbers-long 2 0 noRow l 5 (omega arith) (omega arith))
@@ -203,7 +207,7 @@ module _ (l : List ℕ) (h : 539 < length l) where
 
   pub long-unknown : lineOf l ≡ plainLine task.Unknown
   unfolding lineOf
-  long-unknown = rw (post-long, profile-long, task-long) (simp line-unknown)
+  long-unknown = rw (post-long, profile-long, shares-long, task-long) (simp line-unknown)
 
 -- ---- what is kept of a line that came in pieces
 

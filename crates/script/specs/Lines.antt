@@ -9,7 +9,7 @@ use Rattle.places.specs.Held.{noPlace}
 use Rattle.desk.specs.declared.Event.the-variants as event
 use Rattle.lines.specs.Shape.{noBytes, hexAt}
 use Rattle.script.specs.Shape.{startsWith, numbersAt}
-use Rattle.script.specs.Profiles.{profileOf, pairsIn}
+use Rattle.script.specs.Profiles.{profileOf, pairsIn, isPairs, rowsOf}
 use Rattle.script.specs.declared.Line.{Line}
 use Rattle.script.specs.declared.Task.{Task}
 use Rattle.script.specs.declared.Task.the-variants as task
@@ -111,6 +111,9 @@ profileLine n =
     cond (leb 1 (pairsIn (n .count))) (record { task = task.Open; profile = profileOf (n .number) (pairsIn (n .count)); count = 0; bytes = noBytes })
     (plainLine task.Unknown)
 
+unfoldable pub sharesLine : Numbers → Line
+sharesLine n = cond (isPairs (n .count)) (record { task = task.Shares; profile = rowsOf (n .number); count = 0; bytes = noBytes }) (plainLine task.Unknown)
+
 -- by the keyword; in comments, what the bytes are
 unfoldable pub taskOf : List ℕ → Task
 taskOf l =
@@ -140,4 +143,6 @@ lineOf l =
     -- `post `
     cond (startsWith l (112 ∷ 111 ∷ 115 ∷ 116 ∷ 32 ∷ [])) (postLine (numbersAt 2 l 5) l)
     -- `profile `
-    (cond (startsWith l (112 ∷ 114 ∷ 111 ∷ 102 ∷ 105 ∷ 108 ∷ 101 ∷ 32 ∷ [])) (profileLine (numbersAt 38 l 8)) (plainLine (taskOf l)))
+    (cond (startsWith l (112 ∷ 114 ∷ 111 ∷ 102 ∷ 105 ∷ 108 ∷ 101 ∷ 32 ∷ [])) (profileLine (numbersAt 38 l 8))
+    -- `shares `
+    (cond (startsWith l (115 ∷ 104 ∷ 97 ∷ 114 ∷ 101 ∷ 115 ∷ 32 ∷ [])) (sharesLine (numbersAt 38 l 7)) (plainLine (taskOf l))))

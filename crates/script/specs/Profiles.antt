@@ -1,11 +1,11 @@
--- The profile of a `profile` line, from its row of numbers: SS HOME U N M0 .. M15 POSTS R0 C0 [R1 C1 ..]. Every row gives a profile; one
+-- The profile of a `profile` line and the rows of a `shares` line, from the line's row of numbers. Of a profile: SS HOME U N M0 .. M15 POSTS R0 C0 [R1 C1 ..]. Every row gives a profile; one
 -- that no profile can have gives one that breaks a rule, and opening a desk with it is refused with 1.
-use Prim.Native.Nat.{ℕ, _-_, _/_, _%_}
-use mathlib.Core.Bool.{cond}
+use Prim.Native.Nat.{ℕ, _+_, _-_, _/_, _%_}
+use mathlib.Core.Bool.{Bool, false, cond}
 use mathlib.Core.List.{List, [], _∷_}
 use lib.Dec.{eqb, leb}
 use lib.ListN.{getD}
-use Rattle.profile.specs.Rules.{meaningOf}
+use Rattle.profile.specs.Rules.{meaningOf, noProfile}
 use Rattle.profile.specs.declared.Air.{Air}
 use Rattle.profile.specs.declared.Meaning.{Meaning}
 use Rattle.profile.specs.declared.Profile.{Profile}
@@ -47,14 +47,20 @@ shareOf reserved ceiling = record { reserved = byteOf reserved; ceiling = byteOf
 unfoldable pub postsOf : ℕ → ℕ → ℕ
 postsOf said pairs = cond (eqb said pairs) pairs 0
 
-unfoldable pub shareRow : List ℕ → List Share
-shareRow row =
-    shareOf (getD row 21 0) (getD row 22 0) ∷ shareOf (getD row 23 0) (getD row 24 0) ∷ shareOf (getD row 25 0) (getD row 26 0)
-    ∷ shareOf (getD row 27 0) (getD row 28 0) ∷ shareOf (getD row 29 0) (getD row 30 0) ∷ shareOf (getD row 31 0) (getD row 32 0)
-    ∷ shareOf (getD row 33 0) (getD row 34 0) ∷ shareOf (getD row 35 0) (getD row 36 0) ∷ []
+-- eight pairs from number `at` of the row on
+unfoldable pub shareRow : List ℕ → ℕ → List Share
+shareRow row at =
+    shareOf (getD row at 0) (getD row (at + 1) 0) ∷ shareOf (getD row (at + 2) 0) (getD row (at + 3) 0)
+    ∷ shareOf (getD row (at + 4) 0) (getD row (at + 5) 0) ∷ shareOf (getD row (at + 6) 0) (getD row (at + 7) 0)
+    ∷ shareOf (getD row (at + 8) 0) (getD row (at + 9) 0) ∷ shareOf (getD row (at + 10) 0) (getD row (at + 11) 0)
+    ∷ shareOf (getD row (at + 12) 0) (getD row (at + 13) 0) ∷ shareOf (getD row (at + 14) 0) (getD row (at + 15) 0)
+    ∷ []
+
+unfoldable pub sharesAt : List ℕ → ℕ → ℕ → Shares
+sharesAt row at posts = record { posts = posts; share = shareRow row at }
 
 unfoldable pub sharesOf : List ℕ → ℕ → Shares
-sharesOf row pairs = record { posts = postsOf (getD row 20 0) pairs; share = shareRow row }
+sharesOf row pairs = sharesAt row 21 (postsOf (getD row 20 0) pairs)
 
 unfoldable pub profileOf : List ℕ → ℕ → Profile
 profileOf row pairs = record { air = airOf row; shares = sharesOf row pairs }
@@ -62,3 +68,12 @@ profileOf row pairs = record { air = airOf row; shares = sharesOf row pairs }
 -- 21 numbers and 1 to 8 pairs: how many pairs there are among so many numbers; 0 where they are no profile's
 unfoldable pub pairsIn : ℕ → ℕ
 pairsIn count = cond (leb 23 count) (cond (leb count 37) (cond (eqb (count % 2) 1) ((count - 21) / 2) 0) 0) 0
+
+-- ---- new shares: R0 C0 [R1 C1 ..], 1 to 8 pairs; a pair that is left out is 0 0, as the row is beyond its count
+
+unfoldable pub isPairs : ℕ → Bool
+isPairs count = cond (leb 2 count) (cond (leb count 16) (eqb (count % 2) 0) false) false
+
+-- the rows stand in a profile that has nothing else
+unfoldable pub rowsOf : List ℕ → Profile
+rowsOf row = record { air = noProfile .air; shares = sharesAt row 0 0 }

@@ -2,10 +2,10 @@
 //
 // `parse` equals `lineOf` for every line. Of a line that comes in pieces the first 640 bytes are kept (`blocks`), and `parse_kept` of these
 // is what the whole line asks for, however long it is (proofs/KeepLaws). The files: shape (keyword, numbers), tasks (the lines that
-// are numbers alone), profiles (the profile of a `profile` line).
+// are numbers alone), profiles (the profile of a `profile` line, the rows of a `shares` line).
 ghost use mathlib.Core.Path.{_≡_};
 ghost use lib.ListN.{take};
-ghost use Rattle.script.specs.Lines.{plainLine, messageLine, postLine, profileLine, taskOf, lineOf};
+ghost use Rattle.script.specs.Lines.{plainLine, messageLine, postLine, profileLine, sharesLine, taskOf, lineOf};
 use blocks::Text;
 use desk::Event;
 use places::Place;
@@ -18,7 +18,7 @@ mod shape;
 mod tasks;
 
 // What a line asks for: nothing that is understood; a call of the desk; a new desk; a record, the length of the output area or a place
-// that is set; all that there is, to be printed; a second post, or a cause, for the call in a place.
+// that is set; all that there is, to be printed; a second post, or a cause, for the call in a place; new shares.
 pub enum Task {
     Unknown,
     Call(Event),
@@ -29,9 +29,11 @@ pub enum Task {
     Dump,
     Second { at: u8, post: u8 },
     Cause { at: u8, cause: u8 },
+    Shares,
 }
 
-// A task, and what goes with it: the profile of a new desk; of a post's message the first `count` of the bytes. All else is zero.
+// A task, and what goes with it: the profile of a new desk; the rows of new shares, which are those of the profile's; of a post's message the
+// first `count` of the bytes. All else is zero.
 pub struct Line {
     pub task: Task,
     pub profile: Profile,
@@ -47,6 +49,9 @@ pub fn parse(line: &[u8]) -> Line
     }
     if shape::starts(line, b"profile ") {
         return profile_line(shape::numbers_at(line, 8, 38));
+    }
+    if shape::starts(line, b"shares ") {
+        return shares_line(shape::numbers_at(line, 7, 38));
     }
     plain_line(task_of(line))
 }
@@ -149,6 +154,22 @@ fn profile_line(n: Numbers) -> Line
     let profile = profiles::profile_of(number, pairs);
     Line {
         task: Task::Open,
+        profile: profile,
+        count: 0,
+        bytes: [0; 256],
+    }
+}
+
+fn shares_line(n: Numbers) -> Line
+    ensures { λ r. ⌜ r ≡ sharesLine n ⌝ }
+{
+    let number = n.number;
+    if profiles::is_pairs(n.count) {} else {
+        return plain_line(Task::Unknown);
+    }
+    let profile = profiles::rows_of(number);
+    Line {
+        task: Task::Shares,
         profile: profile,
         count: 0,
         bytes: [0; 256],

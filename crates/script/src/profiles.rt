@@ -1,7 +1,8 @@
-// The profile of a `profile` line, from its row of numbers.
+// The profile of a `profile` line and the rows of a `shares` line, from the line's row of numbers.
 ghost use mathlib.Core.Path.{_≡_};
+ghost use Prim.Native.Nat.{_≤_};
 ghost use Rattle.profile.specs.Rules.{noProfile};
-ghost use Rattle.script.specs.Profiles.{byteOf, meaningBy, meaningsOf, airOf, shareOf, shareRow, sharesOf, postsOf, profileOf, pairsIn};
+ghost use Rattle.script.specs.Profiles.{byteOf, meaningBy, meaningsOf, airOf, shareOf, sharesAt, sharesOf, postsOf, profileOf, pairsIn, isPairs, rowsOf};
 use profile::Air;
 use profile::Kind;
 use profile::Meaning;
@@ -23,6 +24,32 @@ pub(crate) fn pairs_in(count: usize) -> u8
         return ((count - 21) / 2) as u8;
     }
     0
+}
+
+// 1 to 8 pairs.
+pub(crate) fn is_pairs(count: usize) -> bool
+    ensures { λ r. ⌜ r ≡ isPairs count ⌝ }
+{
+    if count < 2 {
+        return false;
+    }
+    if count > 16 {
+        return false;
+    }
+    count % 2 == 0
+}
+
+// The rows of new shares; a missing pair is 0 0, as the row is beyond its count. All else of the profile is zero.
+pub(crate) fn rows_of(number: [u32; 38]) -> Profile
+    ensures { λ r. ⌜ r ≡ rowsOf number ⌝ }
+{
+    let none = no_profile();
+    let air = none.air;
+    let shares = shares_at(number, 0, 0);
+    Profile {
+        air: air,
+        shares: shares,
+    }
 }
 
 pub(crate) fn profile_of(number: [u32; 38], pairs: u8) -> Profile
@@ -138,16 +165,24 @@ fn byte_of(n: u32) -> u8
 fn shares_of(number: [u32; 38], pairs: u8) -> Shares
     ensures { λ r. ⌜ r ≡ sharesOf number pairs ⌝ }
 {
-    let s0 = share_of(number[21], number[22]);
-    let s1 = share_of(number[23], number[24]);
-    let s2 = share_of(number[25], number[26]);
-    let s3 = share_of(number[27], number[28]);
-    let s4 = share_of(number[29], number[30]);
-    let s5 = share_of(number[31], number[32]);
-    let s6 = share_of(number[33], number[34]);
-    let s7 = share_of(number[35], number[36]);
+    shares_at(number, 21, posts_of(number[20], pairs))
+}
+
+// Eight pairs from a number of the row on, for so many posts.
+fn shares_at(number: [u32; 38], at: usize, posts: u8) -> Shares
+    requires { ⌜ at ≤ 22 ⌝ }
+    ensures { λ r. ⌜ r ≡ sharesAt number at posts ⌝ }
+{
+    let s0 = share_of(number[at], number[at + 1]);
+    let s1 = share_of(number[at + 2], number[at + 3]);
+    let s2 = share_of(number[at + 4], number[at + 5]);
+    let s3 = share_of(number[at + 6], number[at + 7]);
+    let s4 = share_of(number[at + 8], number[at + 9]);
+    let s5 = share_of(number[at + 10], number[at + 11]);
+    let s6 = share_of(number[at + 12], number[at + 13]);
+    let s7 = share_of(number[at + 14], number[at + 15]);
     Shares {
-        posts: posts_of(number[20], pairs),
+        posts: posts,
         share: [s0, s1, s2, s3, s4, s5, s6, s7],
     }
 }

@@ -12,6 +12,7 @@ use Rattle.records.specs.declared.Record.{Record}
 use Rattle.sending.specs.declared.Laid.{Laid}
 use Rattle.desk.specs.declared.Answer.{Answer}
 use Rattle.desk.specs.declared.Answer.the-variants as answer
+use Rattle.desk.specs.declared.Change.{Change}
 
 -- ---- numbers in decimal, up to ten digits, without zeros at the front
 
@@ -169,6 +170,10 @@ wordsOf answer.Rejected laid area = (114 ∷ 101 ∷ 106 ∷ 101 ∷ 99 ∷ 116 
 wordsOf (answer.Cancelled post) laid area = (99 ∷ 97 ∷ 110 ∷ 99 ∷ 101 ∷ 108 ∷ 108 ∷ 101 ∷ 100 ∷ 32 ∷ []) ++ postWords post laid area
 -- `moved `
 wordsOf (answer.Moved post) laid area = (109 ∷ 111 ∷ 118 ∷ 101 ∷ 100 ∷ 32 ∷ []) ++ postWords post laid area
+
+-- new shares: `taken`, or the refusal
+unfoldable pub changeWords : Change → List ℕ
+changeWords x = cond (x .taken) (116 ∷ 97 ∷ 107 ∷ 101 ∷ 110 ∷ []) (refusedOf (x .stop .number))
 
 -- ---- a dump's parts: each with a space before it, and nothing for what is not used
 

@@ -5,11 +5,12 @@ ghost use Prim.Native.Nat.{min};
 ghost use lib.ListN.{getD};
 ghost use Rattle.profile.specs.Counting.{one};
 ghost use Rattle.blocks.specs.Texts.{Wrote};
-ghost use Rattle.words.specs.Words.{messageHex, bitsIn, refusedOf, elementWord, brokeWords, stateWord, ackBits, ackHex, acksWords, admittedWords, postWords, wordsOf, secondWords, causeWords, placeWords, recordWords};
+ghost use Rattle.words.specs.Words.{messageHex, bitsIn, refusedOf, elementWord, brokeWords, stateWord, ackBits, ackHex, acksWords, admittedWords, postWords, wordsOf, changeWords, secondWords, causeWords, placeWords, recordWords};
 use crate::texts;
 use blocks::Text;
 use codec::Stop;
 use desk::Answer;
+use desk::Change;
 use places::Place;
 use records::Record;
 use sending::Laid;
@@ -35,6 +36,17 @@ pub(crate) fn refused(text: Text, number: u8) -> Text
     ensures { λ r. ⌜ Wrote text r (refusedOf number) ⌝ }
 {
     texts::add_number(texts::add(text, b"refused "), number as u32)
+}
+
+// What new shares are answered.
+pub(crate) fn change(text: Text, change: Change) -> Text
+    ensures { λ r. ⌜ Wrote text r (changeWords change) ⌝ }
+{
+    let stop = change.stop;
+    if change.taken {
+        return texts::add(text, b"taken");
+    }
+    refused(text, stop.number)
 }
 
 // Where a message broke off; nothing for any other refusal.

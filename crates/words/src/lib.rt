@@ -4,9 +4,10 @@
 // a dump's parts).
 ghost use mathlib.Core.Path.{_≡_};
 ghost use Rattle.blocks.specs.Texts.{textOf};
-ghost use Rattle.words.specs.Words.{refusedOf, wordsOf, placeWords, recordWords};
+ghost use Rattle.words.specs.Words.{refusedOf, wordsOf, changeWords, placeWords, recordWords};
 use blocks::Text;
 use desk::Answer;
+use desk::Change;
 use places::Place;
 use records::Record;
 use sending::Laid;
@@ -26,6 +27,13 @@ pub fn said_refused(number: u8) -> Text
     ensures { λ r. ⌜ r ≡ textOf (refusedOf number) ⌝ }
 {
     answers::refused(blocks::nothing_kept(), number)
+}
+
+// What is printed for new shares.
+pub fn said_change(change: Change) -> Text
+    ensures { λ r. ⌜ r ≡ textOf (changeWords change) ⌝ }
+{
+    answers::change(blocks::nothing_kept(), change)
 }
 
 // What is printed of a place in a dump.

@@ -1,0 +1,30 @@
+-- Written by tools/proofs from tools/words.conf. `words::answers::change` meets its contract. Assumes nothing.
+use borrow.Author.Needs.{needs}
+use Rattle.words.specs.Words.{changeWords}
+use Rattle.words.proofs.answers.change.Statement.{statement}
+use Rattle.words.proofs.answers.change.Tie as tie
+
+slice-aggregate-add : tie.Need-slice-aggregate-add
+slice-aggregate-add c = search needs
+
+add-requires : tie.Need-add-requires
+add-requires c κs = search needs
+
+returns : tie.Need-returns
+unfolding changeWords
+returns c =
+    let p1 = c .before .before in
+    rw (p1 .if1 .taken) (c .add .ensures)
+
+refused-requires : tie.Need-refused-requires
+refused-requires c κs = search needs
+
+returns-2 : tie.Need-returns-2
+unfolding changeWords
+returns-2 c =
+    let p1 = c .before in
+    rw (p1 .if1 .left) (c .refused .ensures)
+
+pub change-spec : {M : Type 1} → statement M
+change-spec =
+    tie.close (tie.spec slice-aggregate-add add-requires returns refused-requires returns-2)
