@@ -1,9 +1,10 @@
 -- What the contracts of `host` decide: any two outcomes that one allows are equal. The checker reads no claim off a contract on lent
 -- structs, so each claim is written out here, and `is` holds it to the contract. Assumes nothing.
-use mathlib.Core.Path.{_≡_, refl, ap, _∙_}
+use mathlib.Core.Path.{_≡_, refl, sym, ap, _∙_}
 use denote.Ref.{now}
-use Rattle.host.specs.Lending.{setMark, loadedOf, Called}
+use Rattle.host.specs.Lending.{setMark, loadedOf, Called, SharesChanged}
 use Rattle.host.proofs.call as call
+use Rattle.host.proofs.change_shares as change-shares
 use Rattle.host.proofs.load as load
 use Rattle.host.proofs.set_mark as set-mark
 use Rattle.host.proofs.HostLaws as host
@@ -37,4 +38,13 @@ decides-call =
           λ κs a x y v w p q.
           let d = host.decides-call _ _ _ _ _ _ _ _ _ p _ _ _ _ q in
           (d .0, three (λ i j k. (i, (j, (_, (_, (k, _)))))) (d .1 .0) (d .1 .1 .0) (d .1 .1 .1));
+    }
+
+-- what the host is told of new shares, and the desk at exit
+pub decides-change-shares : Decides change-shares.ended (λ M. change-shares.spec)
+decides-change-shares =
+    record {
+      says = λ κs a x e. SharesChanged (now (a .0)) (a .1 .0) x (now (e .0));
+      is = refl;
+      one = λ κs a x y v w p q. (p .told ∙ sym (q .told), ap (λ d. (d, _)) (p .desk ∙ sym (q .desk)));
     }

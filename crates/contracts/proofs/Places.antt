@@ -1,6 +1,7 @@
 -- What the contracts of `places` decide: any two outcomes that one allows are equal. Assumes nothing.
 use mathlib.Core.Path.{refl}
 use Rattle.places.proofs.places_ok as places-ok
+use Rattle.places.proofs.fits as fits
 use Rattle.places.proofs.admits as admits
 use Rattle.places.proofs.place_of as place-of
 use Rattle.places.proofs.lowest_free as lowest-free
@@ -34,3 +35,6 @@ decides-place-at = record { says = place-at.Reads.Learnt; is = refl; one = λ κ
 
 pub decides-move-on : Decides move-on.ended (λ M. move-on.spec)
 decides-move-on = record { says = move-on.Reads.Learnt; is = refl; one = λ κs a x y v w. same-answer }
+
+pub decides-fits : Decides fits.ended (λ M. fits.spec)
+decides-fits = record { says = fits.Reads.Learnt; is = refl; one = λ κs a x y v w. same-answer }

@@ -2,6 +2,7 @@
 use mathlib.Core.Path.{refl}
 use Rattle.profile.proofs.Profile.new as new
 use Rattle.profile.proofs.profile_ok as profile-ok
+use Rattle.profile.proofs.shares_ok as shares-ok
 use Rattle.profile.proofs.sample_profile as sample-profile
 use Rattle.profile.proofs.meaning_of as meaning-of
 use Rattle.profile.proofs.meaning_from as meaning-from
@@ -26,3 +27,6 @@ decides-list-ok = record { says = list-ok.Reads.Learnt; is = refl; one = λ κs 
 
 pub decides-meaning-from : Decides meaning-from.ended (λ M. meaning-from.spec)
 decides-meaning-from = record { says = meaning-from.Reads.Learnt; is = refl; one = λ κs a x y v w. same-answer }
+
+pub decides-shares-ok : Decides shares-ok.ended (λ M. shares-ok.spec)
+decides-shares-ok = record { says = shares-ok.Reads.Learnt; is = refl; one = λ κs a x y v w. same-answer }

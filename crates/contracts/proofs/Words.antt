@@ -2,6 +2,7 @@
 use mathlib.Core.Path.{refl}
 use Rattle.words.proofs.said as said
 use Rattle.words.proofs.said_refused as said-refused
+use Rattle.words.proofs.said_change as said-change
 use Rattle.words.proofs.said_place as said-place
 use Rattle.words.proofs.said_record as said-record
 use Rattle.contracts.specs.Outcomes.{Decides}
@@ -18,3 +19,6 @@ decides-said-place = record { says = said-place.Reads.Learnt; is = refl; one = �
 
 pub decides-said-record : Decides said-record.ended (λ M. said-record.spec)
 decides-said-record = record { says = said-record.Reads.Learnt; is = refl; one = λ κs a x y v w. same-answer }
+
+pub decides-said-change : Decides said-change.ended (λ M. said-change.spec)
+decides-said-change = record { says = said-change.Reads.Learnt; is = refl; one = λ κs a x y v w. same-answer }
