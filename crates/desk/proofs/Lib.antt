@@ -13,6 +13,7 @@ pub mod Exactly
 pub mod Breaks
 pub mod Refusals
 pub mod Changes
+pub mod ChangeCases
 pub mod SetUps
 pub mod Endings
 pub mod Cases

@@ -1,5 +1,5 @@
 -- Shares that fit what is held are shares under which the same places pass 1, and no others are. Assumes nothing.
-use Prim.Native.Nat.{ℕ, _+_, _≤_, _<_}
+use Prim.Native.Nat.{ℕ, _+_, _≤_, _<_, max}
 use mathlib.Core.Path.{_≡_, refl, sym, ap, _∙_, subst}
 use mathlib.Core.Bool.{Bool, true, false}
 use mathlib.Core.List.{List}
@@ -9,6 +9,7 @@ use borrow.Author.Tests.{leb-true, le-leb}
 use Rattle.codec.proofs.Good.{both-true, both-left, both-right}
 use Rattle.profile.specs.Counting.{every, sum}
 use Rattle.profile.specs.Rules.{shareIn}
+use Rattle.profile.specs.declared.Share.{Share}
 use Rattle.profile.specs.declared.Shares.{Shares}
 use Rattle.profile.proofs.CountLaws.{every-at}
 use Rattle.places.specs.Held.{placeIn, heldOf, usedOf, owedOf, owedAll, loadOf}
@@ -18,6 +19,11 @@ use Rattle.places.specs.declared.Place.{Place}
 use Rattle.places.proofs.SumLaws.{every-all, sum-same, sum-add}
 use Rattle.places.proofs.HeldLaws.{all-held}
 use Rattle.places.proofs.PlaceLaws.{Passes, Sound, passes, passed}
+
+pub claim-is : (shares : Shares) (l : List Place) (post : ℕ) (s : Share) (held r : ℕ) → s ≡ shareIn (shares .share) post → held ≡ heldOf l post → r ≡ max (s .reserved) held
+    → r ≡ claimOf shares l post
+unfolding claimOf
+claim-is shares l post s held r a b e = e ∙ ap (λ (x : Share). max (x .reserved) held) a ∙ ap (λ (k : ℕ). max (shareIn (shares .share) post .reserved) k) b
 
 -- where every call waits at one of the posts, all claims are all held plus all owed
 claims-load : (shares : Shares) (l : List Place) → usedOf l ≡ sum (shares .posts) (λ q. heldOf l q) → claimsOf shares l ≡ loadOf shares l

@@ -1,6 +1,6 @@
 -- Written by tools/proofs from tools/places.conf. `places::count::claim` meets its contract. Assumes nothing.
 use borrow.Author.Needs.{needs}
-use Rattle.places.specs.Fits.{claimOf}
+use Rattle.places.proofs.FitLaws.{claim-is}
 use Rattle.places.proofs.count.claim.Statement.{statement}
 use Rattle.places.proofs.count.claim.Tie as tie
 
@@ -14,8 +14,7 @@ larger-requires : tie.Need-larger-requires
 larger-requires c κs = search needs
 
 returns : tie.Need-returns
-unfolding claimOf
-returns c = rw (c .larger .ensures, ← (c .before .before .share-of .ensures), ← (c .before .held .ensures))
+returns c = claim-is _ _ _ _ _ _ (c .before .before .share-of .ensures) (c .before .held .ensures) (c .larger .ensures)
 
 pub claim-spec : {M : Type 1} → statement M
 claim-spec = tie.close (tie.spec share-of-requires held-requires larger-requires returns)
