@@ -1,5 +1,5 @@
--- New shares on the sample desk, worked out: document 02, (vi). What is held stands before the rows that are asked for; of two posts, reserved
--- number and ceiling of each. Assumes nothing.
+-- New shares on the sample desk, worked out: document 02, (vi). What is held stands before the rows that are asked for; of two posts,
+-- reserved number and ceiling of each. Assumes nothing.
 use Prim.Native.Nat.{ℕ}
 use mathlib.Core.Path.{_≡_, refl}
 use mathlib.Core.List as list

@@ -1,7 +1,7 @@
 -- New shares, return by return. Assumes nothing.
 use Prim.Native.Nat.{ℕ}
 use mathlib.Core.Path.{_≡_, refl, sym, ap, _∙_}
-use mathlib.Core.Bool.{Bool, true, false, not, cond}
+use mathlib.Core.Bool.{Bool, true, false}
 use mathlib.Core.List.{List}
 use Rattle.codec.specs.Stops.{refusal}
 use Rattle.codec.specs.declared.Stop.{Stop}

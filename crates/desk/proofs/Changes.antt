@@ -56,45 +56,40 @@ module _ (d : Desk) (rows : List Share) where
   pub exact-24 : ExactChange 24
   exact-24 = exact-change 24 (omega arith)
 
-  -- ---- what a change comes to: one of the four
+  -- ---- what a change comes to: it is refused with a number of the table, or it is taken
 
-  pub data Outcome : Type 0 where
-    by-1 : deskOk d ≡ false → changeOf d rows ≡ refusedChange d (refusal 1) → Outcome
-    by-23 : deskOk d ≡ true → sharesOk (sharesFor d rows) ≡ false → changeOf d rows ≡ refusedChange d (refusal 23) → Outcome
-    by-24 : deskOk d ≡ true → sharesOk (sharesFor d rows) ≡ true → fitsOf (sharesFor d rows) (placesOf d) ≡ false → changeOf d rows ≡ refusedChange d (refusal 24) → Outcome
-    new : deskOk d ≡ true → sharesOk (sharesFor d rows) ≡ true → fitsOf (sharesFor d rows) (placesOf d) ≡ true → changeOf d rows ≡ takenChange d (sharesFor d rows) → Outcome
+  data Outcome : Type 0 where
+    stays : (c : ℕ) → published c ≡ true → changeOf d rows ≡ refusedChange d (refusal c) → Outcome
+    changes : deskOk d ≡ true → sharesOk (sharesFor d rows) ≡ true → fitsOf (sharesFor d rows) (placesOf d) ≡ true
+        → changeOf d rows ≡ takenChange d (sharesFor d rows) → Outcome
 
   pub changed-by : (a b c : Bool) → deskOk d ≡ a → sharesOk (sharesFor d rows) ≡ b → fitsOf (sharesFor d rows) (placesOf d) ≡ c
       → changeOf d rows ≡ refusedIf (not a) 1 d (refusedIf (not b) 23 d (refusedIf (not c) 24 d (takenChange d (sharesFor d rows))))
   unfolding changeOf
   changed-by a b c e f g = rw (e, f, g) refl
 
-  pub outcome : Outcome
+  outcome : Outcome
+  unfolding published
   outcome = go (deskOk d) refl (sharesOk (sharesFor d rows)) refl (fitsOf (sharesFor d rows) (placesOf d)) refl
     where
       go : (a : Bool) → deskOk d ≡ a → (b : Bool) → sharesOk (sharesFor d rows) ≡ b → (c : Bool) → fitsOf (sharesFor d rows) (placesOf d) ≡ c → Outcome
-      go false e b f c g = by-1 e (changed-by false b c e f g)
-      go true e false f c g = by-23 e f (changed-by true false c e f g)
-      go true e true f false g = by-24 e f g (changed-by true true false e f g)
-      go true e true f true g = new e f g (changed-by true true true e f g)
+      go false e b f c g = stays 1 refl (changed-by false b c e f g)
+      go true e false f c g = stays 23 refl (changed-by true false c e f g)
+      go true e true f false g = stays 24 refl (changed-by true true false e f g)
+      go true e true f true g = changes e f g (changed-by true true true e f g)
 
   -- a refusal leaves the desk as it stood, and its number is in the table
   pub record RefusedSo : Type 0 where
     pub desk : changeOf d rows .desk ≡ d
     pub known : published (changeOf d rows .change .stop .number) ≡ true
 
-  refused-by : (c : ℕ) → published (refusal c .number) ≡ true → changeOf d rows ≡ refusedChange d (refusal c) → RefusedSo
-  refused-by c k e = record { desk = ap (λ (x : Changed). x .desk) e; known = ap (λ (x : Changed). published (x .change .stop .number)) e ∙ k }
-
   pub refused-so : changeOf d rows .change .taken ≡ false → RefusedSo
-  unfolding refusal published
+  unfolding refusal
   refused-so z = go outcome
     where
       go : Outcome → RefusedSo
-      go (by-1 a e) = refused-by 1 refl e
-      go (by-23 a b e) = refused-by 23 refl e
-      go (by-24 a b c e) = refused-by 24 refl e
-      go (new a b c e) = not-both (sym z ∙ ap (λ (x : Changed). x .change .taken) e)
+      go (stays c k e) = record { desk = ap (λ (x : Changed). x .desk) e; known = ap (λ (x : Changed). published (x .change .stop .number)) e ∙ k }
+      go (changes a b c e) = not-both (sym z ∙ ap (λ (x : Changed). x .change .taken) e)
 
   -- a change that is taken: the shares are the new ones, and the waiting calls, what goes by the air and the number of posts stay
   pub record TakenSo : Type 0 where
@@ -106,69 +101,50 @@ module _ (d : Desk) (rows : List Share) where
   pub taken-so : changeOf d rows .change .taken ≡ true → TakenSo
   taken-so z = go outcome
     where
-      never : (s : Stop) → changeOf d rows ≡ refusedChange d s → TakenSo
-      never s e = not-both (sym (ap (λ (x : Changed). x .change .taken) e) ∙ z)
-
       go : Outcome → TakenSo
-      go (by-1 a e) = never (refusal 1) e
-      go (by-23 a b e) = never (refusal 23) e
-      go (by-24 a b c e) = never (refusal 24) e
-      go (new a b c e) = record { sound = a; lawful = b; fitting = c; whole = e }
+      go (stays c k e) = not-both (sym (ap (λ (x : Changed). x .change .taken) e) ∙ z)
+      go (changes a b c e) = record { sound = a; lawful = b; fitting = c; whole = e }
 
-  -- whatever was asked, the waiting calls stay, and so does what goes by the air and the number of posts
-  pub change-places : changeOf d rows .desk .places ≡ d .places
-  unfolding newShares
-  change-places = go outcome
+  -- what holds of the desk that stays, and of the desk with the new shares, holds afterwards
+  either-way : (P : Changed → Type 0) → ((s : Stop) → P (refusedChange d s))
+      → (sharesOk (sharesFor d rows) ≡ true → fitsOf (sharesFor d rows) (placesOf d) ≡ true → P (takenChange d (sharesFor d rows))) → P (changeOf d rows)
+  either-way P one other = go outcome
     where
-      go : Outcome → changeOf d rows .desk .places ≡ d .places
-      go (by-1 a e) = ap (λ (x : Changed). x .desk .places) e
-      go (by-23 a b e) = ap (λ (x : Changed). x .desk .places) e
-      go (by-24 a b c e) = ap (λ (x : Changed). x .desk .places) e
-      go (new a b c e) = ap (λ (x : Changed). x .desk .places) e
+      go : Outcome → P (changeOf d rows)
+      go (stays c k e) = subst P (sym e) (one (refusal c))
+      go (changes a b c e) = subst P (sym e) (other b c)
+
+  -- whatever was asked, the waiting calls stay, and so does what goes by the air
+  pub change-places : changeOf d rows .desk .places ≡ d .places
+  change-places = either-way (λ (x : Changed). x .desk .places ≡ d .places) (λ s. refl) (λ b c. refl)
 
   pub change-air : changeOf d rows .desk .profile .air ≡ d .profile .air
-  change-air = go outcome
-    where
-      go : Outcome → changeOf d rows .desk .profile .air ≡ d .profile .air
-      go (by-1 a e) = ap (λ (x : Changed). x .desk .profile .air) e
-      go (by-23 a b e) = ap (λ (x : Changed). x .desk .profile .air) e
-      go (by-24 a b c e) = ap (λ (x : Changed). x .desk .profile .air) e
-      go (new a b c e) = ap (λ (x : Changed). x .desk .profile .air) e
+  change-air = either-way (λ (x : Changed). x .desk .profile .air ≡ d .profile .air) (λ s. refl) (λ b c. refl)
 
   -- the shares afterwards, by the answer alone
   pub change-shares : changeOf d rows .desk .profile .shares ≡ cond (changeOf d rows .change .taken) (sharesFor d rows) (d .profile .shares)
-  change-shares = go outcome
-    where
-      by : Changed → Type 0
-      by x = x .desk .profile .shares ≡ cond (x .change .taken) (sharesFor d rows) (d .profile .shares)
-
-      go : Outcome → by (changeOf d rows)
-      go (by-1 a e) = subst by (sym e) refl
-      go (by-23 a b e) = subst by (sym e) refl
-      go (by-24 a b c e) = subst by (sym e) refl
-      go (new a b c e) = subst by (sym e) refl
+  change-shares =
+      either-way (λ (x : Changed). x .desk .profile .shares ≡ cond (x .change .taken) (sharesFor d rows) (d .profile .shares)) (λ s. refl) (λ b c. refl)
 
   -- ---- the desk afterwards passes 1
 
+  -- the number of posts is fixed
   pub new-posts : sharesFor d rows .posts ≡ postsOf d
   unfolding newShares
   new-posts = refl
 
-  pub change-passes : deskOk d ≡ true → deskOk (changeOf d rows .desk) ≡ true
-  unfolding deskOk profileOk
-  change-passes ok = go outcome
-    where
-      stays : (s : Stop) → changeOf d rows ≡ refusedChange d s → deskOk (changeOf d rows .desk) ≡ true
-      stays s e = ap (λ (x : Changed). deskOk (x .desk)) e ∙ ok
+  pub change-lawful : profileOk (d .profile) ≡ true → profileOk (changeOf d rows .desk .profile) ≡ true
+  unfolding profileOk
+  change-lawful ok = either-way (λ (x : Changed). profileOk (x .desk .profile) ≡ true) (λ s. ok) (λ b c. both-true _ _ (both-left _ _ ok) b)
 
-      go : Outcome → deskOk (changeOf d rows .desk) ≡ true
-      go (by-1 a e) = stays (refusal 1) e
-      go (by-23 a b e) = stays (refusal 23) e
-      go (by-24 a b c e) = stays (refusal 24) e
-      go (new a b c e) =
-          ap (λ (x : Changed). deskOk (x .desk)) e
-          ∙ both-true _ _ (both-true _ _ (both-left _ _ (both-left _ _ ok)) b)
-          (fits-pass (d .profile .shares) (sharesFor d rows) (placesOf d) new-posts (both-right (profileOk (d .profile)) _ ok) c)
+  pub change-fits : placesOk (d .profile .shares) (placesOf d) ≡ true → placesOk (changeOf d rows .desk .profile .shares) (placesOf (changeOf d rows .desk)) ≡ true
+  change-fits ok =
+      either-way (λ (x : Changed). placesOk (x .desk .profile .shares) (placesOf (x .desk)) ≡ true) (λ s. ok)
+      (λ b c. fits-pass (d .profile .shares) (sharesFor d rows) (placesOf d) new-posts ok c)
+
+  pub change-passes : deskOk d ≡ true → deskOk (changeOf d rows .desk) ≡ true
+  unfolding deskOk
+  change-passes ok = both-true _ _ (change-lawful (both-left _ _ ok)) (change-fits (both-right (profileOk (d .profile)) _ ok))
 
   -- 24 comes where the desk with the new shares would not pass
   pub fits-exactly : deskOk d ≡ true → fitsOf (sharesFor d rows) (placesOf d) ≡ placesOk (sharesFor d rows) (placesOf d)

@@ -1,5 +1,5 @@
--- What posts without a console see, of what a host does: over any calls of `host::call` and `host::change_shares` on an opened desk, whose outcomes
--- are known by their contracts alone, and read from the output areas that were lent. Assumes nothing.
+-- What posts without a console see, of what a host does: over any calls of `host::call` and `host::change_shares` on an opened desk, whose
+-- outcomes are known by their contracts alone, and read from the output areas that were lent. Assumes nothing.
 use Prim.Native.Nat.{ℕ}
 use mathlib.Core.Path.{_≡_, refl, sym, ap, _∙_, subst}
 use mathlib.Core.Bool.{true}

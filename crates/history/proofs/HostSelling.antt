@@ -1,7 +1,7 @@
--- New shares in what a host does: over any calls of `host::call` and `host::change_shares` on an opened desk, whose outcomes are known by their
--- contracts alone, when a change is taken, and what a post has of one that was. Assumes nothing.
+-- New shares in what a host does: over any calls of `host::call` and `host::change_shares` on an opened desk, whose outcomes are known by
+-- their contracts alone, when a change is taken, and what a post has of one that was. Assumes nothing.
 use Prim.Native.Nat.{ℕ, _<_}
-use mathlib.Core.Path.{_≡_, refl, sym, ap, _∙_, subst}
+use mathlib.Core.Path.{_≡_, sym, ap, _∙_, subst}
 use mathlib.Core.Bool.{Bool, true, false}
 use mathlib.Core.List as list
 use mathlib.Core.List.{List}

@@ -1,5 +1,5 @@
--- Demand 3 of what a host does: over any calls of `host::call` and `host::change_shares` on an opened desk, whose outcomes are known by their
--- contracts alone, the 32 places are shared as paid for, counted from what was written down of those calls. Assumes nothing.
+-- Demand 3 of what a host does: over any calls of `host::call` and `host::change_shares` on an opened desk, whose outcomes are known by
+-- their contracts alone, the 32 places are shared as paid for, counted from what was written down of those calls. Assumes nothing.
 use Prim.Native.Nat.{ℕ, _<_, _≤_}
 use mathlib.Core.Path.{_≡_, refl, sym, ap, _∙_, subst}
 use mathlib.Core.Bool.{true}
@@ -8,6 +8,7 @@ use mathlib.Core.List.{List, [], _∷_}
 use mathlib.Core.Logic.{_⊎_}
 use denote.Ref.{now}
 use Rattle.codec.specs.Stops.{refusal}
+use Rattle.codec.proofs.Good.{both-true}
 use Rattle.profile.specs.Rules.{shareIn, profileOk}
 use Rattle.profile.specs.declared.Profile.{Profile}
 use Rattle.profile.specs.declared.Share.{Share}
@@ -26,9 +27,9 @@ use Rattle.host.specs.declared.Told.{Told}
 use Rattle.host.proofs.call as call
 use Rattle.host.proofs.change_shares as change
 use Rattle.contracts.specs.Outcomes.{Contract, sayingOf}
-use Rattle.history.specs.Histories.{Turn, Noted, call-noted, change-noted, History, stepFor, noteFor, deskBy, runOf, leftBy, sharesOf, Waiting, without, waitingOf, heldBy, freeBy, owedToOthers, isRestrictedCall, isAskedNext, IsSent}
+use Rattle.history.specs.Histories.{Turn, Noted, call-noted, change-noted, History, stepFor, noteFor, deskBy, runOf, leftBy, takesNone, sharesOf, Waiting, without, waitingOf, heldBy, freeBy, owedToOthers, isRestrictedCall, isAskedNext, IsSent}
 use Rattle.history.specs.Hosts.{Made, Promised, PromisedSale, Deed, made, sold, PromisedDeed, leaves, AllPromised, deskLeft, callOf, noteOf, historyOf, turnOf}
-use Rattle.history.proofs.RunLaws.{opened}
+use Rattle.history.proofs.RunLaws.{shares-stay, opened}
 use Rattle.history.proofs.Sharing as step
 use Rattle.history.proofs.Moving as move
 
@@ -78,6 +79,12 @@ unfolding deskLeft leftBy
 desk-left [] d a = refl
 desk-left (x ∷ deeds) d a = desk-left deeds (leaves x) (a .1) ∙ ap (λ (y : Desk). leftBy y (list.map turnOf deeds)) (left-turn d x (a .0))
 
+-- calls of `host::call` alone take no change
+pub made-take-none : (calls : List Made) → takesNone (historyOf (list.map made calls)) ≡ true
+unfolding historyOf takesNone
+made-take-none [] = refl
+made-take-none (m ∷ calls) = both-true true _ refl (made-take-none calls)
+
 -- ---- from what `Desk::open` gave
 
 module _ (p : Profile) (o : Opened) (opening : o ≡ openOf p) (found : o .found ≡ true) (deeds : List Deed) (promised : AllPromised (o .desk) deeds) where
@@ -115,6 +122,10 @@ module _ (p : Profile) (o : Opened) (opening : o ≡ openOf p) (found : o .found
 
   pub left-is : deskLeft (o .desk) deeds ≡ step.next p opens turns
   left-is = desk-left deeds (o .desk) promised ∙ ap (λ (d : Desk). leftBy d turns) desk-is
+
+  -- where no change is taken they are the profile's, and what follows is said of those
+  pub call-as-opened : takesNone (historyOf deeds) ≡ true → inForce ≡ p .shares
+  call-as-opened none = shares-stay (historyOf deeds) (p .shares) none
 
   -- no post passes its ceiling
   pub call-under-ceiling : (post : ℕ) → post < p .shares .posts → heldBy waiting post ≤ share post .ceiling

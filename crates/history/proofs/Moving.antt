@@ -1,6 +1,6 @@
 -- Demand 3 of a move (document 02, iii), over any history from an opened desk, counted from the history alone: an ACCEPT of a call that has
--- a second post goes by the same rule as a set-up, for that post, by the shares in force, with the call's own place taken as free. After a move the call proceeds
--- by the second post's ACCEPT alone. Assumes nothing.
+-- a second post goes by the same rule as a set-up, for that post, by the shares in force, with the call's own place taken as free. After a
+-- move the call proceeds by the second post's ACCEPT alone. Assumes nothing.
 use Prim.Native.Nat.{ℕ, zero, suc, _+_, _<_, _≤_}
 use mathlib.Core.Path.{_≡_, refl, sym, ap, _∙_, subst}
 use mathlib.Core.Bool.{Bool, true, false, not}
@@ -18,7 +18,6 @@ use Rattle.profile.specs.Rules.{profileOk}
 use Rattle.profile.specs.declared.Profile.{Profile}
 use Rattle.profile.specs.declared.Shares.{Shares}
 use Rattle.message.specs.Values.{identifierIn}
-use Rattle.message.specs.Reading.{readOf}
 use Rattle.message.specs.declared.Value.{Value}
 use Rattle.places.specs.Held.{placeIn, admitsOf}
 use Rattle.places.specs.Grounds.{placesOk}
@@ -34,7 +33,6 @@ use Rattle.desk.specs.declared.Answer.{Answer}
 use Rattle.desk.specs.declared.Answer.the-variants as answer
 use Rattle.desk.specs.declared.Desk.{Desk}
 use Rattle.desk.specs.declared.Event.{Event}
-use Rattle.desk.specs.declared.Event.the-variants as event
 use Rattle.desk.proofs.AnswerLaws.{step-answer}
 use Rattle.desk.proofs.Moves.{isMoved}
 use Rattle.history.specs.Histories.{Call, Turn, stepFor, Waiting, without, countBy, heldBy, freeBy, owedToOthers, isAskedNext, isAskedLast, IsSent}

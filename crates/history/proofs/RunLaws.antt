@@ -9,8 +9,7 @@ use lib.ListN.{length, take, set}
 use borrow.Author.Tests.{eqb-true}
 use Rattle.codec.specs.Codec.{Read, got, no}
 use Rattle.codec.specs.Stops.{refusal, noStop}
-use Rattle.codec.specs.declared.Stop.{Stop}
-use Rattle.codec.proofs.Good.{both-true, both-left, both-right, not-both}
+use Rattle.codec.proofs.Good.{both-left, both-right, not-both}
 use Rattle.profile.specs.Rules.{profileOk, noProfile}
 use Rattle.profile.specs.declared.Profile.{Profile}
 use Rattle.profile.specs.declared.Share.{Share}
@@ -23,25 +22,24 @@ use Rattle.places.specs.Held.{noPlace, placeIn, admitsOf}
 use Rattle.places.specs.Grounds.{placesOk}
 use Rattle.places.specs.Spots.{spotAt, placeOf, lowestFree, placeFor, takeOf, clearOf, movedOn, moveOf}
 use Rattle.places.specs.declared.Place.{Place}
+use Rattle.places.specs.declared.Places.{Places}
 use Rattle.places.specs.declared.Spot.{Spot}
-use Rattle.places.proofs.FitLaws.{fits-pass}
 use Rattle.places.proofs.HeldLaws.{set-by, none-at, length-take, length-clear, length-none}
 use Rattle.places.proofs.SpotLaws.{WaitsFirst, spot-found, lowest-free-exactly, place-of-exactly}
 use Rattle.places.proofs.MoveLaws.{move-is, length-move, clear-free, move-keeps}
 use Rattle.records.specs.Records.{noParty}
 use Rattle.places.proofs.PlaceLaws.{take-keeps, clear-keeps, none-waiting-ok}
-use Rattle.desk.specs.Changes.{newShares, sharesFor, refusedChange, changeOf}
+use Rattle.desk.specs.Changes.{newShares, changeOf}
 use Rattle.desk.specs.Desks.{deskWith, openOf}
 use Rattle.desk.specs.Orders.{placesOf}
 use Rattle.desk.specs.Steps.{nothing, begins, moves, ends, effectBy, effectOf, valueBy, identifierOf, Spoken, secondFor, causeFor, spokenOf, callFor, postOf, deskAfter}
 use Rattle.desk.specs.declared.Answer.{Answer}
 use Rattle.desk.specs.declared.Answer.the-variants as answer
-use Rattle.desk.specs.declared.Changed.{Changed}
 use Rattle.desk.specs.declared.Desk.{Desk}
 use Rattle.desk.specs.declared.Event.{Event}
 use Rattle.desk.specs.declared.Event.the-variants as event
 use Rattle.desk.specs.declared.Opened.{Opened}
-use Rattle.desk.proofs.Changes.{Outcome, by-1, by-23, by-24, new, outcome, new-posts, change-air, change-shares}
+use Rattle.desk.proofs.Changes.{change-places, change-air, change-shares, change-lawful, change-fits}
 use Rattle.desk.proofs.SetUps.{step-desk, admitted-so}
 use Rattle.desk.proofs.Endings.{isEnding, ended-waits}
 use Rattle.desk.proofs.Moves.{MovedCall, moved-so}
@@ -212,18 +210,16 @@ step-profile d c = ap (λ (x : Desk). x .profile) (step-desk d (c .rows) (c .cou
 
 -- the same calls wait, and the desk stays one that passes
 pub along-change : (d : Desk) (w : List Waiting) → Along d w → (rows : List Share) → Along (changeOf d rows .desk) w
-along-change d w a rows = go (outcome d rows)
+along-change d w a rows =
+    record {
+      size = subst (λ (x : Places). length (x .place) ≡ 32) same-places (a .size);
+      sound = change-fits d rows (a .sound);
+      same = subst (λ (x : Places). Same (x .place) w) same-places (a .same);
+      other = subst (λ (x : Places). (i : ℕ) → i < 32 → Other (placeIn (x .place) i)) same-places (a .other);
+    }
   where
-    stays : (s : Stop) → changeOf d rows ≡ refusedChange d s → Along (changeOf d rows .desk) w
-    stays s e = subst (λ (x : Changed). Along (x .desk) w) (sym e) a
-
-    go : Outcome d rows → Along (changeOf d rows .desk) w
-    go (by-1 k e) = stays (refusal 1) e
-    go (by-23 k l e) = stays (refusal 23) e
-    go (by-24 k l f e) = stays (refusal 24) e
-    go (new k l f e) =
-        subst (λ (x : Changed). Along (x .desk) w) (sym e)
-        (record { size = a .size; sound = fits-pass (d .profile .shares) (sharesFor d rows) (placesOf d) (new-posts d rows) (a .sound) f; same = a .same; other = a .other })
+    same-places : d .places ≡ changeOf d rows .desk .places
+    same-places = sym (change-places d rows)
 
 -- ---- what does not change: the part of the profile that goes by the air, and that the profile keeps the rules
 
@@ -259,17 +255,7 @@ suits-step p d s c =
     record { air = ap (λ (x : Profile). x .air) (step-profile d c) ∙ s .air; passes = ap profileOk (step-profile d c) ∙ s .passes; opens = s .opens }
 
 pub suits-change : (p : Profile) (d : Desk) → Suits p d → (rows : List Share) → Suits p (changeOf d rows .desk)
-unfolding profileOk
-suits-change p d s rows = record { air = change-air d rows ∙ s .air; passes = go (outcome d rows); opens = s .opens }
-  where
-    stays : (t : Stop) → changeOf d rows ≡ refusedChange d t → profileOk (changeOf d rows .desk .profile) ≡ true
-    stays t e = ap (λ (x : Changed). profileOk (x .desk .profile)) e ∙ s .passes
-
-    go : Outcome d rows → profileOk (changeOf d rows .desk .profile) ≡ true
-    go (by-1 k e) = stays (refusal 1) e
-    go (by-23 k l e) = stays (refusal 23) e
-    go (by-24 k l f e) = stays (refusal 24) e
-    go (new k l f e) = ap (λ (x : Changed). profileOk (x .desk .profile)) e ∙ both-true _ _ (both-left _ _ (s .passes)) l
+suits-change p d s rows = record { air = change-air d rows ∙ s .air; passes = change-lawful d rows (s .passes); opens = s .opens }
 
 -- ---- any number of turns
 

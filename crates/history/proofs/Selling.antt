@@ -4,7 +4,6 @@ use Prim.Native.Nat.{ℕ, _<_, _≤_, max}
 use mathlib.Core.Path.{_≡_, refl, sym, ap, _∙_, subst}
 use mathlib.Core.Bool.{Bool, true, false, not, cond}
 use mathlib.Core.List.{List, [], _∷_, _++_}
-use native.Mathlib.Omega.{arith}
 use lib.Dec.{leb}
 use borrow.Author.Tests.{leb-true}
 use Rattle.codec.specs.Codec.{both}
@@ -20,7 +19,7 @@ use Rattle.places.specs.Grounds.{underCeiling}
 use Rattle.places.specs.Held.{heldOf}
 use Rattle.places.proofs.SumLaws.{every-same, sum-same}
 use Rattle.records.specs.declared.Identity.{Identity}
-use Rattle.desk.specs.Changes.{newShares, sharesFor, refusedChange, takenChange, refusedIf, changeOf}
+use Rattle.desk.specs.Changes.{newShares, sharesFor, takenChange, refusedIf, changeOf}
 use Rattle.desk.specs.Desks.{deskWith}
 use Rattle.desk.specs.Orders.{postsOf, placesOf}
 use Rattle.desk.specs.declared.Answer.the-variants as answer

@@ -1,12 +1,11 @@
 -- Over histories in which no change of the shares is taken, as those of calls alone, demand 3 reads the shares that the desk was opened with:
 -- the statements of document 01 follow from those of Sharing and Moving. Assumes nothing.
 use Prim.Native.Nat.{ℕ, _<_, _≤_}
-use mathlib.Core.Path.{_≡_, refl, sym, ap, _∙_, subst}
+use mathlib.Core.Path.{_≡_, refl, sym, subst}
 use mathlib.Core.Bool.{true}
 use mathlib.Core.List as list
 use mathlib.Core.List.{List, [], _∷_}
 use mathlib.Core.Logic.{_⊎_}
-use Rattle.codec.specs.Codec.{both}
 use Rattle.codec.specs.Stops.{refusal}
 use Rattle.codec.proofs.Good.{both-true}
 use Rattle.profile.specs.Rules.{shareIn, profileOk}

@@ -29,8 +29,8 @@ pub record Made : Type 0 where
 abbrev pub Promised : Desk → Made → Type 0
 Promised d m = Called d (m .rows) (m .message) (m .area) (m .event) (m .told) (m .desk) (m .records) (m .output)
 
--- a change of the shares by `host::change_shares` that was made: what was asked for, what the host was told, and the desk afterwards; and that its
--- outcome is one that the contract allows
+-- a change of the shares by `host::change_shares` that was made: what was asked for, what the host was told, and the desk afterwards; and
+-- that its outcome is one that the contract allows
 pub record Sold : Type 0 where
   pub rows : List Share
   pub told : Change

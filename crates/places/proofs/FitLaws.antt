@@ -1,10 +1,9 @@
 -- Shares that fit what is held are shares under which the same places pass 1, and no others are. Assumes nothing.
 use Prim.Native.Nat.{ℕ, _+_, _≤_, _<_, max}
-use mathlib.Core.Path.{_≡_, refl, sym, ap, _∙_, subst}
-use mathlib.Core.Bool.{Bool, true, false}
+use mathlib.Core.Path.{_≡_, sym, ap, _∙_, subst}
+use mathlib.Core.Bool.{true}
 use mathlib.Core.List.{List}
 use native.Mathlib.Omega.{arith}
-use lib.Dec.{leb}
 use borrow.Author.Tests.{leb-true, le-leb}
 use Rattle.codec.proofs.Good.{both-true, both-left, both-right}
 use Rattle.profile.specs.Counting.{every, sum}
@@ -18,7 +17,7 @@ use Rattle.places.specs.Grounds.{underCeiling, placesOk}
 use Rattle.places.specs.declared.Place.{Place}
 use Rattle.places.proofs.SumLaws.{every-all, sum-same, sum-add}
 use Rattle.places.proofs.HeldLaws.{all-held}
-use Rattle.places.proofs.PlaceLaws.{Passes, Sound, passes, passed}
+use Rattle.places.proofs.PlaceLaws.{Sound, passes, passed}
 
 pub claim-is : (shares : Shares) (l : List Place) (post : ℕ) (s : Share) (held r : ℕ) → s ≡ shareIn (shares .share) post → held ≡ heldOf l post → r ≡ max (s .reserved) held
     → r ≡ claimOf shares l post

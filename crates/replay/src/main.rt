@@ -11,7 +11,6 @@ use desk::Event;
 use desk::Stepped;
 use places::Place;
 use places::Places;
-use profile::Profile;
 use records::Marks;
 use records::Record;
 use script::Line;

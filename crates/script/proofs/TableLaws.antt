@@ -1,6 +1,6 @@
 -- A list of sixteen, and shares of eight rows, element by element. Assumes nothing.
 use Prim.Native.Nat.{ℕ}
-use mathlib.Core.Path.{_≡_, refl, ap}
+use mathlib.Core.Path.{_≡_, ap}
 use mathlib.Core.List.{List, [], _∷_}
 use Rattle.profile.specs.declared.Meaning.{Meaning}
 use Rattle.profile.specs.declared.Share.{Share}

@@ -1,5 +1,6 @@
--- The profile of a `profile` line and the rows of a `shares` line, from the line's row of numbers. Of a profile: SS HOME U N M0 .. M15 POSTS R0 C0 [R1 C1 ..]. Every row gives a profile; one
--- that no profile can have gives one that breaks a rule, and opening a desk with it is refused with 1.
+-- The profile of a `profile` line and the rows of a `shares` line, from the line's row of numbers. Of a profile: SS HOME U N M0 .. M15
+-- POSTS R0 C0 [R1 C1 ..]. Every row gives a profile; one that no profile can have gives one that breaks a rule, and opening a desk with it
+-- is refused with 1.
 use Prim.Native.Nat.{ℕ, _+_, _-_, _/_, _%_}
 use mathlib.Core.Bool.{Bool, false, cond}
 use mathlib.Core.List.{List, [], _∷_}
