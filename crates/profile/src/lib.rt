@@ -1,5 +1,6 @@
-// The profile of one network: what is given at opening and fixed from then on (document 01, "Profile"). It has two parts: what
-// goes by the air (SS type, home extension, range values, failure reasons) and the posts' shares of the places.
+// The profile of one network: what is given at opening (document 01, "Profile"). It has two parts: what goes by the air (SS type, home
+// extension, range values, failure reasons), which is fixed from then on, and the posts' shares of the places, which a running desk may
+// change for the same posts (document 02, vi).
 //
 // `Profile::new` gives the profile, or refusal 1 exactly if a rule is broken; `profile_ok` is the same test for a profile that is
 // handed in, since its fields are public and every call checks again. `SAMPLE` is document 01's sample profile, which passes.
