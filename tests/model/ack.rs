@@ -23,11 +23,7 @@ pub struct Ack {
 
 pub fn read_ack(profile: &Profile, bits: &mut Bits) -> Result<Ack, Refusal> {
     let users = read_users(profile, bits)?;
-    let mut mask = None;
-    if bits.take(Element::MaskPresent, 1)? == 1 {
-        let width = identity_count(profile, &users);
-        mask = Some(bits.take_bits(Element::Mask, width)?);
-    }
+    let mask = read_mask(profile, &users, bits)?;
     let result = if bits.take(Element::Result, 1)? == 1 {
         AckResult::Accepted
     } else {
@@ -42,17 +38,34 @@ pub fn read_ack(profile: &Profile, bits: &mut Bits) -> Result<Ack, Refusal> {
     })
 }
 
+/// Mask present, and the mask if it is.
+pub fn read_mask(
+    profile: &Profile,
+    users: &Group,
+    bits: &mut Bits,
+) -> Result<Option<Vec<bool>>, Refusal> {
+    if bits.take(Element::MaskPresent, 1)? == 0 {
+        return Ok(None);
+    }
+    let width = identity_count(profile, users);
+    Ok(Some(bits.take_bits(Element::Mask, width)?))
+}
+
 pub fn put_ack(bits: &mut Vec<bool>, ack: &Ack) {
     put_group(bits, &ack.users);
-    put(bits, u32::from(ack.mask.is_some()), 1);
-    if let Some(mask) = &ack.mask {
-        bits.extend(mask);
-    }
+    put_mask(bits, ack.mask.as_deref());
     match ack.result {
         AckResult::Accepted => put(bits, 1, 1),
         AckResult::NotAccepted { reason } => {
             put(bits, 0, 1);
             put(bits, reason, 7);
         }
+    }
+}
+
+pub fn put_mask(bits: &mut Vec<bool>, mask: Option<&[bool]>) {
+    put(bits, u32::from(mask.is_some()), 1);
+    if let Some(mask) = mask {
+        bits.extend(mask);
     }
 }

@@ -62,7 +62,7 @@ fn of_type(dice: &mut Dice, profile: &Profile, pdu_type: u32) -> Option<Vec<bool
         NO_TYPE => draw::message(dice, profile),
         _ => draw::of_type(dice, profile, pdu_type)?,
     };
-    if (2..=5).contains(&pdu_type) && dice.one_in(6) {
+    if ((2..=5).contains(&pdu_type) || pdu_type == 9) && dice.one_in(6) {
         user_fault::faulty_ends(dice, profile, &mut message);
     }
     Some(bits_of(profile, &message))

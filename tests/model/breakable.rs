@@ -8,12 +8,13 @@ use crate::trail::{Part, OF_OPTIONS};
 pub const NO_TYPE: u32 = 0;
 
 /// Types that are carried, with their names.
-pub const MESSAGES: [(u32, &str); 14] = [
+pub const MESSAGES: [(u32, &str); 15] = [
     (2, "ACTIVATE"),
     (3, "ACTIVATE ACK"),
     (4, "DEACTIVATE"),
     (5, "DEACTIVATE ACK"),
     (8, "INTERROGATE"),
+    (9, "INTERROGATE ACK"),
     (10, "INTERCEPTED"),
     (11, "REQUEST"),
     (12, "ACCEPT"),
@@ -46,6 +47,38 @@ const USERS_AND_DISPATCHERS: &[Part] = &[
     Part::FromDispatcher,
     Part::ToDispatcher,
 ];
+const OF_INTERROGATE_ACK: &[Part] = &[
+    Part::FirstUser,
+    Part::LaterUser,
+    Part::FromUser,
+    Part::ToUser,
+    Part::FirstDispatcher,
+    Part::LaterDispatcher,
+    Part::FromDispatcher,
+    Part::ToDispatcher,
+    Part::FirstSource,
+    Part::LaterSource,
+    Part::FromSource,
+    Part::ToSource,
+    Part::FirstDestination,
+    Part::LaterDestination,
+    Part::FromDestination,
+    Part::ToDestination,
+];
+const GROUPS: &[Part] = &[
+    Part::Users,
+    Part::Dispatchers,
+    Part::Sources,
+    Part::Destinations,
+    Part::Areas,
+];
+const AREAS: &[Part] = &[
+    Part::FirstArea,
+    Part::LaterArea,
+    Part::FromArea,
+    Part::ToArea,
+];
+const FOUR_OPTIONS: &[Part] = &[Part::Option1, Part::Option2, Part::Option3, Part::Option4];
 const PARTIES: &[Part] = &[Part::Option1, Part::Option2];
 
 /// Each of them once.
@@ -93,6 +126,22 @@ pub fn rows(pdu_type: u32) -> &'static [Row] {
             (Element::Kind, ONCE),
             (Element::Ssi, ONCE),
             (Element::Extension, ONCE),
+        ],
+        9 => &[
+            (Element::Range, GROUPS),
+            (Element::Kind, OF_INTERROGATE_ACK),
+            (Element::Ssi, OF_INTERROGATE_ACK),
+            (Element::Extension, OF_INTERROGATE_ACK),
+            (Element::MaskPresent, ONCE),
+            (Element::Mask, &[Part::OfList, Part::OfRange]),
+            (Element::Result, OF_MASK),
+            (Element::Reason, OF_MASK),
+            (Element::OBit, &[Part::Accepted, Part::NotAccepted]),
+            (Element::PBit, FOUR_OPTIONS),
+            (Element::Area, AREAS),
+            (Element::BasicService, &[Part::OfCalled, Part::OfCalling]),
+            (Element::ActivationType, ONCE),
+            (Element::InterceptionType, ONCE),
         ],
         10 | 16 | 18 => &[
             (Element::Kind, ONCE),

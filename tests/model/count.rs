@@ -5,7 +5,7 @@ use crate::message::MOST_BITS;
 use std::collections::BTreeMap;
 use std::io::{self, Write};
 
-const NAMES: [&str; 14] = [
+const NAMES: [&str; 15] = [
     "ACCEPT",
     "ACCEPTED",
     "ACTIVATE",
@@ -17,12 +17,13 @@ const NAMES: [&str; 14] = [
     "DIVERTED",
     "INTERCEPTED",
     "INTERROGATE",
+    "INTERROGATE ACK",
     "REJECT",
     "REJECTED",
     "REQUEST",
 ];
 /// Those that reading under a sound profile can give.
-const REFUSALS: [u32; 10] = [3, 4, 5, 6, 7, 9, 10, 11, 12, 13];
+const REFUSALS: [u32; 11] = [3, 4, 5, 6, 7, 9, 10, 11, 12, 13, 27];
 /// No message is longer, and an element begins before the last bit that it wants.
 const POSITIONS: usize = MOST_BITS;
 

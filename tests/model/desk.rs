@@ -1,18 +1,20 @@
 //! The desk of one network and its calls, each with its refusals in document 01's order.
 //! A call changes nothing before its last refusal is past.
 
+mod interrogation;
 mod shares;
 mod waiting;
 
+pub use interrogation::State;
 pub use shares::Rows;
 pub use waiting::{posts_asked, restricted};
 
 use crate::ack::Ack;
 use crate::activate::{acks, set_marks};
-use crate::message::{read, Address, Group, Message};
+use crate::message::{read, Group, Message};
 use crate::places::{places_keep_rules, Places, ALL_FREE};
 use crate::profile::Profile;
-use crate::records::{identities_of, identity_of, record_of, records_keep_rules, Record};
+use crate::records::{identities_of, records_keep_rules, Record};
 use crate::refusal::Refusal::{self, Number};
 use crate::value::flat;
 use crate::write::write;
@@ -43,21 +45,17 @@ pub struct Desk {
     pub places: Places,
 }
 
-#[derive(Clone, Copy, PartialEq, Eq, Debug)]
-pub enum State {
-    NoRecord,
-    OtherPost,
-    Active,
-    NotActive,
-}
-
 /// Bit lengths are those of the messages in the output area.
 #[derive(Clone, PartialEq, Eq, Debug)]
 pub enum Answer {
     Acks {
         bits: Vec<usize>,
     },
-    State(State),
+    /// The plain answer beside the message that says the same.
+    State {
+        state: State,
+        bits: usize,
+    },
     Free,
     Admitted {
         post: u32,
@@ -126,6 +124,7 @@ impl Desk {
             }
             Message::ActivateAck(_)
             | Message::DeactivateAck(_)
+            | Message::InterrogateAck(_)
             | Message::Intercepted { .. }
             | Message::Request { .. }
             | Message::Accepted
@@ -161,18 +160,6 @@ impl Desk {
             bits.push(self.put(&(marking.message)(ack), area));
         }
         Ok(Answer::Acks { bits })
-    }
-
-    /// 15; neither 14 nor the output area.
-    fn interrogate(&self, lent: Lent, post: u32, user: &Address) -> Result<Answer, Refusal> {
-        self.sound_records(lent.records)?;
-        let identity = identity_of(&self.profile, user);
-        Ok(Answer::State(match record_of(lent.records, identity) {
-            None => State::NoRecord,
-            Some(number) if lent.records[number].post != post => State::OtherPost,
-            Some(number) if lent.records[number].active => State::Active,
-            Some(_) => State::NotActive,
-        }))
     }
 
     fn sound(&self) -> Result<(), Refusal> {

@@ -3,6 +3,9 @@
 
 use crate::ack::{Ack, AckResult};
 use crate::dice::Dice;
+use crate::interrogate_ack::{
+    area_count, Areas, Groups, InterrogateAck, Interrogation, FAILURE_BITS,
+};
 use crate::message::{identity_count, meaning_of, Address, Group, Message};
 use crate::profile::{Meaning, Post, Profile, MOST_POSTS, PLACES};
 use crate::request::{Options, AREA_BITS, SERVICE_BITS};
@@ -31,6 +34,8 @@ pub fn profile(dice: &mut Dice) -> Profile {
             dice.number(7)
         },
         posts: posts(dice),
+        failure_no_record: dice.number(3),
+        failure_other_post: dice.number(3),
     }
 }
 
@@ -51,7 +56,8 @@ pub fn message(dice: &mut Dice, profile: &Profile) -> Message {
         return about_waiting_call(dice, profile);
     }
     let pdu_type = dice.pick(&[
-        2, 2, 2, 3, 3, 3, 4, 4, 4, 5, 5, 5, 8, 8, 10, 10, 12, 12, 13, 13, 15, 15, 16, 16,
+        2, 2, 2, 3, 3, 3, 4, 4, 4, 5, 5, 5, 8, 8, 9, 9, 9, 9, 10, 10, 12, 12, 13, 13, 15, 15, 16,
+        16,
     ]);
     of_type(dice, profile, pdu_type).unwrap_or(Message::Accepted)
 }
@@ -60,7 +66,7 @@ pub fn message(dice: &mut Dice, profile: &Profile) -> Message {
 /// range value that users may have.
 pub fn of_type(dice: &mut Dice, profile: &Profile, pdu_type: u32) -> Option<Message> {
     Some(match pdu_type {
-        2..=5 => return about_users(dice, profile, pdu_type),
+        2..=5 | 9 => return about_users(dice, profile, pdu_type),
         8 => Message::Interrogate {
             user: address(dice, profile),
         },
@@ -98,7 +104,7 @@ pub fn of_type(dice: &mut Dice, profile: &Profile, pdu_type: u32) -> Option<Mess
     })
 }
 
-/// ACTIVATE, its ACK, DEACTIVATE or its ACK; nothing if the profile has no range value that users
+/// ACTIVATE, its ACK, DEACTIVATE, its ACK or INTERROGATE ACK; nothing if the profile has no range value that users
 /// may have.
 pub fn about_users(dice: &mut Dice, profile: &Profile, pdu_type: u32) -> Option<Message> {
     let users = users(dice, profile)?;
@@ -109,6 +115,7 @@ pub fn about_users(dice: &mut Dice, profile: &Profile, pdu_type: u32) -> Option<
         },
         3 => Message::ActivateAck(ack(dice, profile, users)),
         4 => Message::Deactivate { users },
+        9 => Message::InterrogateAck(interrogate_ack(dice, profile, users)),
         _ => Message::DeactivateAck(ack(dice, profile, users)),
     })
 }
@@ -139,14 +146,78 @@ fn options(dice: &mut Dice, profile: &Profile) -> Options {
     }
 }
 
-fn ack(dice: &mut Dice, profile: &Profile, users: Group) -> Ack {
-    let count = identity_count(profile, &users);
-    let mask = match dice.below(6) {
+/// Any choice of the four groups; none, all and just one come more often than the others.
+pub fn interrogate_ack(dice: &mut Dice, profile: &Profile, users: Group) -> InterrogateAck {
+    let mask = mask(dice, profile, &users);
+    let result = if dice.one_in(2) {
+        Interrogation::Accepted {
+            activation: dice.number(1),
+            interception: dice.number(1),
+            called_service: dice.number(SERVICE_BITS),
+            calling_service: dice.number(SERVICE_BITS),
+        }
+    } else {
+        Interrogation::NotAccepted {
+            reason: dice.number(FAILURE_BITS),
+        }
+    };
+    let chosen = match dice.below(6) {
+        0 => 0,
+        1 | 2 => 15,
+        3 => 1 << dice.below(4),
+        _ => dice.number(4),
+    };
+    let ranges = ranges(profile);
+    let there = |option: u32| (chosen >> option) & 1 == 1;
+    let mut some_group = |option| match there(option) {
+        true => group(dice, profile, &ranges),
+        false => None,
+    };
+    let groups = Groups {
+        dispatchers: some_group(0),
+        sources: some_group(1),
+        destinations: some_group(2),
+        areas: there(3).then(|| areas(dice, profile, &ranges)).flatten(),
+    };
+    InterrogateAck {
+        users,
+        mask,
+        result,
+        groups,
+    }
+}
+
+/// Nothing if there is no such range.
+fn areas(dice: &mut Dice, profile: &Profile, ranges: &[u32]) -> Option<Areas> {
+    if ranges.is_empty() {
+        return None;
+    }
+    let range = dice.pick(ranges);
+    let mut areas: Vec<u32> = (0..area_count(meaning_of(profile, range))?)
+        .map(|_| dice.number(AREA_BITS))
+        .collect();
+    if meaning_of(profile, range) == Meaning::FirstAndLast {
+        match dice.below(4) {
+            0 => areas[1] = areas[0],
+            1 => areas = vec![0, 15],
+            _ => areas.sort(),
+        }
+    }
+    Some(Areas { range, areas })
+}
+
+fn mask(dice: &mut Dice, profile: &Profile, users: &Group) -> Option<Vec<bool>> {
+    let count = identity_count(profile, users);
+    match dice.below(6) {
         0 => Some(vec![false; count]),
         1 => Some(vec![true; count]),
         2 | 3 => Some(dice.bits(count)),
         _ => None,
-    };
+    }
+}
+
+fn ack(dice: &mut Dice, profile: &Profile, users: Group) -> Ack {
+    let mask = mask(dice, profile, &users);
     let result = if dice.one_in(2) {
         AckResult::Accepted
     } else {
@@ -183,10 +254,14 @@ fn dispatchers(dice: &mut Dice, profile: &Profile) -> Option<Group> {
     if dice.one_in(3) {
         return None;
     }
-    let ranges: Vec<u32> = (0..16)
+    group(dice, profile, &ranges(profile))
+}
+
+/// Those that any group may have but the users'.
+fn ranges(profile: &Profile) -> Vec<u32> {
+    (0..16)
         .filter(|range| meaning_of(profile, *range) != Meaning::Reserved)
-        .collect();
-    group(dice, profile, &ranges)
+        .collect()
 }
 
 fn group(dice: &mut Dice, profile: &Profile, ranges: &[u32]) -> Option<Group> {

@@ -2,7 +2,7 @@
 //! Each has one name wherever it stands: an area is the calling's or the called's, a cause is that
 //! of an interception or of a rejection.
 
-/// In the order of their numbers, which start at 1. 18 to 20 are for messages not carried yet.
+/// In the order of their numbers, which start at 1. 20 is for a message not carried yet.
 #[derive(Clone, Copy, PartialEq, Eq, PartialOrd, Ord, Debug)]
 pub enum Element {
     SsType = 1,
@@ -23,10 +23,12 @@ pub enum Element {
     Mni,
     Area,
     BasicService,
+    ActivationType,
+    InterceptionType,
 }
 
 /// The name of element n is at n - 1.
-pub const NAMES: [&str; 17] = [
+pub const NAMES: [&str; 19] = [
     "ss-type",
     "pdu-type",
     "range",
@@ -44,6 +46,8 @@ pub const NAMES: [&str; 17] = [
     "mni",
     "area",
     "basic-service",
+    "activation-type",
+    "interception-type",
 ];
 
 impl Element {

@@ -10,8 +10,8 @@ use crate::request::Options;
 use crate::user_fault::groups_of;
 use crate::write::{bits_of, elements};
 
-const NOT_CARRIED: [u32; 3] = [6, 7, 9];
-const CARRIED: [u32; 14] = [2, 3, 4, 5, 8, 10, 11, 12, 13, 14, 15, 16, 17, 18];
+const NOT_CARRIED: [u32; 2] = [6, 7];
+const CARRIED: [u32; 15] = [2, 3, 4, 5, 8, 9, 10, 11, 12, 13, 14, 15, 16, 17, 18];
 
 pub fn sound(dice: &mut Dice, profile: &Profile) -> Vec<bool> {
     bits_of(profile, &draw::message(dice, profile))

@@ -9,7 +9,7 @@ use crate::value::flat;
 use crate::write::write;
 use std::slice;
 
-/// Reads a message; its value fills the first 241 bytes of the value area, which may be longer.
+/// Reads a message; its value fills the first 471 bytes of the value area, which may be longer.
 pub fn cad_read(profile: &[u8], message: &[u8], bits: usize, value: &mut [u8]) -> u32 {
     answer_of(try_read(profile, message, bits, value))
 }

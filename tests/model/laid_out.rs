@@ -43,6 +43,17 @@ const ACCEPTED: Row = &[(Result, 1, 1)];
 const REASON: Row = &[(Result, 0, 1), (Reason, 2, 7)];
 const NO_MASK: Row = &[(MaskPresent, 0, 1)];
 
+/// Accepted, with what follows; not accepted, with its reason.
+const STATE: Row = &[
+    (Result, 1, 1),
+    (ActivationType, 1, 1),
+    (InterceptionType, 0, 1),
+    (BasicService, 0, 2),
+    (BasicService, 3, 2),
+];
+const FAILURE: Row = &[(Result, 0, 1), (Reason, 5, 3)];
+const RANGES: [Row; 3] = [FIRST_AND_LAST, FAR, FAR_64TH];
+
 const CALL: Row = &[(Identifier, 5, 14)];
 const CAUSE: Row = &[(Cause, 2, 5)];
 
@@ -156,4 +167,59 @@ fn requests() -> Vec<Shape> {
         }
     }
     shapes
+}
+
+/// INTERROGATE ACK: each group absent, "none", a list and a range, each of both kinds of address.
+pub fn interrogations() -> Vec<Shape> {
+    let mask = |mask, width| [(MaskPresent, 1, 1), (Mask, mask, width)];
+    let (list, range): (Row, Row) = (&[LIST_OF_3, FAR, USER, FAR_64TH].concat(), &RANGES.concat());
+    let far_list: Row = &[LIST_OF_2, FAR, FAR_64TH].concat();
+    let home_range: Row = &[FIRST_AND_LAST, USER, LATER].concat();
+    let areas: Row = &[(Range, 3, 4), (Area, 1, 4), (Area, 15, 4), (Area, 0, 4)];
+    let area_range: Row = &[(Range, 15, 4), (Area, 3, 4), (Area, 5, 4)];
+    let one_area_twice: Row = &[(Range, 15, 4), (Area, 7, 4), (Area, 7, 4)];
+    let one: Row = &[LIST_OF_1, USER].concat();
+
+    let rows: [(&[Row], [Row; 4]); 9] = [
+        (&[one, NO_MASK, FAILURE], [&[]; 4]),
+        (&[home_range, NO_MASK, STATE], [&[]; 4]),
+        (
+            &[list, &mask(0b010, 3), FAILURE],
+            [list, far_list, list, areas],
+        ),
+        (
+            &[range, &mask(u64::MAX - 1, 64), STATE],
+            [range, range, range, area_range],
+        ),
+        (&[one, &mask(1, 1), STATE], [NONE, NONE, NONE, NONE]),
+        (
+            &[far_list, NO_MASK, FAILURE],
+            [&[], &[], &[], one_area_twice],
+        ),
+        (&[one, NO_MASK, STATE], [&[], home_range, &[], NONE]),
+        (&[one, NO_MASK, STATE], [far_list, &[], home_range, &[]]),
+        (
+            &[home_range, NO_MASK, FAILURE],
+            [home_range, &[], one, areas],
+        ),
+    ];
+    rows.map(|(before, groups)| interrogation(before, groups))
+        .into()
+}
+
+/// Without any group there is an O-bit of 0 alone.
+fn interrogation(before: &[Row], groups: [Row; 4]) -> Shape {
+    let mut rows = before.to_vec();
+    if groups.iter().all(|group| group.is_empty()) {
+        rows.push(O_BIT_0);
+    } else {
+        rows.push(O_BIT_1);
+        for group in groups {
+            match group.is_empty() {
+                true => rows.push(P_BIT_0),
+                false => rows.extend([P_BIT_1, group]),
+            }
+        }
+    }
+    shape("INTERROGATE ACK", 9, &rows)
 }

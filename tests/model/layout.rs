@@ -1,12 +1,12 @@
 //! The bytes in which a profile and a value cross to a C program, and back; numbers are
-//! big-endian. A profile has 39 bytes, a value 241; no other bytes are one.
+//! big-endian. A profile has 41 bytes, a value 471; no other bytes are one.
 
 use crate::message::Address;
 use crate::profile::{Meaning, Post, Profile, MOST_POSTS};
-use crate::value::{FlatGroup, Value, MOST_ADDRESSES};
+use crate::value::{FlatAreas, FlatGroup, Value, MOST_ADDRESSES};
 
-pub const PROFILE_BYTES: usize = 39;
-pub const VALUE_BYTES: usize = 241;
+pub const PROFILE_BYTES: usize = 41;
+pub const VALUE_BYTES: usize = 471;
 
 /// What request (iv) appended to a value's 228 bytes: the marks of REQUEST's second to seventh
 /// option, its MNI, and two areas and two services, each the calling's first.
@@ -14,6 +14,15 @@ const FURTHER: usize = 228;
 const MNI: usize = 234;
 const AREAS: usize = 237;
 const SERVICES: usize = 239;
+
+/// What request (viii) appended: to a profile's 39 bytes the two failure reasons, to a value's 241
+/// activation type, interception type, two groups of addresses, and one of areas.
+const FAILURES: usize = 39;
+const ACTIVATION: usize = 241;
+const INTERCEPTION: usize = 242;
+const SOURCES: usize = 243;
+const DESTINATIONS: usize = 349;
+const RESTRICTED: usize = 455;
 
 const NOBODY: u8 = 16;
 const FIRST_AND_LAST: u8 = 17;
@@ -49,6 +58,8 @@ pub fn read_profile(bytes: &[u8]) -> Option<Profile> {
         reason_no_record: u32::from(bytes[4]),
         reason_other_post: u32::from(bytes[5]),
         posts,
+        failure_no_record: u32::from(bytes[FAILURES]),
+        failure_other_post: u32::from(bytes[FAILURES + 1]),
     };
     if profile.keeps_rules() {
         Some(profile)
@@ -77,7 +88,9 @@ pub fn profile_bytes(profile: &Profile) -> Vec<u8> {
         put(&mut bytes, post.reserved, 1);
         put(&mut bytes, post.ceiling, 1);
     }
-    bytes.resize(PROFILE_BYTES, 0);
+    bytes.resize(FAILURES, 0);
+    put(&mut bytes, profile.failure_no_record, 1);
+    put(&mut bytes, profile.failure_other_post, 1);
     bytes
 }
 
@@ -111,6 +124,11 @@ pub fn read_value(bytes: &[u8]) -> Option<Value> {
         mni: number(&bytes[MNI..AREAS]),
         areas: [AREAS, AREAS + 1].map(|at| u32::from(bytes[at])),
         services: [SERVICES, SERVICES + 1].map(|at| u32::from(bytes[at])),
+        activation: u32::from(bytes[ACTIVATION]),
+        interception: u32::from(bytes[INTERCEPTION]),
+        sources: read_group(&bytes[SOURCES..DESTINATIONS]),
+        destinations: read_group(&bytes[DESTINATIONS..RESTRICTED]),
+        restricted: read_areas(&bytes[RESTRICTED..]),
     })
 }
 
@@ -133,6 +151,14 @@ pub fn value_bytes(value: &Value) -> Vec<u8> {
     put(&mut bytes, value.mni, 3);
     for number in value.areas.iter().chain(&value.services) {
         put(&mut bytes, *number, 1);
+    }
+    put(&mut bytes, value.activation, 1);
+    put(&mut bytes, value.interception, 1);
+    put_group(&mut bytes, &value.sources);
+    put_group(&mut bytes, &value.destinations);
+    put(&mut bytes, value.restricted.range, 1);
+    for area in value.restricted.areas {
+        put(&mut bytes, area, 1);
     }
     bytes
 }
@@ -177,6 +203,18 @@ fn put_group(bytes: &mut Vec<u8>, group: &FlatGroup) {
         put(bytes, address.ssi, 3);
         put(bytes, address.extension, 3);
     }
+}
+
+/// A range number and fifteen areas of a byte.
+fn read_areas(bytes: &[u8]) -> FlatAreas {
+    let mut areas = FlatAreas {
+        range: u32::from(bytes[0]),
+        ..FlatAreas::default()
+    };
+    for (area, byte) in areas.areas.iter_mut().zip(&bytes[1..]) {
+        *area = u32::from(*byte);
+    }
+    areas
 }
 
 /// Identity i is bit 7 - i mod 8 of byte i div 8.

@@ -4,6 +4,7 @@ pub mod ack;
 pub mod bits;
 pub mod element;
 pub mod interface;
+pub mod interrogate_ack;
 pub mod layout;
 pub mod message;
 pub mod profile;

@@ -4,7 +4,7 @@
 use crate::hex::{hex_of, read_hex};
 
 const MOST_LENGTH_DIGITS: usize = 4;
-const MOST_HEX_DIGITS: usize = 512;
+const MOST_HEX_DIGITS: usize = 1024;
 
 /// LF ends a line. What follows the last LF is a line too, unless it is empty.
 pub fn lines_of(input: &[u8]) -> Vec<&[u8]> {
@@ -40,7 +40,7 @@ fn read_length(digits: &[u8]) -> Option<usize> {
     Some(length)
 }
 
-/// The line for a bit length and bytes; of the right shape up to 9,999 bits and 256 bytes.
+/// The line for a bit length and bytes; of the right shape up to 9,999 bits and 512 bytes.
 pub fn line_of(length: usize, bytes: &[u8]) -> Vec<u8> {
     format!("{length} {}", hex_of(bytes)).into_bytes()
 }

@@ -21,6 +21,7 @@ mod generate;
 mod hex;
 mod history;
 mod interface;
+mod interrogate_ack;
 mod laid_out;
 mod layout;
 mod line;

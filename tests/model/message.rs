@@ -5,11 +5,12 @@
 use crate::ack::{read_ack, Ack};
 use crate::bits::Bits;
 use crate::element::Element;
+use crate::interrogate_ack::{read_interrogate_ack, InterrogateAck};
 use crate::profile::{Meaning, Profile};
 use crate::refusal::Refusal::{self, Number};
 use crate::request::{read_options, Options};
 
-pub const MOST_BITS: usize = 2048;
+pub const MOST_BITS: usize = 4096;
 pub const MOST_IDENTITIES: u32 = 64;
 
 /// `extension` is 0 with kind 1, which doesn't carry one.
@@ -41,6 +42,7 @@ pub enum Message {
     Interrogate {
         user: Address,
     },
+    InterrogateAck(InterrogateAck),
     Intercepted {
         cause: u32,
         dispatcher: Option<Address>,
@@ -84,6 +86,7 @@ impl Message {
             Message::Deactivate { .. } => 4,
             Message::DeactivateAck(_) => 5,
             Message::Interrogate { .. } => 8,
+            Message::InterrogateAck(_) => 9,
             Message::Intercepted { .. } => 10,
             Message::Accept { .. } => 12,
             Message::Accepted => 13,
@@ -103,6 +106,7 @@ impl Message {
             Message::Deactivate { .. } => "DEACTIVATE",
             Message::DeactivateAck(_) => "DEACTIVATE ACK",
             Message::Interrogate { .. } => "INTERROGATE",
+            Message::InterrogateAck(_) => "INTERROGATE ACK",
             Message::Intercepted { .. } => "INTERCEPTED",
             Message::Accept { .. } => "ACCEPT",
             Message::Accepted => "ACCEPTED",
@@ -149,6 +153,9 @@ fn read_elements(profile: &Profile, bits: &mut Bits) -> Result<Message, Refusal>
         8 => Ok(Message::Interrogate {
             user: read_address(bits)?,
         }),
+        9 => Ok(Message::InterrogateAck(read_interrogate_ack(
+            profile, bits,
+        )?)),
         10 => Ok(Message::Intercepted {
             cause: bits.take(Element::Cause, 5)?,
             dispatcher: read_optional_address(bits)?,
@@ -180,7 +187,7 @@ fn read_elements(profile: &Profile, bits: &mut Bits) -> Result<Message, Refusal>
             cause: bits.take(Element::Cause, 5)?,
             dispatcher: read_optional_address(bits)?,
         }),
-        // 6, 7 and 9: the CAD types that are not carried yet.
+        // 6 and 7: the CAD types that are not carried yet.
         _ => Err(Number(7)),
     }
 }
@@ -218,28 +225,39 @@ pub fn read_users(profile: &Profile, bits: &mut Bits) -> Result<Group, Refusal> 
     if meaning_of(profile, range) == Meaning::NoIdentity {
         return Err(Number(9));
     }
-    read_addresses(profile, range, bits)
+    read_addresses(profile, range, bits, read_address)
 }
 
-/// A group that may be "none", as the dispatchers may.
-fn read_group(profile: &Profile, bits: &mut Bits) -> Result<Group, Refusal> {
+/// A group that may be "none", as all may but the users.
+pub fn read_group(profile: &Profile, bits: &mut Bits) -> Result<Group, Refusal> {
     let range = bits.take(Element::Range, 4)?;
-    read_addresses(profile, range, bits)
+    read_addresses(profile, range, bits, read_address)
 }
 
-fn read_addresses(profile: &Profile, range: u32, bits: &mut Bits) -> Result<Group, Refusal> {
+/// The same, with 27 where one of them is an external number.
+pub fn read_destinations(profile: &Profile, bits: &mut Bits) -> Result<Group, Refusal> {
+    let range = bits.take(Element::Range, 4)?;
+    read_addresses(profile, range, bits, read_destination)
+}
+
+fn read_addresses(
+    profile: &Profile,
+    range: u32,
+    bits: &mut Bits,
+    read_one: fn(&mut Bits) -> Result<Address, Refusal>,
+) -> Result<Group, Refusal> {
     let mut addresses = Vec::new();
     match meaning_of(profile, range) {
         Meaning::Reserved => return Err(Number(9)),
         Meaning::NoIdentity => {}
         Meaning::List(count) => {
             for _ in 0..count {
-                addresses.push(read_address(bits)?);
+                addresses.push(read_one(bits)?);
             }
         }
         Meaning::FirstAndLast => {
-            let first = read_address(bits)?;
-            let last = read_address(bits)?;
+            let first = read_one(bits)?;
+            let last = read_one(bits)?;
             if !are_range_ends(&first, &last) {
                 return Err(Number(11));
             }
@@ -260,9 +278,21 @@ pub fn are_range_ends(first: &Address, last: &Address) -> bool {
 }
 
 pub fn read_address(bits: &mut Bits) -> Result<Address, Refusal> {
+    read_address_or(bits, 10)
+}
+
+/// Kind 3 is an external number, which only a destination may be; it isn't carried.
+fn read_destination(bits: &mut Bits) -> Result<Address, Refusal> {
+    read_address_or(bits, 27)
+}
+
+/// `external` is the refusal of kind 3.
+fn read_address_or(bits: &mut Bits, external: u8) -> Result<Address, Refusal> {
     let kind = bits.take(Element::Kind, 2)?;
-    if kind == 0 || kind == 3 {
-        return Err(Number(10));
+    match kind {
+        0 => return Err(Number(10)),
+        3 => return Err(Number(external)),
+        _ => {}
     }
     let ssi = bits.take(Element::Ssi, 24)?;
     let extension = if kind == 2 {

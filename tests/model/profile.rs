@@ -31,6 +31,9 @@ pub struct Profile {
     /// N, the failure reason for another post's user.
     pub reason_other_post: u32,
     pub posts: Vec<Post>,
+    /// INTERROGATE ACK's failure reasons for the same two, 3 bits each.
+    pub failure_no_record: u32,
+    pub failure_other_post: u32,
 }
 
 impl Profile {
@@ -40,6 +43,8 @@ impl Profile {
             && self.meanings.iter().all(meaning_keeps_rules)
             && self.reason_no_record <= 127
             && self.reason_other_post <= 127
+            && self.failure_no_record <= 7
+            && self.failure_other_post <= 7
             && !self.posts.is_empty()
             && self.posts.len() <= MOST_POSTS
             && shares_keep_rules(&self.posts)
@@ -87,5 +92,7 @@ pub fn sample() -> Profile {
                 ceiling: 8,
             },
         ],
+        failure_no_record: 1,
+        failure_other_post: 2,
     }
 }

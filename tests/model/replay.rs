@@ -166,7 +166,9 @@ fn words(outcome: Result<Answer, Refusal>, output: &[u8]) -> String {
             }
             words.join(" ")
         }
-        Ok(Answer::State(state)) => format!("state {}", state_word(state)),
+        Ok(Answer::State { state, bits }) => {
+            format!("state {} {bits} {}", state_word(state), hex(0, bits))
+        }
         Ok(Answer::Free) => "free".to_string(),
         Ok(Answer::Admitted {
             post,

@@ -44,7 +44,7 @@ pub fn read_options(bits: &mut Bits) -> Result<Options, Refusal> {
     Ok(options)
 }
 
-fn read_behind_p_bit<T>(
+pub fn read_behind_p_bit<T>(
     bits: &mut Bits,
     read: impl Fn(&mut Bits) -> Result<T, Refusal>,
 ) -> Result<Option<T>, Refusal> {

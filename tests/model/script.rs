@@ -10,9 +10,11 @@ use crate::records::{Identity, Record};
 
 pub const MOST_OUTPUT: usize = 300;
 const MOST_DIGITS: usize = 10;
-const MOST_HEX_DIGITS: usize = 512;
+const MOST_HEX_DIGITS: usize = 1024;
 /// SS type, home, U, N, sixteen meanings, number of posts.
 const NUMBERS_BEFORE_POSTS: usize = 21;
+/// Those of the sample profile.
+const FAILURES_LEFT_OUT: [u32; 2] = [1, 2];
 /// A number of new shares that is larger counts as this one.
 const MOST_OF_SHARE: u32 = 255;
 
@@ -152,9 +154,17 @@ fn set_up(parties: &[u32], identifier: u32, cause: u32) -> Line {
     }
 }
 
+/// A pair more than POSTS says, which is 1 to 8, is the two failure reasons of INTERROGATE ACK.
 fn read_profile_line(numbers: &[u32]) -> Option<Line> {
-    let posts = read_pairs(numbers.get(NUMBERS_BEFORE_POSTS..)?)?;
-    Some(Line::Profile(profile_of(numbers, posts)))
+    let mut shares = numbers.get(NUMBERS_BEFORE_POSTS..)?;
+    let mut failures = FAILURES_LEFT_OUT;
+    let posts = numbers[NUMBERS_BEFORE_POSTS - 1] as usize;
+    if (1..=MOST_POSTS).contains(&posts) && shares.len() == 2 * posts + 2 {
+        failures = [shares[2 * posts], shares[2 * posts + 1]];
+        shares = &shares[..2 * posts];
+    }
+    let posts = read_pairs(shares)?;
+    Some(Line::Profile(profile_of(numbers, posts, failures)))
 }
 
 /// 1 to 8 pairs of a reserved number and a ceiling.
@@ -181,7 +191,7 @@ fn rows_of(posts: &[Post]) -> Rows {
     rows
 }
 
-fn profile_of(numbers: &[u32], posts: Vec<Post>) -> Option<Profile> {
+fn profile_of(numbers: &[u32], posts: Vec<Post>, failures: [u32; 2]) -> Option<Profile> {
     let mut meanings = [Meaning::Reserved; 16];
     for (range, meaning) in meanings.iter_mut().enumerate() {
         *meaning = read_meaning(u8::try_from(numbers[4 + range]).ok()?)?;
@@ -193,6 +203,8 @@ fn profile_of(numbers: &[u32], posts: Vec<Post>) -> Option<Profile> {
         reason_no_record: numbers[2],
         reason_other_post: numbers[3],
         posts,
+        failure_no_record: failures[0],
+        failure_other_post: failures[1],
     };
     if profile.keeps_rules() && numbers[20] as usize == profile.posts.len() {
         Some(profile)

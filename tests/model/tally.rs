@@ -26,7 +26,7 @@ const ANSWERS: [&str; 17] = [
     "not understood",
 ];
 /// Those that a desk can give; 22 is for writing.
-const REFUSALS: [RangeInclusive<u32>; 2] = [1..=21, 23..=24];
+const REFUSALS: [RangeInclusive<u32>; 3] = [1..=21, 23..=24, 26..=27];
 
 /// Prints the counts, answers before refusals; false if one never came or isn't known.
 pub fn tally(replay: &[u8], out: &mut dyn Write) -> io::Result<bool> {

@@ -34,10 +34,29 @@ named! { Part, PARTS:
     LaterDispatcher: "later in a list of dispatchers",
     FromDispatcher: "first of a range of dispatchers",
     ToDispatcher: "last of a range of dispatchers",
+    Sources: "of the sources",
+    FirstSource: "first in a list of sources",
+    LaterSource: "later in a list of sources",
+    FromSource: "first of a range of sources",
+    ToSource: "last of a range of sources",
+    Destinations: "of the destinations",
+    FirstDestination: "first in a list of destinations",
+    LaterDestination: "later in a list of destinations",
+    FromDestination: "first of a range of destinations",
+    ToDestination: "last of a range of destinations",
+    Areas: "of the areas",
+    FirstArea: "first in a list of areas",
+    LaterArea: "later in a list of areas",
+    FromArea: "first of a range of areas",
+    ToArea: "last of a range of areas",
     OfList: "of a list",
     OfRange: "of a range",
     WithoutMask: "without a mask",
     BehindMask: "behind a mask",
+    OfCalled: "of the called",
+    OfCalling: "of the calling",
+    Accepted: "behind accepted",
+    NotAccepted: "behind not accepted",
     Option1: "option 1",
     Option2: "option 2",
     Option3: "option 3",
@@ -66,6 +85,18 @@ const OF_DISPATCHERS: [Part; 4] = [
     Part::FromDispatcher,
     Part::ToDispatcher,
 ];
+const OF_SOURCES: [Part; 4] = [
+    Part::FirstSource,
+    Part::LaterSource,
+    Part::FromSource,
+    Part::ToSource,
+];
+const OF_DESTINATIONS: [Part; 4] = [
+    Part::FirstDestination,
+    Part::LaterDestination,
+    Part::FromDestination,
+    Part::ToDestination,
+];
 pub const OF_OPTIONS: [Part; 7] = [
     Part::Option1,
     Part::Option2,
@@ -82,8 +113,13 @@ enum Item {
     Address,
     Users,
     Dispatchers,
+    Sources,
+    Destinations,
+    Areas,
     Mask,
     Result,
+    /// The result of an interrogation, and what belongs to it.
+    Interrogation,
     /// One O-bit, and a P-bit before each.
     Options(&'static [Item]),
 }
@@ -98,6 +134,17 @@ fn items(pdu_type: u32) -> &'static [Item] {
         3 | 5 => &[Item::Users, Item::Mask, Item::Result],
         4 => &[Item::Users],
         8 => &[Item::Address],
+        9 => &[
+            Item::Users,
+            Item::Mask,
+            Item::Interrogation,
+            Item::Options(&[
+                Item::Dispatchers,
+                Item::Sources,
+                Item::Destinations,
+                Item::Areas,
+            ]),
+        ],
         10 | 16 | 18 => &[CAUSE, Item::Options(&[Item::Address])],
         11 => &[
             IDENTIFIER,
@@ -130,6 +177,7 @@ pub fn trail(profile: &Profile, bytes: &[u8], length: usize) -> Vec<Span> {
         identities: 0,
         of_mask: Part::OfList,
         masked: false,
+        of_o_bit: Part::Once,
     };
     // Where the walk stops is what the spans say.
     let _ = walk.message();
@@ -145,6 +193,7 @@ struct Walk<'a> {
     identities: usize,
     of_mask: Part,
     masked: bool,
+    of_o_bit: Part,
 }
 
 impl Walk<'_> {
@@ -167,10 +216,13 @@ impl Walk<'_> {
             Item::Address => self.address(part).map(|_| ()),
             Item::Users => {
                 let addresses = self.group(Part::Users, OF_USERS)?;
-                // "None" is for dispatchers alone.
+                // "None" is for all but the users.
                 (addresses > 0).then_some(())
             }
             Item::Dispatchers => self.group(Part::Dispatchers, OF_DISPATCHERS).map(|_| ()),
+            Item::Sources => self.group(Part::Sources, OF_SOURCES).map(|_| ()),
+            Item::Destinations => self.group(Part::Destinations, OF_DESTINATIONS).map(|_| ()),
+            Item::Areas => self.areas(),
             Item::Mask => {
                 self.masked = self.pass(Part::Once, Element::MaskPresent, 1)? == 1;
                 if self.masked {
@@ -179,13 +231,23 @@ impl Walk<'_> {
                 Some(())
             }
             Item::Result => {
-                let part = if self.masked {
-                    Part::BehindMask
-                } else {
-                    Part::WithoutMask
-                };
+                let part = self.of_result();
                 if self.pass(part, Element::Result, 1)? == 0 {
                     self.pass(part, Element::Reason, 7)?;
+                }
+                Some(())
+            }
+            Item::Interrogation => {
+                let part = self.of_result();
+                if self.pass(part, Element::Result, 1)? == 0 {
+                    self.of_o_bit = Part::NotAccepted;
+                    self.pass(part, Element::Reason, 3)?;
+                } else {
+                    self.of_o_bit = Part::Accepted;
+                    self.pass(Part::Once, Element::ActivationType, 1)?;
+                    self.pass(Part::Once, Element::InterceptionType, 1)?;
+                    self.pass(Part::OfCalled, Element::BasicService, 2)?;
+                    self.pass(Part::OfCalling, Element::BasicService, 2)?;
                 }
                 Some(())
             }
@@ -193,8 +255,16 @@ impl Walk<'_> {
         }
     }
 
+    fn of_result(&self) -> Part {
+        if self.masked {
+            Part::BehindMask
+        } else {
+            Part::WithoutMask
+        }
+    }
+
     fn options(&mut self, options: &[Item]) -> Option<()> {
-        if self.pass(Part::Once, Element::OBit, 1)? == 0 {
+        if self.pass(self.of_o_bit, Element::OBit, 1)? == 0 {
             return Some(());
         }
         let mut some_there = false;
@@ -238,6 +308,26 @@ impl Walk<'_> {
                 self.identities = identities as usize;
                 self.of_mask = Part::OfRange;
                 Some(2)
+            }
+        }
+    }
+
+    fn areas(&mut self) -> Option<()> {
+        let range = self.pass(Part::Areas, Element::Range, 4)?;
+        match self.profile.meanings[range as usize] {
+            Meaning::Reserved => None,
+            Meaning::NoIdentity => Some(()),
+            Meaning::List(count) => {
+                self.pass(Part::FirstArea, Element::Area, 4)?;
+                for _ in 1..count {
+                    self.pass(Part::LaterArea, Element::Area, 4)?;
+                }
+                Some(())
+            }
+            Meaning::FirstAndLast => {
+                let lowest = self.pass(Part::FromArea, Element::Area, 4)?;
+                let highest = self.pass(Part::ToArea, Element::Area, 4)?;
+                (lowest <= highest).then_some(())
             }
         }
     }

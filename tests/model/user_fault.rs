@@ -5,6 +5,7 @@ use crate::ack::Ack;
 use crate::dice::Dice;
 use crate::draw;
 use crate::fault::{addresses_of, content, leave_over};
+use crate::interrogate_ack::{Groups, InterrogateAck};
 use crate::message::{meaning_of, Group, Message};
 use crate::profile::{Meaning, Profile};
 use crate::write::{bits_of, elements};
@@ -72,6 +73,9 @@ pub fn mask(dice: &mut Dice, profile: &Profile) -> Vec<bool> {
         })
         | Message::DeactivateAck(Ack {
             mask: Some(mask), ..
+        })
+        | Message::InterrogateAck(InterrogateAck {
+            mask: Some(mask), ..
         }) = &mut message
         {
             if dice.one_in(2) {
@@ -135,6 +139,19 @@ pub fn groups_of(message: &mut Message) -> Vec<&mut Group> {
         | Message::Deactivate { users }
         | Message::ActivateAck(Ack { users, .. })
         | Message::DeactivateAck(Ack { users, .. }) => vec![users],
+        Message::InterrogateAck(InterrogateAck { users, groups, .. }) => {
+            let Groups {
+                dispatchers,
+                sources,
+                destinations,
+                ..
+            } = groups;
+            let further = [dispatchers, sources, destinations];
+            [users]
+                .into_iter()
+                .chain(further.into_iter().flatten())
+                .collect()
+        }
         _ => Vec::new(),
     }
 }

@@ -2,6 +2,9 @@
 //! What a message doesn't carry is zero, so a value is valid exactly if it is some message, flat.
 
 use crate::ack::{Ack, AckResult};
+use crate::interrogate_ack::{
+    are_area_ends, area_count, Areas, Groups, InterrogateAck, Interrogation, FAILURE_BITS,
+};
 use crate::message::{are_range_ends, identity_count, meaning_of, Address, Group, Message};
 use crate::profile::{Meaning, Profile};
 use crate::request::{Options, AREA_BITS, MNI_BITS, SERVICE_BITS};
@@ -13,6 +16,13 @@ pub const MOST_ADDRESSES: usize = 15;
 pub struct FlatGroup {
     pub range: u32,
     pub addresses: [Address; MOST_ADDRESSES],
+}
+
+/// The same of areas.
+#[derive(Clone, PartialEq, Eq, Debug, Default)]
+pub struct FlatAreas {
+    pub range: u32,
+    pub areas: [u32; MOST_ADDRESSES],
 }
 
 #[derive(Clone, PartialEq, Eq, Debug, Default)]
@@ -28,17 +38,25 @@ pub struct Value {
     pub reason: u32,
     pub cause: u32,
     pub identifier: u32,
-    /// Whether the message's only option is there, or the first of REQUEST's.
+    /// Whether the message's only option is there, or the first of REQUEST's or of INTERROGATE
+    /// ACK's, which are its dispatchers.
     pub option: bool,
     /// The one dispatcher of INTERCEPTED, DIVERTED and REJECTED is address 0 here, with range
     /// number 0.
     pub dispatchers: FlatGroup,
-    /// Whether REQUEST's other six options are there, in their order.
+    /// Whether REQUEST's other six options are there, in their order; of INTERROGATE ACK's the
+    /// sources, the destinations and the areas.
     pub further: [bool; 6],
     pub mni: u32,
     /// Of the calling, of the called, as the services are.
     pub areas: [u32; 2],
     pub services: [u32; 2],
+    pub activation: u32,
+    pub interception: u32,
+    pub sources: FlatGroup,
+    pub destinations: FlatGroup,
+    /// INTERROGATE ACK's.
+    pub restricted: FlatAreas,
 }
 
 /// Document 01: "A value is valid exactly if ..."
@@ -74,6 +92,7 @@ pub fn flat(message: &Message) -> Value {
         Message::Deactivate { users } => value.users = flat_group(users),
         Message::ActivateAck(ack) | Message::DeactivateAck(ack) => flat_ack(ack, &mut value),
         Message::Interrogate { user } => value.users.addresses[0] = *user,
+        Message::InterrogateAck(ack) => flat_interrogate_ack(ack, &mut value),
         Message::Intercepted { cause, dispatcher }
         | Message::Diverted { cause, dispatcher }
         | Message::Rejected { cause, dispatcher } => {
@@ -116,6 +135,42 @@ fn flat_ack(ack: &Ack, value: &mut Value) {
     }
 }
 
+fn flat_interrogate_ack(ack: &InterrogateAck, value: &mut Value) {
+    value.users = flat_group(&ack.users);
+    if let Some(mask) = &ack.mask {
+        value.masked = true;
+        value.mask = flat_mask(mask);
+    }
+    match ack.result {
+        Interrogation::Accepted {
+            activation,
+            interception,
+            called_service,
+            calling_service,
+        } => {
+            value.result = 1;
+            value.activation = activation;
+            value.interception = interception;
+            value.services = [calling_service, called_service];
+        }
+        Interrogation::NotAccepted { reason } => value.reason = reason,
+    }
+    let Groups {
+        dispatchers,
+        sources,
+        destinations,
+        areas,
+    } = &ack.groups;
+    value.option = dispatchers.is_some();
+    value.further[0] = sources.is_some();
+    value.further[1] = destinations.is_some();
+    value.further[2] = areas.is_some();
+    value.dispatchers = dispatchers.as_ref().map(flat_group).unwrap_or_default();
+    value.sources = sources.as_ref().map(flat_group).unwrap_or_default();
+    value.destinations = destinations.as_ref().map(flat_group).unwrap_or_default();
+    value.restricted = areas.as_ref().map(flat_areas).unwrap_or_default();
+}
+
 fn flat_options(options: &Options, value: &mut Value) {
     value.option = options.calling.is_some();
     value.further = [
@@ -141,6 +196,17 @@ fn flat_group(group: &Group) -> FlatGroup {
     };
     for (place, address) in group.addresses.iter().enumerate() {
         flat.addresses[place] = *address;
+    }
+    flat
+}
+
+fn flat_areas(areas: &Areas) -> FlatAreas {
+    let mut flat = FlatAreas {
+        range: areas.range,
+        ..FlatAreas::default()
+    };
+    for (place, area) in areas.areas.iter().enumerate() {
+        flat.areas[place] = *area;
     }
     flat
 }
@@ -173,6 +239,9 @@ fn carried(profile: &Profile, value: &Value) -> Option<Message> {
         8 => Some(Message::Interrogate {
             user: carried_address(&value.users.addresses[0])?,
         }),
+        9 => Some(Message::InterrogateAck(carried_interrogate_ack(
+            profile, value,
+        )?)),
         10 => Some(Message::Intercepted {
             cause: fitting(value.cause, 5)?,
             dispatcher: carried_dispatcher(value)?,
@@ -210,14 +279,7 @@ fn carried(profile: &Profile, value: &Value) -> Option<Message> {
 
 fn carried_ack(profile: &Profile, value: &Value) -> Option<Ack> {
     let users = carried_users(profile, &value.users)?;
-    let mut mask = None;
-    if value.masked {
-        let mut bits = Vec::new();
-        for identity in 0..identity_count(profile, &users) {
-            bits.push((value.mask >> (63 - identity)) & 1 == 1);
-        }
-        mask = Some(bits);
-    }
+    let mask = carried_mask(profile, value, &users);
     let result = if fitting(value.result, 1)? == 1 {
         AckResult::Accepted
     } else {
@@ -230,6 +292,62 @@ fn carried_ack(profile: &Profile, value: &Value) -> Option<Ack> {
         mask,
         result,
     })
+}
+
+fn carried_mask(profile: &Profile, value: &Value, users: &Group) -> Option<Vec<bool>> {
+    if !value.masked {
+        return None;
+    }
+    let mut bits = Vec::new();
+    for identity in 0..identity_count(profile, users) {
+        bits.push((value.mask >> (63 - identity)) & 1 == 1);
+    }
+    Some(bits)
+}
+
+fn carried_interrogate_ack(profile: &Profile, value: &Value) -> Option<InterrogateAck> {
+    let users = carried_users(profile, &value.users)?;
+    let mask = carried_mask(profile, value, &users);
+    let [calling_service, called_service] = value.services;
+    let result = if fitting(value.result, 1)? == 1 {
+        Interrogation::Accepted {
+            activation: fitting(value.activation, 1)?,
+            interception: fitting(value.interception, 1)?,
+            called_service: fitting(called_service, SERVICE_BITS)?,
+            calling_service: fitting(calling_service, SERVICE_BITS)?,
+        }
+    } else {
+        Interrogation::NotAccepted {
+            reason: fitting(value.reason, FAILURE_BITS)?,
+        }
+    };
+    let [of_sources, of_destinations, of_areas, ..] = value.further;
+    let group = |there, group| carried_if(there, || carried_group(profile, group));
+    let groups = Groups {
+        dispatchers: group(value.option, &value.dispatchers)?,
+        sources: group(of_sources, &value.sources)?,
+        destinations: group(of_destinations, &value.destinations)?,
+        areas: carried_if(of_areas, || carried_areas(profile, &value.restricted))?,
+    };
+    Some(InterrogateAck {
+        users,
+        mask,
+        result,
+        groups,
+    })
+}
+
+fn carried_areas(profile: &Profile, flat: &FlatAreas) -> Option<Areas> {
+    let range = fitting(flat.range, 4)?;
+    let meaning = meaning_of(profile, range);
+    let mut areas = Vec::new();
+    for area in &flat.areas[..area_count(meaning)?] {
+        areas.push(fitting(*area, AREA_BITS)?);
+    }
+    if meaning == Meaning::FirstAndLast && !are_area_ends(&areas) {
+        return None;
+    }
+    Some(Areas { range, areas })
 }
 
 /// The dispatcher of INTERCEPTED, DIVERTED and REJECTED, if the option is there; nothing at all

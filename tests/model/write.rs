@@ -2,6 +2,7 @@
 //! `bits_of` checks nothing: a message that reading would refuse is written as it stands.
 
 use crate::ack::put_ack;
+use crate::interrogate_ack::put_interrogate_ack;
 use crate::message::{Address, Group, Message};
 use crate::profile::Profile;
 use crate::refusal::Refusal::{self, Number};
@@ -53,6 +54,7 @@ pub fn bits_of(profile: &Profile, message: &Message) -> Vec<bool> {
         Message::Deactivate { users } => put_group(&mut bits, users),
         Message::ActivateAck(ack) | Message::DeactivateAck(ack) => put_ack(&mut bits, ack),
         Message::Interrogate { user } => put_address(&mut bits, user),
+        Message::InterrogateAck(ack) => put_interrogate_ack(&mut bits, ack),
         Message::Intercepted { cause, dispatcher }
         | Message::Diverted { cause, dispatcher }
         | Message::Rejected { cause, dispatcher } => {

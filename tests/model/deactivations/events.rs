@@ -116,5 +116,4 @@ named! { Event, EVENTS:
     AckRead13: "13 in DEACTIVATE ACK",
     Type6: "7 for type 6",
     Type7: "7 for type 7",
-    Type9: "7 for type 9",
 }

@@ -135,7 +135,6 @@ impl Watch {
         match (pdu_type, refusal.number()) {
             (Some(6), 7) => self.count(Event::Type6),
             (Some(7), 7) => self.count(Event::Type7),
-            (Some(9), 7) => self.count(Event::Type9),
             // 3 may come before the header is looked at.
             (Some(pdu_type @ (4 | 5)), 4..=13) => {
                 let profile = &step.before.desk.profile;

@@ -6,7 +6,7 @@ use super::desk::check_script;
 use super::Report;
 use crate::breakable::places;
 use crate::interface::{cad_read, cad_read_at};
-use crate::laid_out::{shapes, Shape};
+use crate::laid_out::{interrogations, shapes, Shape};
 use crate::layout::profile_bytes;
 use crate::line::line_of;
 use crate::listing::list;
@@ -21,7 +21,7 @@ use std::io;
 
 /// The design's page: by name, in the order of their numbers from 1.
 const IN_ORDER: &str = "ss-type pdu-type range kind ssi extension mask-present mask result reason \
-    cause identifier o-bit p-bit mni area basic-service";
+    cause identifier o-bit p-bit mni area basic-service activation-type interception-type";
 
 pub fn check(report: &mut Report) -> io::Result<()> {
     names(report)?;
@@ -29,7 +29,8 @@ pub fn check(report: &mut Report) -> io::Result<()> {
     for (what, script, answers) in super::break_scripts::SCRIPTS {
         check_script(report, what, script, answers)?;
     }
-    let shapes = shapes();
+    let mut shapes = shapes();
+    shapes.extend(interrogations());
     for shape in &shapes {
         cut_everywhere(report, shape)?;
     }
@@ -46,8 +47,8 @@ fn names(report: &mut Report) -> io::Result<()> {
         came.insert(element.number());
         good &= in_order.get(element.number() as usize - 1) == Some(&element.name());
     }
-    good &= came.into_iter().eq(1..=17);
-    report.check("4: seventeen elements, each with its name and number", good)
+    good &= came.into_iter().eq(1..=19);
+    report.check("4: nineteen elements, each with its name and number", good)
 }
 
 fn worked_lines(report: &mut Report) -> io::Result<()> {
@@ -153,15 +154,15 @@ fn numbers_stand(report: &mut Report) -> io::Result<()> {
     let mut good = true;
     for (bytes, length, wanted) in rows {
         let (mut position, mut element) = (77, 78);
-        let mut value = [0x55; 240];
+        let mut value = [0x55; 470];
         let numbers = (&mut position, &mut element);
         let answer = cad_read_at(&profile, bytes, length, &mut value, numbers.0, numbers.1);
-        good &= (answer, position, element) == (wanted, 77, 78) && value == [0x55; 240];
+        good &= (answer, position, element) == (wanted, 77, 78) && value == [0x55; 470];
         let answer = cad_read_at(&[], bytes, length, &mut value, &mut position, &mut element);
-        good &= (answer, position, element) == (1, 77, 78) && value == [0x55; 240];
+        good &= (answer, position, element) == (1, 77, 78) && value == [0x55; 470];
     }
     let (mut position, mut element) = (77, 78);
-    let mut value = [0x55; 241];
+    let mut value = [0x55; 471];
     let numbers = (&mut position, &mut element);
     let answer = cad_read_at(
         &profile,

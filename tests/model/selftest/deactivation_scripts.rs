@@ -121,7 +121,6 @@ post 0 15 24A0
 post 0 67 28DE8001F4A0007D80
 post 0 67 24DE8001F4A0007D80
 post 0 67 24FE8001F4A0007D80
-post 0 67 253E8001F4A0007D80
 ",
         "\
 1 refused 9
@@ -142,7 +141,6 @@ post 0 67 253E8001F4A0007D80
 16 refused 5
 17 refused 7
 18 refused 7
-19 refused 7
 ",
     ),
     (
@@ -175,8 +173,8 @@ dump
 9 free
 10 moved 1 25600288
 11 dump 0:5:1!2 1:6:1 | 0:1001:0:0:0 1:1004:0:1:0
-12 state not-active
-13 state other-post
+12 state not-active 50 25228001F62000
+13 state other-post 47 25228001F608
 14 proceed 25A0
 15 rejected 264000
 16 dump | 0:1001:0:0:0 1:1004:0:1:0
@@ -252,7 +250,7 @@ post 1 41 24828001F500
         "\
 5 acks 1 67 24A30001F4800026A0
 6 dump | 2:1001:77:1:0 5:1001:77:1:1
-7 state not-active
+7 state not-active 74 25230001F4800026A000
 8 acks 1 43 24A28001F4A0
 10 acks 1 43 24A28001F4A0
 11 dump | 0:1001:77:1:0 2:1001:77:1:0 5:1001:77:1:1

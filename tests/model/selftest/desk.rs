@@ -203,8 +203,10 @@ fn shapes(report: &mut Report) -> io::Result<()> {
     }
     for (digits, answer) in [
         (512, "refused 13"),
-        (513, "not understood"),
-        (514, "not understood"),
+        (514, "refused 13"),
+        (1024, "refused 13"),
+        (1025, "not understood"),
+        (1026, "not understood"),
     ] {
         let line = format!("post 0 12 25A0{}", "0".repeat(digits - 4));
         let good = Replay::new().run(line.as_bytes()) == Some(answer.to_string());

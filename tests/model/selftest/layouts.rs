@@ -13,10 +13,11 @@ use std::io;
 
 const RANDOM_VALUES: usize = 5_000;
 
-/// The sample profile: header, sixteen meanings, two posts, six that aren't there.
+/// The sample profile: header, sixteen meanings, two posts, six that aren't there, two reasons.
 const SAMPLE: &[u8] = b"090000000102\
     10010203000000000000000000000011\
-    02021E0408000000000000000000000000";
+    02021E0408000000000000000000000000\
+    0102";
 
 /// Where the fields of some rows' values lie, each with the bytes that have to stand there.
 const FIELDS: [(usize, usize, &[u8]); 40] = [
@@ -92,14 +93,17 @@ fn profile_bytes_changed(report: &mut Report) -> io::Result<()> {
         }
     }
     // SS 64, home 3 x 256, U and N 128 each, meanings 16 x 18, posts 1, reserved 4: 0 to 28 and
-    // 0 to 8, ceilings 2 to 32 and 4 to 32, rows of no post 12 x 1.
-    let expected = 64 + 768 + 256 + 288 + 1 + 29 + 31 + 9 + 29 + 12;
-    let what = format!("profile: {profiles} of 9984 with one byte changed are profiles");
+    // 0 to 8, ceilings 2 to 32 and 4 to 32, rows of no post 12 x 1, failure reasons 8 each.
+    let expected = 64 + 768 + 256 + 288 + 1 + 29 + 31 + 9 + 29 + 12 + 16;
+    let what = format!("profile: {profiles} of 10496 with one byte changed are profiles");
     report.check(&what, good && profiles == expected)?;
 
     let longer = [&bytes[..], &[0]].concat();
-    let good = read_profile(&bytes[..38]).is_none() && read_profile(&longer).is_none();
-    report.check("profile: 38 and 40 bytes are none", good)
+    let good = [38, 39, 40]
+        .iter()
+        .all(|length| read_profile(&bytes[..*length]).is_none())
+        && read_profile(&longer).is_none();
+    report.check("profile: 38, 39, 40 and 42 bytes are none", good)
 }
 
 fn fields_of_values(report: &mut Report) -> io::Result<()> {
@@ -108,7 +112,7 @@ fn fields_of_values(report: &mut Report) -> io::Result<()> {
     for (row, place, hex) in FIELDS {
         let expected = read_hex(hex).unwrap_or_default();
         let bytes = value_bytes(&rows[row - 1].value);
-        good &= bytes.len() == 241 && bytes[place..place + expected.len()] == expected[..];
+        good &= bytes.len() == 471 && bytes[place..place + expected.len()] == expected[..];
     }
     report.check("value: fields of the table's rows at their bytes", good)
 }
@@ -122,11 +126,11 @@ fn values_to_and_from(report: &mut Report) -> io::Result<()> {
         let (profile, bytes) = (profile_bytes(&profile), value_bytes(&value));
         good &= read_value(&bytes).as_ref() == Some(&value);
 
-        let (mut message, mut bits) = ([0xAA; 256], 0);
+        let (mut message, mut bits) = ([0xAA; 512], 0);
         good &= cad_write(&profile, &bytes, &mut message, &mut bits) == 0;
-        let mut again = [0x55; 243];
+        let mut again = [0x55; 473];
         good &= cad_read(&profile, &message, bits, &mut again) == 0;
-        good &= again[..241] == bytes[..] && again[241..] == [0x55; 2];
+        good &= again[..471] == bytes[..] && again[471..] == [0x55; 2];
     }
     let what = format!("{RANDOM_VALUES} random values and profiles through their bytes");
     report.check(&what, good)
@@ -148,7 +152,7 @@ fn orders(report: &mut Report) -> io::Result<()> {
     let longer = [&accepted[..], &[0]].concat();
 
     let read = |profile: &[u8], bits| cad_read(profile, &[0x25, 0xA0], bits, &mut []);
-    let good = read(&profile[..38], 0) == 1
+    let good = read(&profile[..40], 0) == 1
         && read(&profile, 0) == 3
         && read(&profile, 12) == 13
         && read(&profile, 11) == 14;
@@ -158,7 +162,8 @@ fn orders(report: &mut Report) -> io::Result<()> {
     let good = write(&[], &flagged) == 1
         && write(&profile, &flagged) == 22
         && write(&profile, &optioned) == 22
-        && write(&profile, &accepted[..240]) == 22
+        && write(&profile, &accepted[..470]) == 22
+        && write(&profile, &accepted[..241]) == 22
         && write(&profile, &accepted[..228]) == 22
         && write(&profile, &longer) == 22
         && write(&profile, &accepted) == 14;
@@ -168,12 +173,12 @@ fn orders(report: &mut Report) -> io::Result<()> {
 
 fn areas(report: &mut Report) -> io::Result<()> {
     let profile = profile_bytes(&sample());
-    let mut short = [0x55; 240];
+    let mut short = [0x55; 470];
     let mut good = cad_read(&profile, &[0x25, 0xA0], 11, &mut short) == 14;
-    good &= short == [0x55; 240];
-    let mut long = [0x55; 241];
+    good &= short == [0x55; 470];
+    let mut long = [0x55; 471];
     good &= cad_read(&profile, &[0x25, 0xA0], 12, &mut long) == 13;
-    good &= long == [0x55; 241];
+    good &= long == [0x55; 471];
     report.check("cad_read: a refusal leaves the value area", good)?;
 
     let accepted = value_bytes(&rows()[14].value);

@@ -109,7 +109,7 @@ fn listing_example(report: &mut Report) -> io::Result<()> {
 }
 
 fn profile_rules(report: &mut Report) -> io::Result<()> {
-    let breaks: [Change; 12] = [
+    let breaks: [Change; 14] = [
         ("SS type 64", |p| p.ss_type = 64),
         ("home extension over 24 bits", |p| {
             p.home_extension = 1 << 24
@@ -118,6 +118,12 @@ fn profile_rules(report: &mut Report) -> io::Result<()> {
         ("list of 16", |p| p.meanings[9] = Meaning::List(16)),
         ("U over 7 bits", |p| p.reason_no_record = 128),
         ("N over 7 bits", |p| p.reason_other_post = 128),
+        ("failure reason for no record over 3 bits", |p| {
+            p.failure_no_record = 8
+        }),
+        ("failure reason for another post's over 3 bits", |p| {
+            p.failure_other_post = 8
+        }),
         ("no post", |p| p.posts.clear()),
         ("nine posts", |p| p.posts = posts(&[(0, 1); 9])),
         ("ceiling 0", |p| p.posts = posts(&[(0, 0)])),
@@ -135,10 +141,12 @@ fn profile_rules(report: &mut Report) -> io::Result<()> {
     }
     let edges: [Change; 4] = [
         ("list of 15", |p| p.meanings[9] = Meaning::List(15)),
-        ("largest extension, U and N", |p| {
+        ("largest extension, U, N and failure reasons", |p| {
             p.home_extension = (1 << 24) - 1;
             p.reason_no_record = 127;
             p.reason_other_post = 127;
+            p.failure_no_record = 7;
+            p.failure_other_post = 7;
         }),
         ("eight posts", |p| p.posts = posts(&[(4, 32); 8])),
         ("one post, g = c = 32", |p| p.posts = posts(&[(32, 32)])),

@@ -35,11 +35,14 @@ dump
 ",
     ),
     (
-        "INTERROGATE: 15, without 14",
+        "INTERROGATE: 14, 15, and each of its answers",
         "\
-out 0
-post 0 37 2508001F48
 record 0 1 1001 0 2 1
+out 299
+post 0 37 2508001F48
+out 300
+post 0 37 2508001F48
+record 0 0 1001 0 0 1
 post 0 37 2508001F48
 record 0 1 1001 0 1 1
 post 0 37 2508001F48
@@ -48,11 +51,12 @@ record 0 1 1001 0 1 0
 post 1 37 2508001F48
 ",
         "\
-2 state no-record
-4 refused 15
-6 state other-post
-7 state active
-9 state not-active
+3 refused 14
+5 refused 15
+7 state no-record 47 25228001F484
+9 state other-post 47 25228001F488
+10 state active 50 25228001F4B000
+12 state not-active 50 25228001F4A000
 ",
     ),
     (
@@ -200,7 +204,7 @@ record 255 1 9 9 1 1
 dump
 ",
         "\
-2 state no-record
+2 state no-record 47 25228001F484
 4 refused 15
 5 refused 15
 6 refused 19
@@ -220,10 +224,10 @@ record 0 0 4294967295 4294967295 255 1
 post 0 37 2508001F48
 ",
         "\
-2 state no-record
+2 state no-record 47 25228001F484
 4 refused 15
 6 refused 15
-8 state no-record
+8 state no-record 47 25228001F484
 ",
     ),
     (
@@ -236,19 +240,19 @@ setup 1001 0 1001 0 1
 setup 1001 0 1001 77 1
 ",
         "\
-2 state no-record
-3 state active
+2 state no-record 47 25228001F484
+3 state active 74 25230001F4800026B000
 4 free
 5 admitted 0 0 254000 25600080
 ",
     ),
     (
-        "1: POSTS is not the number of pairs",
+        "1: POSTS is not the number of pairs, nor one less; 8 is no failure reason",
         "\
 profile 9 0 1 2 16 1 2 3 0 0 0 0 0 0 0 0 0 0 0 17 1 2 30 4 8
 profile 9 0 1 2 16 1 2 3 0 0 0 0 0 0 0 0 0 0 0 17 3 2 30 4 8
 profile 9 0 1 2 16 1 2 3 0 0 0 0 0 0 0 0 0 0 0 17 2 2 30 0 0
-profile 9 0 1 2 16 1 2 3 0 0 0 0 0 0 0 0 0 0 0 17 1 2 30 0 0
+profile 9 0 1 2 16 1 2 3 0 0 0 0 0 0 0 0 0 0 0 17 1 2 30 0 0 0 0
 profile 9 0 1 2 16 1 2 3 0 0 0 0 0 0 0 0 0 0 0 17 0 2 30
 profile 9 0 1 2 16 1 2 3 0 0 0 0 0 0 0 0 0 0 0 17 1 2 30
 post 1 1
@@ -276,9 +280,9 @@ post 1 66 24430001F480002680
 dump
 ",
         "\
-5 state other-post
-6 state not-active
-7 state not-active
+5 state other-post 71 25230001F480002688
+6 state not-active 74 25230001F4800026A000
+7 state not-active 50 25228001F4A000
 8 acks 1 67 24630001F4800026A0
 9 dump | 2:1001:77:1:1 5:1001:77:0:0
 ",

@@ -144,7 +144,8 @@ fn nothing_else(report: &mut Report) -> io::Result<()> {
         "desk: the rows past the posts are 0",
         bytes[..23] == profile_bytes(&sample())[..23]
             && bytes[23..27] == [4, 29, 1, 7]
-            && bytes[27..] == [0; 12],
+            && bytes[27..39] == [0; 12]
+            && bytes[39..] == [1, 2],
     )?;
 
     rows[0] = share(4, 0);

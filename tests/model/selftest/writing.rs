@@ -8,13 +8,14 @@ use crate::message::{meaning_of, read, Address};
 use crate::profile::{sample, Meaning, Profile};
 use crate::refusal::Refusal::Number;
 use crate::table::rows;
-use crate::value::{flat, valid, FlatGroup, Value};
+use crate::value::{flat, valid, FlatAreas, FlatGroup, Value};
 use crate::write::write;
 use std::io;
 
 const RANDOM_VALUES: usize = 20_000;
-/// An ACTIVATE with two lists of 15 addresses of kind 2 has 1,521 bits, and none has more.
-const MOST_BYTES: usize = 191;
+/// An INTERROGATE ACK with four lists of 15 addresses of kind 2, fifteen areas and a mask, accepted,
+/// has 3,119 bits, and none has more.
+const MOST_BYTES: usize = 390;
 
 /// Numbers that lie just within or just outside some width.
 const EDGES: [u32; 12] = [
@@ -196,15 +197,17 @@ fn values_changed(report: &mut Report) -> io::Result<()> {
 /// One field set to a number from a few that lie on an edge.
 fn change(dice: &mut Dice, value: &mut Value) {
     let edge = dice.pick(&EDGES);
-    let group = match dice.below(2) {
+    let group = match dice.below(4) {
         0 => &mut value.users,
+        1 => &mut value.sources,
+        2 => &mut value.destinations,
         _ => &mut value.dispatchers,
     };
     let address = &mut group.addresses[match dice.below(2) {
         0 => dice.below(3),
         _ => dice.below(15),
     }];
-    match dice.below(18) {
+    match dice.below(22) {
         0 => value.pdu = dice.number(5),
         1 => group.range = dice.pick(&[0, 1, 7, 15, 16, 255]),
         2 => address.kind = dice.pick(&[0, 1, 2, 3, 4, 255]),
@@ -221,6 +224,16 @@ fn change(dice: &mut Dice, value: &mut Value) {
         13 => value.mni = edge,
         14 => value.areas[dice.below(2)] = dice.pick(&[0, 1, 15, 16, 255]),
         15 => value.services[dice.below(2)] = dice.pick(&[0, 1, 3, 4, 255]),
+        16 => value.activation = dice.pick(&[0, 1, 2, 255]),
+        17 => value.interception = dice.pick(&[0, 1, 2, 255]),
+        18 => value.restricted.range = dice.pick(&[0, 1, 7, 15, 16, 255]),
+        19 => {
+            let place = match dice.below(2) {
+                0 => dice.below(2),
+                _ => dice.below(15),
+            };
+            value.restricted.areas[place] = dice.pick(&[0, 1, 7, 15, 16, 255]);
+        }
         _ => {
             let mark = &mut value.further[dice.below(6)];
             *mark = !*mark;
@@ -230,19 +243,23 @@ fn change(dice: &mut Dice, value: &mut Value) {
 
 /// Validity said a second time, as document 01's sentence has it: type, widths, 9 to 11, zeros.
 fn fits_every_rule(profile: &Profile, value: &Value) -> bool {
-    let group_of_users = (2..=5).contains(&value.pdu);
+    let interrogated = value.pdu == 9;
+    let group_of_users = (2..=5).contains(&value.pdu) || interrogated;
     let one_user = value.pdu == 8;
     let request = value.pdu == 11;
-    let group_of_dispatchers = value.pdu == 2 && value.option;
+    let group_of_dispatchers = (value.pdu == 2 || interrogated) && value.option;
     let with_dispatcher = [10, 16, 18].contains(&value.pdu);
     let with_cause = with_dispatcher || request || value.pdu == 17;
     let one_dispatcher = with_dispatcher && value.option;
-    let ack = value.pdu == 3 || value.pdu == 5;
+    let ack = value.pdu == 3 || value.pdu == 5 || interrogated;
+    let most_reason = if interrogated { 7 } else { 127 };
     let with_identifier = [11, 12, 14, 15, 17].contains(&value.pdu);
 
     (group_of_users || one_user || (10..=18).contains(&value.pdu))
         && (request || group_rule(profile, &value.users, group_of_users, one_user))
         && request_rule(value, request)
+        && interrogation_rule(profile, value, interrogated)
+        && (request || interrogated || value.further == [false; 6] && value.services == [0, 0])
         && group_rule(
             profile,
             &value.dispatchers,
@@ -251,16 +268,25 @@ fn fits_every_rule(profile: &Profile, value: &Value) -> bool {
         )
         && !(group_of_users && meaning_of(profile, value.users.range) == Meaning::NoIdentity)
         && value.result <= u32::from(ack)
-        && value.reason <= if ack && value.result == 0 { 127 } else { 0 }
+        && value.reason
+            <= if ack && value.result == 0 {
+                most_reason
+            } else {
+                0
+            }
         && (!value.masked || ack)
         && mask_rule(profile, value)
         && value.cause <= if with_cause { 31 } else { 0 }
         && value.identifier <= if with_identifier { 16_383 } else { 0 }
-        && (!value.option || value.pdu == 2 || with_dispatcher || request)
+        && (!value.option || value.pdu == 2 || with_dispatcher || request || interrogated)
 }
 
-/// The rule of REQUEST's options, which no other message has; its addresses stand among the users.
+/// The rule of REQUEST's options; its addresses stand among the users. MNI and two areas are for no
+/// other message.
 fn request_rule(value: &Value, request: bool) -> bool {
+    if !request {
+        return value.mni == 0 && value.areas == [0, 0];
+    }
     let [called, mni, calling_area, called_area, calling_service, called_service] = value.further;
     let fits = |there: bool, number: u32, most: u32| number <= if there { most } else { 0 };
     let address = |there: bool, address: &Address| {
@@ -271,18 +297,48 @@ fn request_rule(value: &Value, request: bool) -> bool {
         }
     };
     let users = &value.users;
-    let addresses_good = users.range == 0
+    users.range == 0
         && address(value.option, &users.addresses[0])
         && address(called, &users.addresses[1])
-        && users.addresses[2..].iter().all(|rest| address(false, rest));
-
-    (addresses_good || !request)
-        && (request || value.further == [false; 6])
+        && users.addresses[2..].iter().all(|rest| address(false, rest))
         && fits(mni, value.mni, 0xFF_FFFF)
         && fits(calling_area, value.areas[0], 15)
         && fits(called_area, value.areas[1], 15)
         && fits(calling_service, value.services[0], 3)
         && fits(called_service, value.services[1], 3)
+}
+
+/// The rule of what INTERROGATE ACK has beside users, mask, result, reason and dispatchers.
+fn interrogation_rule(profile: &Profile, value: &Value, interrogated: bool) -> bool {
+    let [sources, destinations, areas, rest @ ..] = value.further;
+    let there = |mark: bool| interrogated && mark;
+    let most = |number: u32| match interrogated && value.result == 1 {
+        true => number,
+        false => 0,
+    };
+    value.activation <= most(1)
+        && value.interception <= most(1)
+        && (!interrogated || value.services.iter().all(|service| *service <= most(3)))
+        && (!interrogated || rest == [false; 3])
+        && group_rule(profile, &value.sources, there(sources), false)
+        && group_rule(profile, &value.destinations, there(destinations), false)
+        && area_rule(profile, &value.restricted, there(areas))
+}
+
+fn area_rule(profile: &Profile, group: &FlatAreas, there: bool) -> bool {
+    if group.range > if there { 15 } else { 0 } {
+        return false;
+    }
+    let count = match meaning_of(profile, group.range) {
+        _ if !there => 0,
+        Meaning::Reserved => return false,
+        Meaning::NoIdentity => 0,
+        Meaning::List(count) => usize::from(count),
+        Meaning::FirstAndLast if group.areas[0] > group.areas[1] => return false,
+        Meaning::FirstAndLast => 2,
+    };
+    let (carried, beyond) = group.areas.split_at(count);
+    carried.iter().all(|area| *area <= 15) && beyond.iter().all(|area| *area == 0)
 }
 
 /// The rule of a group that is there, of one address alone, or of nothing.
