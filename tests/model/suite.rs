@@ -4,6 +4,7 @@
 
 mod breaks;
 mod deactivations;
+mod interrogations;
 mod requests;
 
 use crate::hex::read_hex;
@@ -45,6 +46,7 @@ fn lines() -> Vec<Vec<u8>> {
     suite.requests();
     suite.deactivations();
     suite.breaks();
+    suite.interrogations();
     suite.lines
 }
 

@@ -1,6 +1,10 @@
 //! Document 01's worked cases that need reading alone: 1 to 8, 10, and the listing example; and
-//! the messages worked out for requests (iv) and (i). Bytes, bit lengths and results are the
+//! the messages worked out for requests (iv), (i) and (viii). Bytes, bit lengths and results are the
 //! papers', typed in here; nothing is computed by `read`.
+
+mod interrogations;
+
+pub use interrogations::interrogation_cases;
 
 use crate::ack::{Ack, AckResult};
 use crate::element::Element;

@@ -29,7 +29,11 @@ pub fn check(report: &mut Report) -> io::Result<()> {
 
 fn worked_cases(report: &mut Report) -> io::Result<()> {
     let profile = sample();
-    let requests = [worked::request_cases(), worked::deactivation_cases()];
+    let requests = [
+        worked::request_cases(),
+        worked::deactivation_cases(),
+        worked::interrogation_cases(),
+    ];
     for case in worked::cases()
         .into_iter()
         .chain(requests.into_iter().flatten())
