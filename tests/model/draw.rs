@@ -233,7 +233,7 @@ fn ack(dice: &mut Dice, profile: &Profile, users: Group) -> Ack {
 }
 
 /// Nothing if the profile has no range for them.
-fn users(dice: &mut Dice, profile: &Profile) -> Option<Group> {
+pub fn users(dice: &mut Dice, profile: &Profile) -> Option<Group> {
     group(dice, profile, &user_ranges(profile))
 }
 

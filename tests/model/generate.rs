@@ -5,6 +5,7 @@
 use crate::break_off;
 use crate::dice::Dice;
 use crate::fault;
+use crate::interrogation_fault::interrogation;
 use crate::line::line_of;
 use crate::odd;
 use crate::profile::{sample, Profile};
@@ -81,7 +82,7 @@ impl Source {
 
     fn other_line(&mut self) -> Vec<u8> {
         let (dice, profile) = (&mut self.dice, &self.profile);
-        let mut bits = match dice.below(144) {
+        let mut bits = match dice.below(160) {
             0..=24 => fault::sound(dice, profile),
             25..=29 => fault::ss_type(dice, profile),
             30..=37 => fault::pdu_type(dice, profile),
@@ -110,6 +111,8 @@ impl Source {
                 let (bytes, length) = break_off::message(dice, profile);
                 return line_of(length, &bytes);
             }
+            134..=146 => interrogation(dice, profile),
+            147..=149 => return self.near_most_bits(),
             _ => return self.odd_line(),
         };
         if dice.one_in(6) {
@@ -131,7 +134,7 @@ impl Source {
         }
         if dice.one_in(4) {
             let more = match dice.below(8) {
-                0 => 256 - bytes.len().min(256),
+                0 => dice.pick(&[256, 512]) - bytes.len().min(256),
                 _ => dice.below(4),
             };
             bytes.extend(dice.bytes(more));
@@ -157,12 +160,14 @@ impl Source {
         line_of(bits.len().max(8 * bytes.len()) + over, &bytes)
     }
 
-    /// Around 2,048 bits and 256 bytes, beginning as a message does.
+    /// Around 4,096 bits and 512 bytes, or around the half of them, which were the most before
+    /// request (viii); beginning as a message does.
     fn near_most_bits(&mut self) -> Vec<u8> {
         let dice = &mut self.dice;
         let mut bits = fault::sound(dice, &self.profile);
         let own = bits.len();
-        let byte_count = 253 + dice.below(6);
+        let most = dice.pick(&[2048, 4096, 4096]);
+        let byte_count = most / 8 - 3 + dice.below(6);
         let rest = 8 * byte_count - own;
         if dice.one_in(2) {
             bits.extend(dice.bits(rest));
@@ -173,8 +178,8 @@ impl Source {
             0 => own,
             1 => 8 * byte_count,
             2 => 8 * byte_count + 1,
-            3 => dice.pick(&[2047, 2048, 2049]),
-            _ => 2030 + dice.below(40),
+            3 => dice.pick(&[most - 1, most, most + 1]),
+            _ => most - 18 + dice.below(40),
         };
         line_of(length, &bytes_of(&bits))
     }

@@ -22,6 +22,7 @@ mod hex;
 mod history;
 mod interface;
 mod interrogate_ack;
+mod interrogation_fault;
 mod laid_out;
 mod layout;
 mod line;

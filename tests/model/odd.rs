@@ -90,10 +90,12 @@ fn wrong_length(dice: &mut Dice, length: &[u8]) -> Vec<u8> {
     .into_bytes()
 }
 
-/// 508 to 516 hex digits, odd numbers among them: at most 512 are allowed.
+/// 1,020 to 1,028 hex digits, odd numbers among them: at most 1,024 are allowed. Or around the 512
+/// that were allowed before request (viii).
 fn hex_near_most(dice: &mut Dice, length: &[u8], hex: &[u8]) -> Vec<u8> {
     let mut digits = hex.to_vec();
-    digits.resize(508 + dice.below(9), b'0');
+    let most = dice.pick(&[512, 1024, 1024]);
+    digits.resize(most - 4 + dice.below(9), b'0');
     [length, b" ", &digits[..]].concat()
 }
 

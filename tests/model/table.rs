@@ -1,8 +1,10 @@
 //! The table of worked values for `rounds`: 1 to 18 are written, 19 to 23 try the area's size,
-//! 24 to 37 are not valid; from 38 on the same for request (iv), and from 65 on for request (i).
+//! 24 to 37 are not valid; from 38 on the same for request (iv), from 65 on for request (i), and
+//! from 109 on for request (viii).
 //! All of it is meant for the sample profile.
 
 mod deactivations;
+mod interrogations;
 mod requests;
 
 use crate::message::Address;
@@ -32,6 +34,7 @@ pub fn rows() -> Vec<Row> {
     }
     rows.extend(requests::rows());
     rows.extend(deactivations::rows());
+    rows.extend(interrogations::rows());
     rows
 }
 

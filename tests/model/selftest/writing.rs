@@ -66,6 +66,35 @@ const DEACTIVATIONS: [(usize, usize, &[u8]); 12] = [
     (79, 67, b"249E8001F4A0007D80"),
 ];
 
+/// The same for request (viii).
+const INTERROGATIONS: [(usize, usize, &[u8]); 17] = [
+    (109, 50, b"25228001F4B000"),
+    (110, 50, b"25228001F4A000"),
+    (111, 47, b"25228001F484"),
+    (112, 63, b"25228001F4863E6A"),
+    (
+        113,
+        236,
+        b"25228001F4B1E28001F64A0003E90000054000FB3E8001F4A0007D931F00",
+    ),
+    (114, 50, b"25228001F4BC80"),
+    (115, 58, b"25228001F4B06000"),
+    (116, 55, b"25228001F49E80"),
+    (117, 181, b"25228001F4824EFFFFFFFFFFFF40000020000010000000"),
+    (118, 58, b"25228001F4A04400"),
+    (119, 66, b"25228001F4B047FFC0"),
+    (120, 66, b"25228001F4B047C3C0"),
+    (121, 70, b"25228001F4B044E400"),
+    (122, 80, b"253E8001F4A0007D9CC0"),
+    (123, 77, b"253E8001F4A0007D9020"),
+    (
+        125,
+        236,
+        b"25228001F4B1E28001F64A0003E90000054000FB3E8001F4A0007D931F00",
+    ),
+    (127, 47, b"25228001F484"),
+];
+
 pub fn check(report: &mut Report) -> io::Result<()> {
     rows_of_the_paper(report)?;
     rows_refused(report)?;
@@ -87,6 +116,10 @@ fn rows_of_the_paper(report: &mut Report) -> io::Result<()> {
         let what = format!("row {row}: the bytes of request (i), {length} bits");
         report.check(&what, written_so(row, length, hex))?;
     }
+    for (row, length, hex) in INTERROGATIONS {
+        let what = format!("row {row}: the bytes of request (viii), {length} bits");
+        report.check(&what, written_so(row, length, hex))?;
+    }
     Ok(())
 }
 
@@ -102,8 +135,8 @@ fn written_so(row: usize, length: usize, hex: &[u8]) -> bool {
 fn rows_refused(report: &mut Report) -> io::Result<()> {
     for (before, row) in rows().iter().enumerate() {
         let expected = match before + 1 {
-            20 | 22 | 23 | 51 | 80 | 82 => 14,
-            24..=37 | 52..=64 | 83..=108 => 22,
+            20 | 22 | 23 | 51 | 80 | 82 | 126 | 128 => 14,
+            24..=37 | 52..=64 | 83..=108 | 129..=155 => 22,
             _ => continue,
         };
         let mut area = vec![0xAA; row.area];
