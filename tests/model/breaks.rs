@@ -148,7 +148,8 @@ fn type_of(span: &Span, bytes: &[u8], length: usize) -> u32 {
     }
 }
 
-fn print<E: Ord>(
+/// How often each of the events came, in their order; false if one never did.
+pub fn print<E: Ord>(
     events: &[(E, &str)],
     counts: &BTreeMap<E, u64>,
     out: &mut dyn Write,

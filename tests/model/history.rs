@@ -5,6 +5,7 @@ mod calls;
 mod cast;
 mod damage;
 mod deactivations;
+mod interrogations;
 mod lent;
 mod moves;
 mod odd;
@@ -130,6 +131,11 @@ impl Source {
             83..=90 => self.broken_off(),
             91..=92 => self.share_scene(),
             93..=95 => self.share_change(),
+            96..=98 => self.interrogations(),
+            99..=108 => self.interrogate_ack(),
+            109 if self.dice.one_in(3) => {
+                profiles::line_by_pairs(&mut self.dice, &self.replay.desk.profile)
+            }
             _ => self.call(),
         }
     }
@@ -140,7 +146,7 @@ impl Source {
         self.cast = Cast::draw(&mut self.dice, profile.home_extension);
         self.history_left = 100 + self.dice.below(900);
         self.draw_records(&profile);
-        profiles::line(&profile)
+        profiles::line_or_longer(&mut self.dice, &profile)
     }
 
     fn odd_line(&mut self) -> Vec<u8> {

@@ -3,15 +3,13 @@
 
 use crate::dice::Dice;
 use crate::draw;
-use crate::fault::{addresses_of, content, leave_over};
+use crate::fault::{content, leave_over};
 use crate::interrogate_ack::{Areas, Groups, InterrogateAck, Interrogation};
 use crate::message::{identity_count, meaning_of, Address, Group, Message};
 use crate::profile::{Meaning, Profile};
-use crate::user_fault::{faulty_ends, groups_of};
-use crate::write::{bits_of, elements};
-
-/// The group of the message that has the destinations.
-const DESTINATIONS: usize = 3;
+use crate::trail::trail;
+use crate::user_fault::faulty_range;
+use crate::write::{bits_of, bytes_of, elements};
 
 /// One fault that reading tells, or nearly one; any other message where the profile has no range
 /// for users.
@@ -21,19 +19,12 @@ pub fn interrogation(dice: &mut Dice, profile: &Profile) -> Vec<bool> {
         None => return content(dice, profile),
     };
     let mut ack = draw::interrogate_ack(dice, profile, users);
-    match dice.below(16) {
-        0..=2 => {
-            ack.groups.areas = Some(area_ends(dice, profile));
-            return touched(dice, profile, ack);
-        }
-        3 | 4 => return no_group(dice, profile, ack),
-        5 => {
-            if let Some(areas) = &mut ack.groups.areas {
-                areas.range = dice.number(4);
-            }
-            return touched(dice, profile, ack);
-        }
-        6 => {
+    match dice.below(12) {
+        0..=5 => faulty_group(dice, profile, &mut ack),
+        6 => faulty_destination(dice, profile, &mut ack),
+        7 => ack.groups.areas = Some(faulty_areas(dice, profile)),
+        8 => return no_group(dice, profile, ack),
+        9 => {
             if let Some(mask) = &mut ack.mask {
                 match dice.one_in(2) {
                     true => mask.push(dice.one_in(2)),
@@ -42,38 +33,12 @@ pub fn interrogation(dice: &mut Dice, profile: &Profile) -> Vec<bool> {
                     }
                 }
             }
-            return touched(dice, profile, ack);
         }
-        7 | 8 => return touched(dice, profile, ack),
+        10 => none_of_all(dice, profile, &mut ack.groups),
         _ => {}
     }
-    let mut message = Message::InterrogateAck(ack);
-    match dice.below(8) {
-        0 | 1 => faulty_ends(dice, profile, &mut message),
-        2 => {
-            let mut groups = groups_of(&mut message);
-            let chosen = dice.below(groups.len());
-            groups[chosen].range = dice.number(4);
-        }
-        3 | 4 => {
-            let mut addresses = addresses_of(&mut message);
-            let chosen = dice.below(addresses.len());
-            addresses[chosen].kind = dice.pick(&[0, 3]);
-        }
-        _ => faulty_destination(dice, profile, &mut message),
-    }
-    let bits = bits_of(profile, &message);
-    cut_or_not(dice, bits)
-}
-
-fn touched(dice: &mut Dice, profile: &Profile, ack: InterrogateAck) -> Vec<bool> {
-    let bits = bits_of(profile, &Message::InterrogateAck(ack));
-    cut_or_not(dice, bits)
-}
-
-/// Whole, mostly; or cut, often near the end, or with bits left over, or under another SS type.
-fn cut_or_not(dice: &mut Dice, mut bits: Vec<bool>) -> Vec<bool> {
-    match dice.below(12) {
+    let mut bits = bits_of(profile, &Message::InterrogateAck(ack));
+    match dice.below(14) {
         0 => bits.truncate(11 + dice.below(bits.len() - 11)),
         1 => leave_over(dice, &mut bits),
         2 => bits.truncate(bits.len() - dice.pick(&[1, 1, 2, 3, 4, 5, 6, 8, 9, 12])),
@@ -81,53 +46,75 @@ fn cut_or_not(dice: &mut Dice, mut bits: Vec<bool>) -> Vec<bool> {
             let other = dice.number(6);
             bits.splice(0..6, elements(&[(other, 6)]));
         }
+        4 | 5 => {
+            // Nothing behind what is refused, where something is.
+            let spans = trail(profile, &bytes_of(&bits), bits.len());
+            let end = spans.last().map_or(0, |last| last.begin + last.width);
+            bits.truncate(end);
+        }
         _ => {}
     }
     bits
 }
 
-/// A destination of kind 0 or 3, wherever it stands among them; there are none under a profile
-/// whose ranges are all "none" or reserved.
-fn faulty_destination(dice: &mut Dice, profile: &Profile, message: &mut Message) {
-    let some = draw::users(dice, profile);
-    if let Message::InterrogateAck(ack) = message {
-        ack.groups
-            .dispatchers
-            .get_or_insert_with(|| none_or(dice, profile, &some));
-        ack.groups
-            .sources
-            .get_or_insert_with(|| none_or(dice, profile, &some));
-        ack.groups.destinations = some;
+/// The users, the dispatchers, the sources or the destinations, there whether they were or not,
+/// with a range number, a kind or ends that may be refused.
+fn faulty_group(dice: &mut Dice, profile: &Profile, ack: &mut InterrogateAck) {
+    let ranges = with_meaning(profile, Meaning::FirstAndLast);
+    let mut group = ack.users.clone();
+    match dice.below(12) {
+        0 | 1 => {
+            let meaning = dice.pick(&[Meaning::Reserved, Meaning::NoIdentity]);
+            let meant = with_meaning(profile, meaning);
+            group.range = match meant.is_empty() {
+                true => dice.number(4),
+                false => dice.pick(&meant),
+            };
+        }
+        2 | 3 => {
+            let chosen = dice.below(group.addresses.len());
+            group.addresses[chosen].kind = dice.pick(&[0, 3]);
+        }
+        _ => {
+            group = faulty_range(dice, profile);
+            if !ranges.is_empty() {
+                group.range = dice.pick(&ranges);
+            }
+        }
     }
-    let mut groups = groups_of(message);
-    if let Some(destinations) = groups.get_mut(DESTINATIONS) {
-        let chosen = match dice.below(3) {
-            0 => 0,
-            _ => dice.below(destinations.addresses.len()),
-        };
-        destinations.addresses[chosen].kind = dice.pick(&[3, 3, 3, 0]);
+    match dice.below(4) {
+        0 => {
+            // A mask goes with the users that it counts.
+            ack.mask = None;
+            ack.users = group;
+        }
+        1 => ack.groups.dispatchers = Some(group),
+        2 => ack.groups.sources = Some(group),
+        _ => ack.groups.destinations = Some(group),
     }
 }
 
-/// A group that means "none", if the profile has a range for it.
-fn none_or(dice: &mut Dice, profile: &Profile, some: &Option<Group>) -> Group {
-    let ranges = with_meaning(profile, Meaning::NoIdentity);
-    match (ranges.is_empty(), some) {
-        (true, Some(some)) => some.clone(),
-        (true, None) => Group {
-            range: 0,
-            addresses: Vec::new(),
-        },
-        _ => Group {
+/// A destination of kind 3, or 0 now and then, wherever it stands among them.
+fn faulty_destination(dice: &mut Dice, profile: &Profile, ack: &mut InterrogateAck) {
+    let ranges = with_meaning(profile, Meaning::FirstAndLast);
+    let mut group = ack.users.clone();
+    if !ranges.is_empty() && dice.one_in(2) {
+        group = Group {
             range: dice.pick(&ranges),
-            addresses: Vec::new(),
-        },
+            addresses: draw::range_ends(dice, profile, 2),
+        };
     }
+    let chosen = match dice.below(3) {
+        0 => 0,
+        _ => dice.below(group.addresses.len()),
+    };
+    group.addresses[chosen].kind = dice.pick(&[3, 3, 3, 0]);
+    ack.groups.destinations = Some(group);
 }
 
 /// First and last of some areas: falling, equal or rising, as 15 means them under the sample
-/// profile or as a value of this profile does.
-fn area_ends(dice: &mut Dice, profile: &Profile) -> Areas {
+/// profile or as a value of this profile does; or any range number before them.
+fn faulty_areas(dice: &mut Dice, profile: &Profile) -> Areas {
     let first = dice.number(4);
     let last = match dice.below(6) {
         0 => first,
@@ -137,13 +124,36 @@ fn area_ends(dice: &mut Dice, profile: &Profile) -> Areas {
         _ => dice.number(4),
     };
     let meant = with_meaning(profile, Meaning::FirstAndLast);
+    let range = match dice.below(6) {
+        0 => dice.number(4),
+        _ if meant.is_empty() => 15,
+        _ => dice.pick(&meant),
+    };
     Areas {
-        range: match meant.is_empty() {
-            true => 15,
-            false => dice.pick(&meant),
-        },
+        range,
         areas: vec![first, last],
     }
+}
+
+/// Each group there, and each of them "none", if the profile has a range for that.
+fn none_of_all(dice: &mut Dice, profile: &Profile, groups: &mut Groups) {
+    let ranges = with_meaning(profile, Meaning::NoIdentity);
+    if ranges.is_empty() {
+        return;
+    }
+    let mut none = || {
+        Some(Group {
+            range: dice.pick(&ranges),
+            addresses: Vec::new(),
+        })
+    };
+    groups.dispatchers = none();
+    groups.sources = none();
+    groups.destinations = none();
+    groups.areas = Some(Areas {
+        range: dice.pick(&ranges),
+        areas: Vec::new(),
+    });
 }
 
 fn with_meaning(profile: &Profile, meaning: Meaning) -> Vec<u32> {

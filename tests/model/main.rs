@@ -23,6 +23,7 @@ mod history;
 mod interface;
 mod interrogate_ack;
 mod interrogation_fault;
+mod interrogations;
 mod laid_out;
 mod layout;
 mod line;
@@ -58,7 +59,8 @@ use std::process::ExitCode;
 
 const USAGE: &str = "usage: model listing | generate SEED COUNT | suite | count | rounds | \
     crossing | replay | script SEED COUNT | tally | moves | \
-    requests | deactivations | shares | breaks listing | breaks replay | selftest";
+    requests | deactivations | shares | breaks listing | breaks replay | \
+    interrogations listing | interrogations replay | selftest";
 
 fn main() -> ExitCode {
     let arguments: Vec<String> = env::args_os()
@@ -107,6 +109,12 @@ fn run(words: &[&str]) -> io::Result<Option<bool>> {
         ["shares"] => good = shares::count_shares(&standard_input()?, &mut out)?,
         ["breaks", "listing"] => good = breaks::count_in_listing(&standard_input()?, &mut out)?,
         ["breaks", "replay"] => good = breaks::count_in_replay(&standard_input()?, &mut out)?,
+        ["interrogations", "listing"] => {
+            good = interrogations::count_in_listing(&standard_input()?, &mut out)?;
+        }
+        ["interrogations", "replay"] => {
+            good = interrogations::count_in_replay(&standard_input()?, &mut out)?;
+        }
         ["count"] => good = count::count(&standard_input()?, &mut out)?,
         ["selftest"] => good = selftest::selftest(&mut out)?,
         _ => return Ok(None),

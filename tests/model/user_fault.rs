@@ -17,9 +17,17 @@ pub fn range_ends(dice: &mut Dice, profile: &Profile) -> Vec<bool> {
     bits_of(profile, &message)
 }
 
-/// A group of the message becomes first and last of a range, as range 15 means it under the sample
-/// profile, or as a value of this profile does.
+/// A group of the message becomes one of these.
 pub fn faulty_ends(dice: &mut Dice, profile: &Profile, message: &mut Message) {
+    let faulty = faulty_range(dice, profile);
+    let mut groups = groups_of(message);
+    let chosen = dice.below(groups.len());
+    *groups[chosen] = faulty;
+}
+
+/// First and last of a range, as range 15 means it under the sample profile, or as a value of this
+/// profile does; mostly with a fault.
+pub fn faulty_range(dice: &mut Dice, profile: &Profile) -> Group {
     let span = dice.pick(&[1, 2, 3, 63, 64, 65, 66, 128, 1 << 16, 1 << 24]);
     let mut ends = draw::range_ends(dice, profile, span);
     match dice.below(10) {
@@ -47,12 +55,10 @@ pub fn faulty_ends(dice: &mut Dice, profile: &Profile, message: &mut Message) {
     } else {
         dice.pick(&meant)
     };
-    let mut groups = groups_of(message);
-    let chosen = dice.below(groups.len());
-    *groups[chosen] = Group {
+    Group {
         range,
         addresses: ends,
-    };
+    }
 }
 
 /// Any range number before addresses that were meant for another one.

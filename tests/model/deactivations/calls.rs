@@ -77,10 +77,11 @@ impl Watch {
 
     pub(super) fn interrogated(&mut self, user: Identity, answer: &str) {
         let released = self.kept.released.contains(&user);
-        match answer {
-            "state not-active" => self.count_if(released, Event::StateReleased),
-            "state other-post" => self.count_if(released, Event::StateOtherPost),
-            "state active" => self.count_if(self.kept.again.contains(&user), Event::StateAgain),
+        let again = self.kept.again.contains(&user);
+        match answer.split(' ').nth(1) {
+            Some("not-active") => self.count_if(released, Event::StateReleased),
+            Some("other-post") => self.count_if(released, Event::StateOtherPost),
+            Some("active") => self.count_if(again, Event::StateAgain),
             _ => {}
         }
     }

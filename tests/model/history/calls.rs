@@ -6,7 +6,8 @@ use crate::dice::Dice;
 use crate::draw;
 use crate::fault;
 use crate::hex::hex_of;
-use crate::message::{meaning_of, Address, Group, Message};
+use crate::interrogation_fault::interrogation;
+use crate::message::{meaning_of, Group, Message};
 use crate::places::Call;
 use crate::profile::{Meaning, Profile};
 use crate::records::Identity;
@@ -144,25 +145,6 @@ impl Source {
         message_line(&self.replay.desk.profile, post, &message)
     }
 
-    /// Half of the time of a record's identity, and then mostly from the record's post.
-    fn interrogate(&mut self) -> Vec<u8> {
-        let mut user = self.cast.address(&mut self.dice);
-        let mut post = self.post();
-        if !self.replay.records.is_empty() && self.dice.one_in(2) {
-            let record = self.dice.pick(&self.replay.records);
-            user = Address {
-                kind: 2,
-                ssi: record.ssi % (1 << 24),
-                extension: record.extension % (1 << 24),
-            };
-            if !self.dice.one_in(4) {
-                post = record.post;
-            }
-        }
-        let message = Message::Interrogate { user };
-        message_line(&self.replay.desk.profile, post, &message)
-    }
-
     /// A post of the profile, and now and then one that isn't there.
     pub(super) fn post(&mut self) -> u32 {
         let count = self.replay.desk.profile.posts.len();
@@ -191,7 +173,7 @@ impl Source {
     fn faulty_message(&mut self) -> Vec<u8> {
         let post = self.post();
         let (dice, profile) = (&mut self.dice, &self.replay.desk.profile);
-        let mut bits = match dice.below(22) {
+        let mut bits = match dice.below(26) {
             0 => fault::ss_type(dice, profile),
             1 | 2 => fault::pdu_type(dice, profile),
             3 => user_fault::range_ends(dice, profile),
@@ -205,6 +187,7 @@ impl Source {
             13 | 14 => bits_of(profile, &draw::about_waiting_call(dice, profile)),
             15..=18 => user_fault::deactivation(dice, profile),
             19 => fault::not_carried(dice, profile),
+            20..=23 => interrogation(dice, profile),
             _ => bits_of(profile, &draw::message(dice, profile)),
         };
         if dice.one_in(3) {
@@ -213,10 +196,14 @@ impl Source {
         let mut bytes = bytes_of(&bits);
         let mut length = bits.len() as u32;
         if dice.one_in(5) {
-            length = dice.pick(&[0, length + 8, 2048, 2049, u32::MAX]);
+            length = dice.pick(&[0, length + 8, 2048, 2049, 4096, 4097, u32::MAX]);
         }
-        if dice.one_in(8) {
-            bytes.resize(dice.pick(&[0, 1, 255, 256]), 0);
+        if dice.one_in(16) {
+            // Around both bounds, the one before request (viii) and the one since.
+            length = dice.pick(&[2047, 2048, 2049, 3000, 4095, 4096, 4097]);
+            bytes.resize(512, 0);
+        } else if dice.one_in(8) {
+            bytes.resize(dice.pick(&[0, 1, 255, 256, 511, 512, 512]), 0);
         }
         post_line(post, length, &bytes)
     }

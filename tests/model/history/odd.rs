@@ -5,7 +5,7 @@ use crate::odd::with_byte;
 use crate::profile::sample;
 
 /// Lines at the edges of the numbers, good and one too far.
-const EDGES: [&str; 59] = [
+const EDGES: [&str; 63] = [
     "record 127 0 0 0 0 0",
     "record 256 1 1 1 0 0",
     "record 0 2 1 1 0 0",
@@ -65,6 +65,10 @@ const EDGES: [&str; 59] = [
     "shares 0 0 0 0 0 0 0 0 0 0 0 0 0 0 0 0",
     "shares 0 0 0 0 0 0 0 0 0 0 0 0 0 0 0 0 0",
     "shares 0 0 0 0 0 0 0 0 0 0 0 0 0 0 0 0 0 0",
+    "profile 9 0 1 2 16 1 2 3 0 0 0 0 0 0 0 0 0 0 0 17 0 1 2",
+    "profile 9 0 1 2 16 1 2 3 0 0 0 0 0 0 0 0 0 0 0 17 7 1 1 1 1 1 1 1 1 1 1 1 1 1 1 1 1 1 2",
+    "profile 9 0 1 2 16 1 2 3 0 0 0 0 0 0 0 0 0 0 0 17 9 1 1 1 1 1 1 1 1 1 1 1 1 1 1 1 1 1 2",
+    "profile 9 0 1 2 16 1 2 3 0 0 0 0 0 0 0 0 0 0 0 17 9 1 1 1 1 1 1 1 1 1 1 1 1 1 1 1 1 1 1 1 2",
 ];
 
 /// Numbers that are of the shape, or nearly.
@@ -116,19 +120,21 @@ fn with_number(dice: &mut Dice, good: &[u8]) -> Vec<u8> {
     words.join(&b' ')
 }
 
-/// 510 to 514 hex digits, of which 512 are the most.
+/// 1,022 to 1,026 hex digits, of which 1,024 are the most; or around 512, which were the most before
+/// request (viii).
 fn long_hex(dice: &mut Dice) -> Vec<u8> {
-    let digits = 510 + dice.below(5);
+    let digits = dice.pick(&[512, 1024, 1024]) - 2 + dice.below(5);
     [b"post 0 11 25A0", &vec![b'0'; digits - 4][..]].concat()
 }
 
-/// The sample profile with 0 to 9 pairs, or half a one, and POSTS to match or 2.
+/// The sample profile with 0 to 11 pairs, or half a one, and POSTS to match, one less, or 2.
 fn pairs(dice: &mut Dice) -> Vec<u8> {
     let sample = super::profiles::line(&sample());
     let words: Vec<&[u8]> = sample.split(|byte| *byte == b' ').collect();
-    let numbers = dice.below(20);
-    let posts = match dice.below(2) {
+    let numbers = dice.below(24);
+    let posts = match dice.below(3) {
         0 => numbers / 2,
+        1 => (numbers / 2).saturating_sub(1),
         _ => 2,
     };
     let mut line = words[..21].join(&b' ');

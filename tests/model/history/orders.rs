@@ -76,7 +76,7 @@ impl Source {
             _ => {}
         }
         let too_wide = self.dice.pick(&[1 << 14, u32::MAX]);
-        match self.dice.below(14) {
+        match self.dice.below(17) {
             0 => {
                 let (caller, called) = self.parties();
                 let cause = self.dice.pick(&CAUSES_TOO_WIDE);
@@ -97,6 +97,8 @@ impl Source {
             }
             6 => b"dump".to_vec(),
             7..=9 => self.deactivate_amiss(post),
+            10 | 11 => self.interrogate(),
+            12 => self.interrogate_ack(),
             _ => {
                 let ending = 2 + self.dice.below(ENDINGS - 2);
                 let profile = &self.replay.desk.profile;

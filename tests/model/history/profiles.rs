@@ -22,9 +22,49 @@ pub fn draw(dice: &mut Dice) -> Profile {
             profile.meanings[1] = Meaning::List(1);
             profile.meanings[2] = Meaning::List(2);
         }
+        lists_of_one(dice, &mut profile);
+        failures(dice, &mut profile);
         if !draw::user_ranges(&profile).is_empty() {
             return profile;
         }
+    }
+}
+
+/// Several values that mean a list of one, the lowest of them anywhere; or none at all, or just the
+/// lowest or the highest value.
+fn lists_of_one(dice: &mut Dice, profile: &mut Profile) {
+    match dice.below(8) {
+        chosen @ 0..=2 => {
+            for meaning in profile.meanings.iter_mut() {
+                if *meaning == Meaning::List(1) {
+                    *meaning = Meaning::List(2);
+                }
+            }
+            if chosen > 0 {
+                profile.meanings[dice.pick(&[0, 15, 15])] = Meaning::List(1);
+            }
+        }
+        3..=5 => {
+            for _ in 0..2 + dice.below(3) {
+                profile.meanings[dice.below(16)] = Meaning::List(1);
+            }
+            if dice.one_in(2) {
+                profile.meanings[1] = Meaning::List(15);
+            }
+        }
+        _ => {}
+    }
+}
+
+/// Often what they are where a line leaves them out, or one of the two largest.
+fn failures(dice: &mut Dice, profile: &mut Profile) {
+    match dice.below(8) {
+        0 | 1 => (profile.failure_no_record, profile.failure_other_post) = (1, 2),
+        2..=5 => {
+            profile.failure_no_record = dice.pick(&[0, 7]);
+            profile.failure_other_post = dice.pick(&[0, 7]);
+        }
+        _ => {}
     }
 }
 
@@ -73,8 +113,47 @@ fn small(dice: &mut Dice, count: usize) -> Vec<Post> {
         .collect()
 }
 
+/// Without the failure reasons where they may be left out.
 pub fn line(profile: &Profile) -> Vec<u8> {
-    line_of(&numbers(profile))
+    match failures_of(profile) {
+        [1, 2] => line_of(&numbers(profile)),
+        given => line_of(&[&numbers(profile)[..], &given].concat()),
+    }
+}
+
+/// The same, with or without them where they may be left out.
+pub fn line_or_longer(dice: &mut Dice, profile: &Profile) -> Vec<u8> {
+    match dice.one_in(2) {
+        true => line(profile),
+        false => line_of(&[&numbers(profile)[..], &failures_of(profile)].concat()),
+    }
+}
+
+/// POSTS one or two less or more than the pairs are, so that a share is read as failure reasons or
+/// failure reasons as a share; most such lines are refused.
+pub fn line_by_pairs(dice: &mut Dice, profile: &Profile) -> Vec<u8> {
+    let mut numbers = numbers(profile);
+    if dice.one_in(2) {
+        numbers.extend(failures_of(profile));
+    }
+    let posts = numbers[20];
+    numbers[20] = match dice.below(5) {
+        0 => posts + 1,
+        1 => posts + 2,
+        2 => posts.saturating_sub(2),
+        _ => posts - 1,
+    };
+    if dice.one_in(2) {
+        // A share that may be read as failure reasons.
+        let last = numbers.len() - 2;
+        numbers[last] = dice.number(3);
+        numbers[last + 1] = 7;
+    }
+    line_of(&numbers)
+}
+
+fn failures_of(profile: &Profile) -> [u32; 2] {
+    [profile.failure_no_record, profile.failure_other_post]
 }
 
 /// One number of a good profile set so that a rule is broken, mostly by one.
@@ -83,7 +162,7 @@ pub fn bad_line(dice: &mut Dice, profile: &Profile) -> Vec<u8> {
     let post = 21 + 2 * dice.below(profile.posts.len());
     let far = dice.one_in(4);
     let over = |most: u32| if far { u32::MAX } else { most + 1 };
-    match dice.below(11) {
+    match dice.below(15) {
         0 => numbers[0] = over(63),
         1 => numbers[1] = over(LARGEST_24_BITS),
         2 => numbers[2] = over(127),
@@ -94,12 +173,22 @@ pub fn bad_line(dice: &mut Dice, profile: &Profile) -> Vec<u8> {
         7 => numbers[20] += 1,
         8 => numbers[post + 1] = 0,
         9 => numbers[post + 1] = over(PLACES),
+        10..=13 => {
+            // Mostly one of the two is good; some are good in their lowest 3 or 8 bits.
+            let mut failures = failures_of(profile);
+            let wrong = dice.pick(&[8, 8, 9, 15, 255, 256, 257, 65_536, u32::MAX]);
+            failures[dice.below(2)] = wrong;
+            if dice.one_in(6) {
+                failures[dice.below(2)] = wrong;
+            }
+            numbers.extend(failures);
+        }
         _ => numbers[post] = over(numbers[post + 1]),
     }
     line_of(&numbers)
 }
 
-/// The numbers of a profile in the order of the script's line.
+/// The numbers of a profile in the order of the script's line, up to its posts.
 fn numbers(profile: &Profile) -> Vec<u32> {
     let mut numbers = vec![
         profile.ss_type,
