@@ -8,6 +8,10 @@ mod deactivation_laws;
 mod deactivation_scripts;
 mod deactivations;
 mod desk;
+mod interrogation_answers;
+mod interrogation_reader;
+mod interrogation_scripts;
+mod interrogations;
 mod laws;
 mod layouts;
 mod ledger;
@@ -55,6 +59,7 @@ pub fn selftest(out: &mut dyn Write) -> io::Result<bool> {
     requests::check(&mut report)?;
     deactivations::check(&mut report)?;
     shares::check(&mut report)?;
+    interrogations::check(&mut report)?;
     breaks::check(&mut report)?;
     Ok(report.all_good)
 }
