@@ -3,7 +3,7 @@
 //! made by both of the product's calls.
 
 use crate::interface;
-use crate::tally::{Breaks, Tally};
+use crate::tally::{Breaks, Lengths, Tally};
 use std::mem;
 use std::process;
 use std::ptr;
@@ -98,6 +98,7 @@ pub struct Both {
     pub reads: Tally,
     /// Of the reads those that were answered 4.
     pub breaks: Breaks,
+    pub lengths: Lengths,
     pub writes: Tally,
     calls: usize,
     profile: Lent,
@@ -115,6 +116,7 @@ impl Both {
         Both {
             reads: Tally::new(),
             breaks: Breaks::new(),
+            lengths: Lengths::new(),
             writes: Tally::new(),
             calls: 0,
             profile: Lent::new(),
@@ -176,6 +178,7 @@ impl Both {
         if got == 4 {
             self.breaks.add(told[1], bits > told[0] as usize);
         }
+        self.lengths.add(got, bits, told[0] as usize);
         let pdu = if got == 0 { self.output.area()[0] } else { 0 };
         self.reads.add(got, pdu);
     }

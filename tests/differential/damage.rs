@@ -5,6 +5,10 @@ use crate::dice::Dice;
 
 const POSTS: usize = 22;
 const SHARES: usize = 23;
+const FAILURES: usize = 39;
+/// Before request (viii).
+const PROFILE_BEFORE: usize = 39;
+const VALUE_BEFORE: usize = 241;
 
 /// In a value: the marks of REQUEST's second to seventh option, and its numbers.
 const MARKS: usize = 228;
@@ -12,12 +16,18 @@ const MNI: usize = 234;
 const AREAS: usize = 237;
 const SERVICES: usize = 239;
 
+/// And INTERROGATE ACK's two types, and where its groups begin.
+const TYPES: usize = 241;
+const SOURCES: usize = 243;
+const DESTINATIONS: usize = 349;
+const RESTRICTED: usize = 455;
+
 pub fn profile(dice: &mut Dice, good: &[u8]) -> Vec<u8> {
     let mut bytes = good.to_vec();
-    match dice.below(14) {
+    match dice.below(16) {
         0 | 1 => flip(dice, &mut bytes),
         2 => any_byte(dice, &mut bytes),
-        3 => length(dice, &mut bytes),
+        3 => length(dice, &mut bytes, PROFILE_BEFORE),
         4 => bytes[0] = dice.pick(&[63, 64, 65, 127, 128, 255]),
         5 => bytes[4] = dice.pick(&[126, 127, 128, 129, 255]),
         6 => bytes[5] = dice.pick(&[126, 127, 128, 129, 255]),
@@ -36,6 +46,7 @@ pub fn profile(dice: &mut Dice, good: &[u8]) -> Vec<u8> {
             let ceiling = bytes[SHARES + 1 + 2 * post];
             bytes[SHARES + 2 * post] = dice.pick(&[ceiling - 1, ceiling, ceiling + 1]);
         }
+        13 | 14 => bytes[FAILURES + dice.below(2)] = dice.pick(&[0, 6, 7, 8, 9, 15, 128, 255]),
         _ => reserved_sum(dice, &mut bytes),
     }
     bytes
@@ -66,8 +77,8 @@ pub fn value(dice: &mut Dice, good: &[u8]) -> Vec<u8> {
         1 => 1,
         _ => dice.below(15),
     };
-    let address = dice.pick(&[2, 123]) + 7 * place;
-    match dice.below(20) {
+    let address = dice.pick(&[2, 123, SOURCES + 1, DESTINATIONS + 1]) + 7 * place;
+    match dice.below(25) {
         0 => flip(dice, &mut bytes),
         1 => any_byte(dice, &mut bytes),
         2 => bytes[0] = dice.number(5) as u8,
@@ -76,7 +87,7 @@ pub fn value(dice: &mut Dice, good: &[u8]) -> Vec<u8> {
         5 => bytes[107] = dice.pick(&[0, 1, 1, 2, 255]),
         6 => bytes[108 + dice.below(8)] ^= 1 << dice.below(8),
         7 => bytes[116] = dice.pick(&[0, 1, 2, 255]),
-        8 => bytes[117] = dice.pick(&[0, 1, 127, 128, 255]),
+        8 => bytes[117] = dice.pick(&[0, 1, 7, 8, 127, 128, 255]),
         9 => bytes[118] = dice.pick(&[0, 1, 31, 32, 255]),
         10 => bytes[119] = dice.pick(&[0, 1, 63, 64, 255]),
         11 => bytes[121] = dice.pick(&[0, 1, 1, 2, 255]),
@@ -94,7 +105,21 @@ pub fn value(dice: &mut Dice, good: &[u8]) -> Vec<u8> {
         16 => bytes[MNI + dice.below(3)] = dice.pick(&[0, 1, 255]),
         17 => bytes[AREAS + dice.below(2)] = dice.pick(&[0, 1, 15, 16, 255]),
         18 => bytes[SERVICES + dice.below(2)] = dice.pick(&[0, 1, 3, 4, 255]),
-        _ => length(dice, &mut bytes),
+        19 => bytes[TYPES + dice.below(2)] = dice.pick(&[0, 1, 1, 2, 255]),
+        20 => bytes[dice.pick(&[SOURCES, DESTINATIONS, RESTRICTED])] = dice.below(18) as u8,
+        21 => bytes[RESTRICTED + 1 + place] = dice.pick(&[0, 1, 14, 15, 16, 255]),
+        22 => {
+            // areas a step apart, either way
+            let first = bytes[RESTRICTED + 1];
+            bytes[RESTRICTED + 2] =
+                dice.pick(&[first, first.wrapping_sub(1), first.wrapping_add(1)]);
+        }
+        23 => {
+            // a mark without what it marks, or the other way round
+            let mark = dice.pick(&[121, MARKS, MARKS + 1, MARKS + 2]);
+            bytes[mark] ^= 1;
+        }
+        _ => length(dice, &mut bytes, VALUE_BEFORE),
     }
     bytes
 }
@@ -107,16 +132,17 @@ fn any_byte(dice: &mut Dice, bytes: &mut [u8]) {
     bytes[dice.below(bytes.len())] = dice.number(8) as u8;
 }
 
-/// Another length, often by one byte.
-fn length(dice: &mut Dice, bytes: &mut Vec<u8>) {
+/// Another length, often by one byte, or the one that it was before.
+fn length(dice: &mut Dice, bytes: &mut Vec<u8>, before: usize) {
     let own = bytes.len();
-    let other = match dice.below(8) {
+    let other = match dice.below(10) {
         0 => 0,
         1 => 1,
         2 => 2 * own,
         3 => own + dice.below(100),
         4 => dice.below(own),
         5 => own + 1,
+        6 | 7 => before,
         _ => own - 1,
     };
     let more = dice.pick(&[0, 0, 255]);

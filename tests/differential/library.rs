@@ -34,6 +34,12 @@ pub mod fault;
 #[path = "../model/interface.rs"]
 pub mod interface;
 #[allow(dead_code)]
+#[path = "../model/interrogate_ack.rs"]
+pub mod interrogate_ack;
+#[allow(dead_code)]
+#[path = "../model/interrogation_fault.rs"]
+pub mod interrogation_fault;
+#[allow(dead_code)]
 #[path = "../model/layout.rs"]
 pub mod layout;
 #[allow(dead_code)]
@@ -86,11 +92,12 @@ pub extern "C" fn differential(seed: u64, reads: u64, writes: u64) -> i32 {
     }
     both.reads.print("reads");
     both.breaks.print();
+    both.lengths.print();
     both.writes.print("writes");
     let every_read = both
         .reads
-        .gave_all(&[0, 1, 3, 4, 5, 6, 7, 9, 10, 11, 12, 13, 14]);
-    let every_element = both.breaks.gave_all();
+        .gave_all(&[0, 1, 3, 4, 5, 6, 7, 9, 10, 11, 12, 13, 14, 27]);
+    let every_element = both.breaks.gave_all() & both.lengths.gave_all();
     let every_write = both.writes.gave_all(&[0, 1, 14, 22]);
     if every_read && every_element && every_write {
         0

@@ -8,14 +8,15 @@ use crate::damage;
 use crate::dice::Dice;
 use crate::draw;
 use crate::fault;
+use crate::interrogation_fault::{interrogation, longest};
 use crate::layout::{profile_bytes, VALUE_BYTES};
 use crate::profile::{sample, Meaning, Profile};
 use crate::user_fault;
-use crate::write::bytes_of;
+use crate::write::{bits_of, bytes_of};
 
 /// Sizes of the value area: none, just within a field, the bound and its neighbours, more.
-const ROOMS: [usize; 15] = [
-    0, 1, 107, 121, 200, 227, 228, 229, 239, 240, 241, 242, 243, 256, 300,
+const ROOMS: [usize; 19] = [
+    0, 1, 107, 121, 200, 228, 240, 241, 242, 243, 348, 349, 455, 469, 470, 471, 472, 473, 512,
 ];
 
 const FAULTS_A_ROUND: usize = 300;
@@ -71,9 +72,13 @@ fn room(dice: &mut Dice) -> usize {
     }
 }
 
-/// A valid message at every bit length from 0 to its own, with or without the bytes left.
+/// A valid message at every bit length from 0 to its own, with or without the bytes left; now and
+/// then the longest that the profile has.
 fn cut_short(dice: &mut Dice, both: &mut Both, profile: &Profile, lent: &[u8]) {
-    let bits = fault::sound(dice, profile);
+    let bits = match dice.one_in(16) {
+        true => long(dice, profile),
+        false => fault::sound(dice, profile),
+    };
     let whole = bytes_of(&bits);
     let bytes_stay = dice.one_in(2);
     for length in 0..=bits.len() {
@@ -102,7 +107,7 @@ fn faulty(dice: &mut Dice, profile: &Profile) -> Vec<bool> {
         .meanings
         .iter()
         .any(|meaning| matches!(meaning, Meaning::List(_) | Meaning::FirstAndLast));
-    let mut bits = match dice.below(17) {
+    let mut bits = match dice.below(21) {
         0 => fault::ss_type(dice, profile),
         1 => fault::pdu_type(dice, profile),
         2 | 3 if has_users => user_fault::range_ends(dice, profile),
@@ -124,12 +129,22 @@ fn faulty(dice: &mut Dice, profile: &Profile) -> Vec<bool> {
         11 => fault::options(dice, profile),
         12 => fault::about_waiting_call(dice, profile),
         13 | 14 => user_fault::deactivation(dice, profile),
+        15..=17 => interrogation(dice, profile),
+        18 => long(dice, profile),
         _ => fault::sound(dice, profile),
     };
     if dice.one_in(6) {
         fault::touch(dice, &mut bits);
     }
     bits
+}
+
+/// As long as the profile allows, if it has a list at all.
+fn long(dice: &mut Dice, profile: &Profile) -> Vec<bool> {
+    match longest(dice, profile) {
+        Some(message) => bits_of(profile, &message),
+        None => fault::sound(dice, profile),
+    }
 }
 
 /// The same bits with spare bits and further bytes of any value.
@@ -146,8 +161,8 @@ fn dressed(dice: &mut Dice, bits: &[bool]) -> Vec<u8> {
     bytes
 }
 
-/// More bits than the bytes hold, lengths around 2,048, and those that are the right one in
-/// their low 8, 16 or 32 bits.
+/// More bits than the bytes hold, lengths around 4,096 and around 2,048, and those that are the
+/// right one in their low 8, 16 or 32 bits.
 fn odd_length(dice: &mut Dice, both: &mut Both, profile: &Profile, lent: &[u8]) {
     let bits = fault::sound(dice, profile);
     let mut bytes = bytes_of(&bits);
@@ -162,7 +177,11 @@ fn odd_length(dice: &mut Dice, both: &mut Both, profile: &Profile, lent: &[u8]) 
             own
         }
         _ => {
-            let more = 253 + dice.below(6);
+            let most = match bytes.len() > 250 {
+                true => 4096,
+                false => dice.pick(&[2048, 4096]),
+            };
+            let more = most / 8 - 3 + dice.below(6);
             if dice.one_in(2) {
                 bytes.resize(more, 0);
             } else {
@@ -172,8 +191,8 @@ fn odd_length(dice: &mut Dice, both: &mut Both, profile: &Profile, lent: &[u8]) 
             match dice.below(4) {
                 0 => own,
                 1 => 8 * bytes.len() + dice.below(2),
-                2 => dice.pick(&[2047, 2048, 2049]),
-                _ => 2030 + dice.below(40),
+                2 => dice.pick(&[most - 1, most, most + 1]),
+                _ => most - 18 + dice.below(40),
             }
         }
     };

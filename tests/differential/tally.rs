@@ -31,7 +31,7 @@ impl Tally {
         self.answers.iter().sum()
     }
 
-    /// Whether just these answers came, each of them, and each of the fourteen messages.
+    /// Whether just these answers came, each of them, and each of the fifteen messages.
     pub fn gave_all(&self, wanted: &[usize]) -> bool {
         let mut all = true;
         for answer in 0..ANSWERS {
@@ -86,7 +86,14 @@ impl Breaks {
 
     /// Whether each element came, and each of several bits with some of them there.
     pub fn gave_all(&self) -> bool {
-        let one_bit = ["mask-present", "result", "o-bit", "p-bit"];
+        let one_bit = [
+            "mask-present",
+            "result",
+            "o-bit",
+            "p-bit",
+            "activation-type",
+            "interception-type",
+        ];
         let mut all = true;
         for (name, [none_there, some_there]) in ELEMENTS.iter().zip(self.elements) {
             // A message of no bits is refused with 3.
@@ -107,5 +114,57 @@ impl Breaks {
             .map(|(name, times)| format!("{name} {}", times[0] + times[1]))
             .collect();
         println!("  of answer 4: {}", of_each.join(", "));
+    }
+}
+
+/// Of the reads: how often each of some lengths came, long messages and both sides of the bounds.
+pub struct Lengths {
+    times: [u64; LENGTHS.len()],
+}
+
+const LENGTHS: [&str; 7] = [
+    "over 2,048 bits, read",
+    "3,119 bits, read",
+    "2,049 bits, not 3",
+    "4,096 bits, not 3",
+    "4,097 bits, 3",
+    "4 over 2,047",
+    "27 over 2,047",
+];
+
+impl Lengths {
+    pub fn new() -> Self {
+        Lengths {
+            times: [0; LENGTHS.len()],
+        }
+    }
+
+    /// The position is that of a 4.
+    pub fn add(&mut self, answer: u32, bits: usize, position: usize) {
+        let came = [
+            answer == 0 && bits > 2048,
+            answer == 0 && bits == 3119,
+            answer > 3 && bits == 2049,
+            answer > 3 && bits == 4096,
+            answer == 3 && bits == 4097,
+            answer == 4 && position > 2047,
+            answer == 27 && bits > 2047,
+        ];
+        for (times, came) in self.times.iter_mut().zip(came) {
+            *times += u64::from(came);
+        }
+    }
+
+    pub fn gave_all(&self) -> bool {
+        self.times.iter().all(|times| *times > 0)
+    }
+
+    pub fn print(&self) {
+        let of_each: Vec<String> = LENGTHS
+            .iter()
+            .zip(self.times)
+            .map(|(words, times)| format!("{words}: {times}"))
+            .collect();
+        println!("  of the lengths: {}", of_each.join("; "));
     }
 }
