@@ -1,13 +1,13 @@
 //! A plain reader, as one writes it without a thought of speed and without waste: one bit at a
-//! time, numbers into the value's 241 bytes, no allocation. It reads and checks all that `cad_read`
+//! time, numbers into the value's 471 bytes, no allocation. It reads and checks all that `cad_read`
 //! does, with the same refusals in the same order, and is what `cad_read`'s speed is measured by.
 
 use std::slice;
 
 type Refusal = u32;
 
-const PROFILE_BYTES: usize = 39;
-const VALUE_BYTES: usize = 241;
+const PROFILE_BYTES: usize = 41;
+const VALUE_BYTES: usize = 471;
 
 /// Where the value has what.
 const USERS: usize = 1;
@@ -19,20 +19,31 @@ const CAUSE: usize = 118;
 const IDENTIFIER: usize = 119;
 const OPTION: usize = 121;
 const DISPATCHERS: usize = 122;
-/// REQUEST's marks, from the second option's on.
+/// REQUEST's marks, from the second option's on, and INTERROGATE ACK's.
 const MARKS: usize = 228;
+const CALLING_SERVICE: usize = 239;
+const CALLED_SERVICE: usize = 240;
+const ACTIVATION: usize = 241;
+const INTERCEPTION: usize = 242;
+const SOURCES: usize = 243;
+const DESTINATIONS: usize = 349;
+const AREAS: usize = 455;
 
 /// REQUEST's options that are numbers: the mark's place, the number's, its bits and its bytes.
 const NUMBERS: [(usize, usize, usize, usize); 5] = [
     (MARKS + 1, 234, 24, 3),
     (MARKS + 2, 237, 4, 1),
     (MARKS + 3, 238, 4, 1),
-    (MARKS + 4, 239, 2, 1),
-    (MARKS + 5, 240, 2, 1),
+    (MARKS + 4, CALLING_SERVICE, 2, 1),
+    (MARKS + 5, CALLED_SERVICE, 2, 1),
 ];
 
 const NOBODY: u8 = 16;
 const FIRST_AND_LAST: u8 = 17;
+
+/// What an address of kind 3 is refused with; a destination may be external elsewhere.
+const KIND: Refusal = 10;
+const EXTERNAL: Refusal = 27;
 
 struct Bits<'a> {
     bytes: &'a [u8],
@@ -68,7 +79,7 @@ fn read(profile: &[u8], message: &[u8], bits: usize, area: &mut [u8]) -> Result<
     if !keeps_rules(profile) {
         return Err(1);
     }
-    if bits == 0 || bits > 2048 || bits > 8 * message.len() {
+    if bits == 0 || bits > 4096 || bits > 8 * message.len() {
         return Err(3);
     }
     let mut value = [0; VALUE_BYTES];
@@ -92,12 +103,15 @@ fn keeps_rules(profile: &[u8]) -> bool {
     if profile.len() != PROFILE_BYTES || profile[0] > 63 || profile[4] > 127 || profile[5] > 127 {
         return false;
     }
+    if profile[39] > 7 || profile[40] > 7 {
+        return false;
+    }
     let posts = usize::from(profile[22]);
     if posts == 0 || posts > 8 || profile[6..22].iter().any(|meaning| *meaning > FIRST_AND_LAST) {
         return false;
     }
     let mut reserved_together = 0;
-    for (post, share) in profile[23..].chunks(2).enumerate() {
+    for (post, share) in profile[23..39].chunks(2).enumerate() {
         let (reserved, ceiling) = (share[0], share[1]);
         if post >= posts {
             if reserved != 0 || ceiling != 0 {
@@ -124,26 +138,46 @@ fn read_elements(profile: &[u8], rest: &mut Bits, value: &mut [u8]) -> Result<()
         2 => {
             read_users(profile, rest, value)?;
             if read_option(rest, value)? {
-                read_group(profile, rest, value, DISPATCHERS)?;
+                read_group(profile, rest, value, DISPATCHERS, KIND)?;
             }
             Ok(())
         }
         3 | 5 => {
             let identities = read_users(profile, rest, value)?;
-            read_ack(rest, identities, value)
+            read_mask(rest, identities, value)?;
+            if rest.take(1)? == 1 {
+                value[RESULT] = 1;
+            } else {
+                value[REASON] = rest.take(7)? as u8;
+            }
+            Ok(())
         }
         4 => {
             read_users(profile, rest, value)?;
             Ok(())
         }
         8 => {
-            read_address(rest, value, USERS + 1)?;
+            read_address(rest, value, USERS + 1, KIND)?;
             Ok(())
+        }
+        9 => {
+            let identities = read_users(profile, rest, value)?;
+            read_mask(rest, identities, value)?;
+            if rest.take(1)? == 1 {
+                value[RESULT] = 1;
+                value[ACTIVATION] = rest.take(1)? as u8;
+                value[INTERCEPTION] = rest.take(1)? as u8;
+                value[CALLED_SERVICE] = rest.take(2)? as u8;
+                value[CALLING_SERVICE] = rest.take(2)? as u8;
+            } else {
+                value[REASON] = rest.take(3)? as u8;
+            }
+            read_groups(profile, rest, value)
         }
         10 | 16 | 18 => {
             value[CAUSE] = rest.take(5)? as u8;
             if read_option(rest, value)? {
-                read_address(rest, value, DISPATCHERS + 1)?;
+                read_address(rest, value, DISPATCHERS + 1, KIND)?;
             }
             Ok(())
         }
@@ -166,7 +200,7 @@ fn read_elements(profile: &[u8], rest: &mut Bits, value: &mut [u8]) -> Result<()
     }
 }
 
-fn read_ack(rest: &mut Bits, identities: usize, value: &mut [u8]) -> Result<(), Refusal> {
+fn read_mask(rest: &mut Bits, identities: usize, value: &mut [u8]) -> Result<(), Refusal> {
     if rest.take(1)? == 1 {
         if identities > rest.length - rest.next {
             return Err(4);
@@ -176,11 +210,6 @@ fn read_ack(rest: &mut Bits, identities: usize, value: &mut [u8]) -> Result<(), 
             value[MASK + identity / 8] |= rest.bit(rest.next + identity) << (7 - identity % 8);
         }
         rest.next += identities;
-    }
-    if rest.take(1)? == 1 {
-        value[RESULT] = 1;
-    } else {
-        value[REASON] = rest.take(7)? as u8;
     }
     Ok(())
 }
@@ -207,7 +236,7 @@ fn read_request_options(rest: &mut Bits, value: &mut [u8]) -> Result<(), Refusal
         if rest.take(1)? == 1 {
             there += 1;
             value[mark] = 1;
-            read_address(rest, value, address)?;
+            read_address(rest, value, address, KIND)?;
         }
     }
     for (mark, at, width, bytes) in NUMBERS {
@@ -223,9 +252,58 @@ fn read_request_options(rest: &mut Bits, value: &mut [u8]) -> Result<(), Refusal
     Ok(())
 }
 
+/// The O-bit, and after an O-bit of 1 INTERROGATE ACK's four groups, each behind its P-bit; one has
+/// to be there.
+fn read_groups(profile: &[u8], rest: &mut Bits, value: &mut [u8]) -> Result<(), Refusal> {
+    if rest.take(1)? == 0 {
+        return Ok(());
+    }
+    let mut there = 0;
+    for (mark, at, external) in [
+        (OPTION, DISPATCHERS, KIND),
+        (MARKS, SOURCES, KIND),
+        (MARKS + 1, DESTINATIONS, EXTERNAL),
+    ] {
+        if rest.take(1)? == 1 {
+            there += 1;
+            value[mark] = 1;
+            read_group(profile, rest, value, at, external)?;
+        }
+    }
+    if rest.take(1)? == 1 {
+        there += 1;
+        value[MARKS + 2] = 1;
+        read_areas(profile, rest, value)?;
+    }
+    if there == 0 {
+        return Err(12);
+    }
+    Ok(())
+}
+
+/// A range number and the areas that it announces.
+fn read_areas(profile: &[u8], rest: &mut Bits, value: &mut [u8]) -> Result<(), Refusal> {
+    let range = rest.take(4)?;
+    value[AREAS] = range as u8;
+    let meaning = profile[6 + range as usize];
+    let count = match meaning {
+        0 => return Err(9),
+        NOBODY => 0,
+        FIRST_AND_LAST => 2,
+        count => usize::from(count),
+    };
+    for place in 1..=count {
+        value[AREAS + place] = rest.take(4)? as u8;
+    }
+    if meaning == FIRST_AND_LAST && value[AREAS + 1] > value[AREAS + 2] {
+        return Err(11);
+    }
+    Ok(())
+}
+
 /// Users may not be nobody.
 fn read_users(profile: &[u8], rest: &mut Bits, value: &mut [u8]) -> Result<usize, Refusal> {
-    let identities = read_group(profile, rest, value, USERS)?;
+    let identities = read_group(profile, rest, value, USERS, KIND)?;
     if identities == 0 {
         return Err(9);
     }
@@ -238,6 +316,7 @@ fn read_group(
     rest: &mut Bits,
     value: &mut [u8],
     at: usize,
+    external: Refusal,
 ) -> Result<usize, Refusal> {
     let range = rest.take(4)?;
     value[at] = range as u8;
@@ -245,8 +324,8 @@ fn read_group(
         0 => Err(9),
         NOBODY => Ok(0),
         FIRST_AND_LAST => {
-            let first = read_address(rest, value, at + 1)?;
-            let last = read_address(rest, value, at + 8)?;
+            let first = read_address(rest, value, at + 1, external)?;
+            let last = read_address(rest, value, at + 8, external)?;
             let same = first.kind == last.kind && first.extension == last.extension;
             if !same || first.ssi > last.ssi || last.ssi - first.ssi > 63 {
                 return Err(11);
@@ -255,17 +334,25 @@ fn read_group(
         }
         count => {
             for place in 0..usize::from(count) {
-                read_address(rest, value, at + 1 + 7 * place)?;
+                read_address(rest, value, at + 1 + 7 * place, external)?;
             }
             Ok(usize::from(count))
         }
     }
 }
 
-fn read_address(rest: &mut Bits, value: &mut [u8], at: usize) -> Result<Address, Refusal> {
+fn read_address(
+    rest: &mut Bits,
+    value: &mut [u8],
+    at: usize,
+    external: Refusal,
+) -> Result<Address, Refusal> {
     let kind = rest.take(2)?;
-    if kind == 0 || kind == 3 {
-        return Err(10);
+    if kind == 0 {
+        return Err(KIND);
+    }
+    if kind == 3 {
+        return Err(external);
     }
     let ssi = rest.take(24)?;
     let extension = if kind == 2 { rest.take(24)? } else { 0 };
