@@ -33,23 +33,23 @@ extern "C" {
 #endif
 
 /** The version of this interface; later ones append to both layouts and move nothing. */
-#define CAD_VERSION "1.3.0"
+#define CAD_VERSION "1.4.0"
 
 /** @name Limits
  * @{ */
 #define CAD_RANGES 16            /**< range values, 0 to 15, each with a meaning */
 #define CAD_POSTS 8              /**< the most posts of a profile */
-#define CAD_ADDRESSES 15         /**< the most addresses of a group */
+#define CAD_ADDRESSES 15         /**< the most addresses of a group, and the most areas */
 #define CAD_IDENTITIES 64        /**< the most identities of a group, so the most mask bits */
-#define CAD_READ_BITS 2048       /**< the most bits that cad_read() takes; more are refused with 3 */
-#define CAD_MESSAGE_BITS 1521    /**< the most bits that a message has: ACTIVATE with fifteen users and fifteen dispatchers */
-#define CAD_MESSAGE_BYTES 191    /**< an area of so many bytes has room for every message */
+#define CAD_READ_BITS 4096       /**< the most bits that cad_read() takes; more are refused with 3 */
+#define CAD_MESSAGE_BITS 3119    /**< the most bits that a message has: INTERROGATE ACK with fifteen users and fifteen of each group */
+#define CAD_MESSAGE_BYTES 390    /**< an area of so many bytes has room for every message */
 /** @} */
 
 /** @name The profile's bytes
  * Numbers of several bytes are big-endian.
  * @{ */
-#define CAD_PROFILE_BYTES 39     /**< a profile has so many bytes, neither more nor fewer */
+#define CAD_PROFILE_BYTES 41     /**< a profile has so many bytes, neither more nor fewer */
 #define CAD_PROFILE_SS_TYPE 0    /**< SS type, 0 to 63 */
 #define CAD_PROFILE_HOME 1       /**< home extension, 3 bytes */
 #define CAD_PROFILE_U 4          /**< U, the failure reason for an identity with no record, 0 to 127 */
@@ -58,35 +58,48 @@ extern "C" {
 #define CAD_PROFILE_COUNT 22     /**< how many posts there are, 1 to 8 */
 #define CAD_PROFILE_SHARES 23    /**< eight shares of #CAD_SHARE_BYTES; zero where there is no post */
 #define CAD_SHARE_BYTES 2        /**< a share: the reserved number, then the ceiling */
+#define CAD_PROFILE_UNRECORDED 39 /**< INTERROGATE ACK's failure reason for an identity with no record, 0 to 7 */
+#define CAD_PROFILE_ELSEWHERE 40 /**< INTERROGATE ACK's failure reason for another post's user, 0 to 7 */
 /** @} */
 
 /** @name The value's bytes
  * One layout for all messages; what a message doesn't carry is zero. Numbers of several bytes are big-endian.
  * @{ */
-#define CAD_VALUE_BYTES 241           /**< a value has so many bytes */
+#define CAD_VALUE_BYTES 471           /**< a value has so many bytes */
 #define CAD_VALUE_PDU 0               /**< PDU type, see cad_pdu */
 #define CAD_VALUE_USER_RANGE 1        /**< range value of the users, 0 to 15 */
 #define CAD_VALUE_USERS 2             /**< fifteen user addresses of #CAD_ADDRESS_BYTES */
 #define CAD_VALUE_MASKED 107          /**< whether there is a mask, 0 or 1 */
 #define CAD_VALUE_MASK 108            /**< the mask, 8 bytes: identity i is bit 7 - i % 8 of byte i / 8 */
 #define CAD_VALUE_RESULT 116          /**< result: 1 accepted, 0 not accepted */
-#define CAD_VALUE_REASON 117          /**< reason, 0 to 127, where the result is 0 */
+#define CAD_VALUE_REASON 117          /**< reason where the result is 0: 0 to 127, of an INTERROGATE ACK 0 to 7 */
 #define CAD_VALUE_CAUSE 118           /**< cause, 0 to 31 */
 #define CAD_VALUE_IDENTIFIER 119      /**< call identifier, 2 bytes, 0 to 16,383 */
 #define CAD_VALUE_OPTION 121          /**< whether the option is there, 0 or 1; of a REQUEST the calling address */
 #define CAD_VALUE_DISPATCHER_RANGE 122 /**< range value of the dispatchers, 0 to 15 */
 #define CAD_VALUE_DISPATCHERS 123     /**< fifteen dispatcher addresses of #CAD_ADDRESS_BYTES */
-#define CAD_VALUE_HAS_CALLED 228      /**< whether the called address is there, 0 or 1; so with the next five */
+#define CAD_VALUE_HAS_CALLED 228      /**< of a REQUEST, whether the called address is there, 0 or 1; so with the next five */
 #define CAD_VALUE_HAS_MNI 229         /**< the network */
 #define CAD_VALUE_HAS_CALLING_AREA 230 /**< the area of the calling */
 #define CAD_VALUE_HAS_CALLED_AREA 231 /**< the area of the called */
 #define CAD_VALUE_HAS_CALLING_SERVICE 232 /**< the basic service of the calling */
 #define CAD_VALUE_HAS_CALLED_SERVICE 233 /**< the basic service of the called */
+#define CAD_VALUE_HAS_SOURCES 228     /**< of an INTERROGATE ACK, whether the sources are there, 0 or 1; so with the next two */
+#define CAD_VALUE_HAS_DESTINATIONS 229 /**< the destinations */
+#define CAD_VALUE_HAS_AREAS 230       /**< the areas */
 #define CAD_VALUE_MNI 234             /**< the network (MNI), 3 bytes */
 #define CAD_VALUE_CALLING_AREA 237    /**< area of the calling, 0 to 15 */
 #define CAD_VALUE_CALLED_AREA 238     /**< area of the called, 0 to 15 */
 #define CAD_VALUE_CALLING_SERVICE 239 /**< basic service of the calling, 0 to 3 */
 #define CAD_VALUE_CALLED_SERVICE 240  /**< basic service of the called, 0 to 3 */
+#define CAD_VALUE_ACTIVATION_TYPE 241 /**< activation type: 1 activated, 0 not */
+#define CAD_VALUE_INTERCEPTION_TYPE 242 /**< interception type: 0 immediate set-up, 1 set-up at the dispatcher's request */
+#define CAD_VALUE_SOURCE_RANGE 243    /**< range value of the sources, 0 to 15 */
+#define CAD_VALUE_SOURCES 244         /**< fifteen source addresses of #CAD_ADDRESS_BYTES */
+#define CAD_VALUE_DESTINATION_RANGE 349 /**< range value of the destinations, 0 to 15 */
+#define CAD_VALUE_DESTINATIONS 350    /**< fifteen destination addresses of #CAD_ADDRESS_BYTES */
+#define CAD_VALUE_AREA_RANGE 455      /**< range value of the areas, 0 to 15 */
+#define CAD_VALUE_AREAS 456           /**< fifteen areas of a byte, 0 to 15 */
 #define CAD_ADDRESS_BYTES 7           /**< an address: kind, SSI in 3 bytes, extension in 3 bytes */
 #define CAD_ADDRESS_SSI 1             /**< the SSI within an address */
 #define CAD_ADDRESS_EXTENSION 4       /**< the extension within an address */
@@ -99,6 +112,8 @@ enum cad_pdu {
     CAD_DEACTIVATE = 4,     /**< users */
     CAD_DEACTIVATE_ACK = 5, /**< users, mask, result, reason */
     CAD_INTERROGATE = 8,    /**< user address 0 */
+    CAD_INTERROGATE_ACK = 9, /**< users, mask, result; reason, or activation type, interception type and basic services; options:
+                                  dispatchers, sources, destinations, areas */
     CAD_INTERCEPTED = 10,   /**< cause, option: dispatcher address 0 */
     CAD_REQUEST = 11,       /**< call identifier, cause, options: calling (user address 0), called (1), MNI, areas, basic services */
     CAD_ACCEPT = 12,        /**< call identifier */
@@ -110,7 +125,8 @@ enum cad_pdu {
     CAD_REJECTED = 18       /**< cause, option: dispatcher address 0 */
 };
 
-/** What the three functions answer. Where several grounds hold, docs/REFUSALS.md says which number comes. */
+/** What the three functions answer. Where several grounds hold, docs/REFUSALS.md says which number comes; its other numbers are the
+ * desk's, and never come from C. */
 enum cad_refusal {
     CAD_DONE = 0,                 /**< read, or written */
     CAD_REFUSED_PROFILE = 1,      /**< the profile breaks a rule, or has not #CAD_PROFILE_BYTES bytes */
@@ -120,26 +136,27 @@ enum cad_refusal {
     CAD_REFUSED_UNKNOWN = 6,      /**< reading: PDU type 0, 1 or 19 to 31 */
     CAD_REFUSED_NOT_CARRIED = 7,  /**< reading: a PDU type that is known and not carried */
     CAD_REFUSED_RANGE = 9,        /**< reading: a range that is reserved, or means "none" for users */
-    CAD_REFUSED_KIND = 10,        /**< reading: an address of kind 0 or 3 */
-    CAD_REFUSED_ENDS = 11,        /**< reading: range ends that differ in kind or extension, fall, or span over 64 */
+    CAD_REFUSED_KIND = 10,        /**< reading: an address of kind 0, or of kind 3 if it is no destination */
+    CAD_REFUSED_ENDS = 11,        /**< reading: range ends that differ in kind or extension, fall, or span over 64; areas that fall */
     CAD_REFUSED_OPTION = 12,      /**< reading: O-bit 1 and no P-bit 1 */
     CAD_REFUSED_LEFT_OVER = 13,   /**< reading: bits are left over */
     CAD_REFUSED_ROOM = 14,        /**< the area lent is shorter than the value (reading) or the message (writing) */
-    CAD_REFUSED_VALUE = 22        /**< writing: the value is not a valid one, or has not #CAD_VALUE_BYTES bytes */
+    CAD_REFUSED_VALUE = 22,       /**< writing: the value is not a valid one, or has not #CAD_VALUE_BYTES bytes */
+    CAD_REFUSED_EXTERNAL = 27     /**< reading: a destination of kind 3, an external number; it comes in 10's place */
 };
 
 /** The elements of a message, as cad_read_at() names the one that did not fit. No element has the number 0. */
 enum cad_element {
     CAD_ELEMENT_SS_TYPE = 1,             /**< SS type, 6 bits */
     CAD_ELEMENT_PDU_TYPE = 2,            /**< PDU type, 5 bits */
-    CAD_ELEMENT_RANGE = 3,               /**< range of users or dispatchers, 4 bits */
+    CAD_ELEMENT_RANGE = 3,               /**< range of users or of another group, 4 bits */
     CAD_ELEMENT_KIND = 4,                /**< kind of an address, 2 bits */
     CAD_ELEMENT_SSI = 5,                 /**< SSI of an address, 24 bits */
     CAD_ELEMENT_EXTENSION = 6,           /**< extension of an address of kind 2, 24 bits */
     CAD_ELEMENT_MASK_PRESENT = 7,        /**< whether an ACK has a mask, 1 bit */
     CAD_ELEMENT_MASK = 8,                /**< the mask, one bit for each identity; it is one element */
     CAD_ELEMENT_RESULT = 9,              /**< result of an ACK, 1 bit */
-    CAD_ELEMENT_REASON = 10,             /**< failure reason, 7 bits */
+    CAD_ELEMENT_REASON = 10,             /**< failure reason, 7 bits, of an INTERROGATE ACK 3 */
     CAD_ELEMENT_CAUSE = 11,              /**< interception cause, 5 bits */
     CAD_ELEMENT_IDENTIFIER = 12,         /**< call identifier, 14 bits */
     CAD_ELEMENT_O_BIT = 13,              /**< whether there are options, 1 bit */
@@ -147,9 +164,9 @@ enum cad_element {
     CAD_ELEMENT_MNI = 15,                /**< network (MNI), 24 bits */
     CAD_ELEMENT_AREA = 16,               /**< area, 4 bits */
     CAD_ELEMENT_BASIC_SERVICE = 17,      /**< basic service, 2 bits */
-    CAD_ELEMENT_ACTIVATION_TYPE = 18,    /**< comes with a message that is not carried yet */
-    CAD_ELEMENT_INTERCEPTION_TYPE = 19,  /**< as the one before */
-    CAD_ELEMENT_TYPE_OF_RESTRICTION = 20 /**< as the one before */
+    CAD_ELEMENT_ACTIVATION_TYPE = 18,    /**< activation type, 1 bit */
+    CAD_ELEMENT_INTERCEPTION_TYPE = 19,  /**< interception type, 1 bit */
+    CAD_ELEMENT_TYPE_OF_RESTRICTION = 20 /**< comes with a message that is not carried yet */
 };
 
 /** What a range value means, one byte of the profile. 1 to 15 mean a list of so many addresses. */
@@ -177,7 +194,7 @@ enum cad_kind {
  * @param bits        the message's length in bits
  * @param value       where the value goes
  * @param value_len   how many bytes are lent there, at least #CAD_VALUE_BYTES
- * @return 0, or the refusal: 1, then 3, then along the bits 4 to 13, then 14
+ * @return 0, or the refusal: 1, then 3, then along the bits 4 to 13 and 27, then 14
  */
 uint32_t cad_read(const uint8_t *profile, size_t profile_len, const uint8_t *message, size_t message_len, size_t bits, uint8_t *value,
                   size_t value_len);
@@ -237,6 +254,7 @@ static inline const char *cad_pdu_name(unsigned pdu)
     case CAD_DEACTIVATE: return "DEACTIVATE";
     case CAD_DEACTIVATE_ACK: return "DEACTIVATE ACK";
     case CAD_INTERROGATE: return "INTERROGATE";
+    case CAD_INTERROGATE_ACK: return "INTERROGATE ACK";
     case CAD_INTERCEPTED: return "INTERCEPTED";
     case CAD_REQUEST: return "REQUEST";
     case CAD_ACCEPT: return "ACCEPT";
@@ -284,7 +302,7 @@ static inline const char *cad_refusal_text(uint32_t refusal)
     switch (refusal) {
     case CAD_DONE: return "done";
     case CAD_REFUSED_PROFILE: return "the profile breaks a rule";
-    case CAD_REFUSED_LENGTH: return "no bits, over 2048, or more than the bytes have";
+    case CAD_REFUSED_LENGTH: return "no bits, over 4096, or more than the bytes have";
     case CAD_REFUSED_SHORT: return "an element reaches past the bit length";
     case CAD_REFUSED_SS_TYPE: return "the SS type is not the profile's";
     case CAD_REFUSED_UNKNOWN: return "the PDU type is unknown";
@@ -296,6 +314,7 @@ static inline const char *cad_refusal_text(uint32_t refusal)
     case CAD_REFUSED_LEFT_OVER: return "bits are left over";
     case CAD_REFUSED_ROOM: return "the area is too short";
     case CAD_REFUSED_VALUE: return "the value is not a valid one";
+    case CAD_REFUSED_EXTERNAL: return "a destination that is an external number";
     default: return "?";
     }
 }
@@ -340,7 +359,7 @@ static inline void cad_put_byte(uint8_t *byte, unsigned number)
  * Start one, give its ranges meanings and add its posts; or take the sample.
  * @{ */
 
-/** Starts a profile: all ranges reserved, no post yet. */
+/** Starts a profile: all ranges reserved, no post yet, both failure reasons of INTERROGATE ACK 0. */
 static inline void cad_profile_start(uint8_t *profile, unsigned ss_type, uint32_t home, unsigned no_record, unsigned other_post)
 {
     size_t i;
@@ -373,6 +392,18 @@ static inline void cad_profile_add_post(uint8_t *profile, unsigned reserved, uns
     cad_put_byte(profile + CAD_PROFILE_COUNT, post + 1);
 }
 
+/** Sets INTERROGATE ACK's failure reason for an identity with no record, 0 to 7. */
+static inline void cad_profile_set_unrecorded(uint8_t *profile, unsigned reason)
+{
+    cad_put_byte(profile + CAD_PROFILE_UNRECORDED, reason);
+}
+
+/** Sets INTERROGATE ACK's failure reason for another post's user, 0 to 7. */
+static inline void cad_profile_set_elsewhere(uint8_t *profile, unsigned reason)
+{
+    cad_put_byte(profile + CAD_PROFILE_ELSEWHERE, reason);
+}
+
 /** The sample profile, which the listing uses: SS type 9, home 0, range 0 nobody, 1 to 3 lists, 15 first and last, two posts. */
 static inline void cad_profile_sample(uint8_t *profile)
 {
@@ -384,6 +415,8 @@ static inline void cad_profile_sample(uint8_t *profile)
     cad_profile_set_meaning(profile, 15, CAD_MEANS_FIRST_LAST);
     cad_profile_add_post(profile, 2, 30);
     cad_profile_add_post(profile, 4, 8);
+    cad_profile_set_unrecorded(profile, 1);
+    cad_profile_set_elsewhere(profile, 2);
 }
 
 /** The SS type. */
@@ -432,6 +465,18 @@ static inline unsigned cad_profile_reserved(const uint8_t *profile, unsigned pos
 static inline unsigned cad_profile_ceiling(const uint8_t *profile, unsigned post)
 {
     return post < CAD_POSTS ? profile[CAD_PROFILE_SHARES + CAD_SHARE_BYTES * post + 1] : 0u;
+}
+
+/** INTERROGATE ACK's failure reason for an identity with no record. */
+static inline unsigned cad_profile_unrecorded(const uint8_t *profile)
+{
+    return profile[CAD_PROFILE_UNRECORDED];
+}
+
+/** INTERROGATE ACK's failure reason for another post's user. */
+static inline unsigned cad_profile_elsewhere(const uint8_t *profile)
+{
+    return profile[CAD_PROFILE_ELSEWHERE];
 }
 
 /** @} */
@@ -511,13 +556,14 @@ static inline unsigned cad_value_pdu(const uint8_t *value)
     return value[CAD_VALUE_PDU];
 }
 
-/** Whether it is an ACK, which has a result and may have a mask: ACTIVATE ACK or DEACTIVATE ACK. */
+/** Whether it is an ACK, which has a result and may have a mask: ACTIVATE ACK, DEACTIVATE ACK or INTERROGATE ACK. */
 static inline int cad_value_is_ack(const uint8_t *value)
 {
-    return cad_value_pdu(value) == CAD_ACTIVATE_ACK || cad_value_pdu(value) == CAD_DEACTIVATE_ACK;
+    return cad_value_pdu(value) == CAD_ACTIVATE_ACK || cad_value_pdu(value) == CAD_DEACTIVATE_ACK ||
+           cad_value_pdu(value) == CAD_INTERROGATE_ACK;
 }
 
-/** Whether its users stand behind a range value: ACTIVATE, DEACTIVATE and both ACKs. */
+/** Whether its users stand behind a range value: ACTIVATE, DEACTIVATE and the three ACKs. */
 static inline int cad_value_has_user_range(const uint8_t *value)
 {
     return cad_value_pdu(value) == CAD_ACTIVATE || cad_value_pdu(value) == CAD_DEACTIVATE || cad_value_is_ack(value);
@@ -548,13 +594,13 @@ static inline unsigned cad_value_mask_bit(const uint8_t *value, unsigned i)
     return i < CAD_IDENTITIES ? (value[CAD_VALUE_MASK + i / 8] >> (7 - i % 8)) & 1u : 0u;
 }
 
-/** The result of an ACTIVATE ACK or a DEACTIVATE ACK: 1 accepted, 0 not accepted. */
+/** The result of an ACK: 1 accepted, 0 not accepted. */
 static inline unsigned cad_value_result(const uint8_t *value)
 {
     return value[CAD_VALUE_RESULT];
 }
 
-/** The reason of an ACTIVATE ACK or a DEACTIVATE ACK whose result is 0. */
+/** The reason of an ACK whose result is 0. */
 static inline unsigned cad_value_reason(const uint8_t *value)
 {
     return value[CAD_VALUE_REASON];
@@ -572,7 +618,7 @@ static inline unsigned cad_value_identifier(const uint8_t *value)
     return (unsigned)cad_get_number(value + CAD_VALUE_IDENTIFIER, 2);
 }
 
-/** Whether the option is there: dispatchers; of a REQUEST the calling address. */
+/** Whether the first option is there: dispatchers; of a REQUEST the calling address. */
 static inline int cad_value_option(const uint8_t *value)
 {
     return value[CAD_VALUE_OPTION] != 0;
@@ -591,10 +637,16 @@ static inline struct cad_address cad_value_dispatcher(const uint8_t *value, unsi
     return cad_get_address(k < CAD_ADDRESSES ? value + CAD_VALUE_DISPATCHERS + CAD_ADDRESS_BYTES * k : none);
 }
 
+/** Whether it is a message of this type and has the option that is marked at this byte, where another type may mark another. */
+static inline int cad_value_has(const uint8_t *value, unsigned pdu, size_t mark)
+{
+    return cad_value_pdu(value) == pdu && value[mark] != 0;
+}
+
 /** Whether a REQUEST has the calling address. */
 static inline int cad_value_has_calling(const uint8_t *value)
 {
-    return cad_value_option(value);
+    return cad_value_has(value, CAD_REQUEST, CAD_VALUE_OPTION);
 }
 
 /** The calling address of a REQUEST; all zero where it is not there. */
@@ -606,7 +658,7 @@ static inline struct cad_address cad_value_calling(const uint8_t *value)
 /** Whether a REQUEST has the called address. */
 static inline int cad_value_has_called(const uint8_t *value)
 {
-    return value[CAD_VALUE_HAS_CALLED] != 0;
+    return cad_value_has(value, CAD_REQUEST, CAD_VALUE_HAS_CALLED);
 }
 
 /** The called address of a REQUEST; all zero where it is not there. */
@@ -618,7 +670,7 @@ static inline struct cad_address cad_value_called(const uint8_t *value)
 /** Whether a REQUEST has the network. */
 static inline int cad_value_has_mni(const uint8_t *value)
 {
-    return value[CAD_VALUE_HAS_MNI] != 0;
+    return cad_value_has(value, CAD_REQUEST, CAD_VALUE_HAS_MNI);
 }
 
 /** The network (MNI) of a REQUEST. */
@@ -630,7 +682,7 @@ static inline uint32_t cad_value_mni(const uint8_t *value)
 /** Whether a REQUEST has the area of the calling. */
 static inline int cad_value_has_calling_area(const uint8_t *value)
 {
-    return value[CAD_VALUE_HAS_CALLING_AREA] != 0;
+    return cad_value_has(value, CAD_REQUEST, CAD_VALUE_HAS_CALLING_AREA);
 }
 
 /** The area of the calling of a REQUEST. */
@@ -642,7 +694,7 @@ static inline unsigned cad_value_calling_area(const uint8_t *value)
 /** Whether a REQUEST has the area of the called. */
 static inline int cad_value_has_called_area(const uint8_t *value)
 {
-    return value[CAD_VALUE_HAS_CALLED_AREA] != 0;
+    return cad_value_has(value, CAD_REQUEST, CAD_VALUE_HAS_CALLED_AREA);
 }
 
 /** The area of the called of a REQUEST. */
@@ -654,10 +706,10 @@ static inline unsigned cad_value_called_area(const uint8_t *value)
 /** Whether a REQUEST has the basic service of the calling. */
 static inline int cad_value_has_calling_service(const uint8_t *value)
 {
-    return value[CAD_VALUE_HAS_CALLING_SERVICE] != 0;
+    return cad_value_has(value, CAD_REQUEST, CAD_VALUE_HAS_CALLING_SERVICE);
 }
 
-/** The basic service of the calling of a REQUEST. */
+/** The basic service of the calling, of a REQUEST or of an INTERROGATE ACK that is accepted. */
 static inline unsigned cad_value_calling_service(const uint8_t *value)
 {
     return value[CAD_VALUE_CALLING_SERVICE];
@@ -666,16 +718,84 @@ static inline unsigned cad_value_calling_service(const uint8_t *value)
 /** Whether a REQUEST has the basic service of the called. */
 static inline int cad_value_has_called_service(const uint8_t *value)
 {
-    return value[CAD_VALUE_HAS_CALLED_SERVICE] != 0;
+    return cad_value_has(value, CAD_REQUEST, CAD_VALUE_HAS_CALLED_SERVICE);
 }
 
-/** The basic service of the called of a REQUEST. */
+/** The basic service of the called, of a REQUEST or of an INTERROGATE ACK that is accepted. */
 static inline unsigned cad_value_called_service(const uint8_t *value)
 {
     return value[CAD_VALUE_CALLED_SERVICE];
 }
 
-/** How many addresses a meaning asks for: 1 to 15 for a list, 2 for first and last, else 0. */
+/** The activation type of an INTERROGATE ACK that is accepted: 1 activated, 0 not. */
+static inline unsigned cad_value_activation_type(const uint8_t *value)
+{
+    return value[CAD_VALUE_ACTIVATION_TYPE];
+}
+
+/** The interception type of an INTERROGATE ACK that is accepted: 0 immediate set-up, 1 set-up at the dispatcher's request. */
+static inline unsigned cad_value_interception_type(const uint8_t *value)
+{
+    return value[CAD_VALUE_INTERCEPTION_TYPE];
+}
+
+/** Whether an INTERROGATE ACK has sources; its dispatchers are cad_value_option(). */
+static inline int cad_value_has_sources(const uint8_t *value)
+{
+    return cad_value_has(value, CAD_INTERROGATE_ACK, CAD_VALUE_HAS_SOURCES);
+}
+
+/** The range value of the sources. */
+static inline unsigned cad_value_source_range(const uint8_t *value)
+{
+    return value[CAD_VALUE_SOURCE_RANGE];
+}
+
+/** Source address @p k, from 0; all zero where there is none. */
+static inline struct cad_address cad_value_source(const uint8_t *value, unsigned k)
+{
+    static const uint8_t none[CAD_ADDRESS_BYTES] = {0, 0, 0, 0, 0, 0, 0};
+    return cad_get_address(k < CAD_ADDRESSES ? value + CAD_VALUE_SOURCES + CAD_ADDRESS_BYTES * k : none);
+}
+
+/** Whether an INTERROGATE ACK has destinations. */
+static inline int cad_value_has_destinations(const uint8_t *value)
+{
+    return cad_value_has(value, CAD_INTERROGATE_ACK, CAD_VALUE_HAS_DESTINATIONS);
+}
+
+/** The range value of the destinations. */
+static inline unsigned cad_value_destination_range(const uint8_t *value)
+{
+    return value[CAD_VALUE_DESTINATION_RANGE];
+}
+
+/** Destination address @p k, from 0; all zero where there is none. */
+static inline struct cad_address cad_value_destination(const uint8_t *value, unsigned k)
+{
+    static const uint8_t none[CAD_ADDRESS_BYTES] = {0, 0, 0, 0, 0, 0, 0};
+    return cad_get_address(k < CAD_ADDRESSES ? value + CAD_VALUE_DESTINATIONS + CAD_ADDRESS_BYTES * k : none);
+}
+
+/** Whether an INTERROGATE ACK has areas. */
+static inline int cad_value_has_areas(const uint8_t *value)
+{
+    return cad_value_has(value, CAD_INTERROGATE_ACK, CAD_VALUE_HAS_AREAS);
+}
+
+/** The range value of the areas. */
+static inline unsigned cad_value_area_range(const uint8_t *value)
+{
+    return value[CAD_VALUE_AREA_RANGE];
+}
+
+/** Area @p k, from 0; 0 where there is none. */
+static inline unsigned cad_value_area(const uint8_t *value, unsigned k)
+{
+    return k < CAD_ADDRESSES ? value[CAD_VALUE_AREAS + k] : 0u;
+}
+
+/** How many addresses or areas a meaning asks for: 1 to 15 for a list, 2 for first and last, else 0. */
 static inline unsigned cad_meaning_addresses(unsigned meaning)
 {
     if (meaning == CAD_MEANS_FIRST_LAST)
@@ -700,9 +820,28 @@ static inline unsigned cad_value_dispatchers(const uint8_t *profile, const uint8
     case CAD_INTERCEPTED:
     case CAD_DIVERTED:
     case CAD_REJECTED: return 1;
-    case CAD_ACTIVATE: return cad_meaning_addresses(cad_profile_meaning(profile, cad_value_dispatcher_range(value)));
+    case CAD_ACTIVATE:
+    case CAD_INTERROGATE_ACK: return cad_meaning_addresses(cad_profile_meaning(profile, cad_value_dispatcher_range(value)));
     default: return 0;
     }
+}
+
+/** How many source addresses a value has under a profile. */
+static inline unsigned cad_value_sources(const uint8_t *profile, const uint8_t *value)
+{
+    return cad_value_has_sources(value) ? cad_meaning_addresses(cad_profile_meaning(profile, cad_value_source_range(value))) : 0u;
+}
+
+/** How many destination addresses a value has under a profile. */
+static inline unsigned cad_value_destinations(const uint8_t *profile, const uint8_t *value)
+{
+    return cad_value_has_destinations(value) ? cad_meaning_addresses(cad_profile_meaning(profile, cad_value_destination_range(value))) : 0u;
+}
+
+/** How many areas a value has under a profile; REQUEST's are cad_value_calling_area() and cad_value_called_area(). */
+static inline unsigned cad_value_areas(const uint8_t *profile, const uint8_t *value)
+{
+    return cad_value_has_areas(value) ? cad_meaning_addresses(cad_profile_meaning(profile, cad_value_area_range(value))) : 0u;
 }
 
 /** Whether the users are the first and the last of a range. */
@@ -790,7 +929,7 @@ static inline void cad_value_set_result(uint8_t *value, unsigned result)
     cad_put_byte(value + CAD_VALUE_RESULT, result);
 }
 
-/** Sets the reason, 0 to 127, of a result of 0. */
+/** Sets the reason of a result of 0: 0 to 127, of an INTERROGATE ACK 0 to 7. */
 static inline void cad_value_set_reason(uint8_t *value, unsigned reason)
 {
     cad_put_byte(value + CAD_VALUE_REASON, reason);
@@ -809,7 +948,7 @@ static inline void cad_value_set_identifier(uint8_t *value, uint32_t identifier)
         value[CAD_VALUE_PDU] = 0xFF;
 }
 
-/** Says that the option is there. */
+/** Says that the first option is there. */
 static inline void cad_value_set_option(uint8_t *value)
 {
     value[CAD_VALUE_OPTION] = 1;
@@ -866,18 +1005,79 @@ static inline void cad_value_set_called_area(uint8_t *value, unsigned area)
     cad_put_byte(value + CAD_VALUE_CALLED_AREA, area);
 }
 
-/** Sets the basic service of the calling of a REQUEST, 0 to 3, and says that it is there. */
+/** Sets the basic service of the calling, 0 to 3, and says that it is there; an INTERROGATE ACK has it without saying so. */
 static inline void cad_value_set_calling_service(uint8_t *value, unsigned service)
 {
-    value[CAD_VALUE_HAS_CALLING_SERVICE] = 1;
+    if (cad_value_pdu(value) != CAD_INTERROGATE_ACK)
+        value[CAD_VALUE_HAS_CALLING_SERVICE] = 1;
     cad_put_byte(value + CAD_VALUE_CALLING_SERVICE, service);
 }
 
-/** Sets the basic service of the called of a REQUEST, 0 to 3, and says that it is there. */
+/** Sets the basic service of the called, 0 to 3, and says that it is there; an INTERROGATE ACK has it without saying so. */
 static inline void cad_value_set_called_service(uint8_t *value, unsigned service)
 {
-    value[CAD_VALUE_HAS_CALLED_SERVICE] = 1;
+    if (cad_value_pdu(value) != CAD_INTERROGATE_ACK)
+        value[CAD_VALUE_HAS_CALLED_SERVICE] = 1;
     cad_put_byte(value + CAD_VALUE_CALLED_SERVICE, service);
+}
+
+/** Sets the activation type of an INTERROGATE ACK that is accepted: 1 activated, 0 not. */
+static inline void cad_value_set_activation_type(uint8_t *value, unsigned type)
+{
+    cad_put_byte(value + CAD_VALUE_ACTIVATION_TYPE, type);
+}
+
+/** Sets the interception type of an INTERROGATE ACK that is accepted, 0 or 1. */
+static inline void cad_value_set_interception_type(uint8_t *value, unsigned type)
+{
+    cad_put_byte(value + CAD_VALUE_INTERCEPTION_TYPE, type);
+}
+
+/** Sets the range value of an INTERROGATE ACK's sources, and says that they are there. */
+static inline void cad_value_set_source_range(uint8_t *value, unsigned range)
+{
+    value[CAD_VALUE_HAS_SOURCES] = 1;
+    cad_put_byte(value + CAD_VALUE_SOURCE_RANGE, range);
+}
+
+/** Sets source address @p k of an INTERROGATE ACK, from 0, and says that the sources are there. */
+static inline void cad_value_set_source(uint8_t *value, unsigned k, struct cad_address address)
+{
+    value[CAD_VALUE_HAS_SOURCES] = 1;
+    if (k >= CAD_ADDRESSES || !cad_put_address(value + CAD_VALUE_SOURCES + CAD_ADDRESS_BYTES * k, address))
+        value[CAD_VALUE_PDU] = 0xFF;
+}
+
+/** Sets the range value of an INTERROGATE ACK's destinations, and says that they are there. */
+static inline void cad_value_set_destination_range(uint8_t *value, unsigned range)
+{
+    value[CAD_VALUE_HAS_DESTINATIONS] = 1;
+    cad_put_byte(value + CAD_VALUE_DESTINATION_RANGE, range);
+}
+
+/** Sets destination address @p k of an INTERROGATE ACK, from 0, and says that the destinations are there. */
+static inline void cad_value_set_destination(uint8_t *value, unsigned k, struct cad_address address)
+{
+    value[CAD_VALUE_HAS_DESTINATIONS] = 1;
+    if (k >= CAD_ADDRESSES || !cad_put_address(value + CAD_VALUE_DESTINATIONS + CAD_ADDRESS_BYTES * k, address))
+        value[CAD_VALUE_PDU] = 0xFF;
+}
+
+/** Sets the range value of an INTERROGATE ACK's areas, and says that they are there. */
+static inline void cad_value_set_area_range(uint8_t *value, unsigned range)
+{
+    value[CAD_VALUE_HAS_AREAS] = 1;
+    cad_put_byte(value + CAD_VALUE_AREA_RANGE, range);
+}
+
+/** Sets area @p k of an INTERROGATE ACK, from 0, to 0 to 15, and says that the areas are there. */
+static inline void cad_value_set_area(uint8_t *value, unsigned k, unsigned area)
+{
+    value[CAD_VALUE_HAS_AREAS] = 1;
+    if (k < CAD_ADDRESSES)
+        cad_put_byte(value + CAD_VALUE_AREAS + k, area);
+    else
+        value[CAD_VALUE_PDU] = 0xFF;
 }
 
 /** @} */

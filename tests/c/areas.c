@@ -107,7 +107,7 @@ static void writes(struct block profile, struct block value, size_t size, struct
 
 static void try_message(struct block profile, size_t bits, struct block message, struct block value)
 {
-    static const size_t value_sizes[] = {0, 1, 107, 121, 227, 228, 239, 240, 241, 242, 250, 300};
+    static const size_t value_sizes[] = {0, 1, 107, 121, 228, 240, 241, 242, 348, 349, 455, 456, 469, 470, 471, 472, 473, 500};
     struct block part;
     size_t n, i;
     for (i = 0; i < sizeof value_sizes / sizeof value_sizes[0]; i++)
@@ -121,16 +121,23 @@ static void try_message(struct block profile, size_t bits, struct block message,
         reads(profile, message, n, CAD_VALUE_BYTES, value, CAD_REFUSED_LEFT_OVER);
     reads(profile, message, 8 * message.length + 1, CAD_VALUE_BYTES, value, CAD_REFUSED_LENGTH);
     reads(profile, message, (size_t)-1, CAD_VALUE_BYTES, value, CAD_REFUSED_LENGTH);
-    for (n = message.length + 1; n <= 260; n++) {
+    for (n = message.length + 1; n <= 516; n++) {
         part = like(message, n);
         reads(profile, part, bits, CAD_VALUE_BYTES, value, CAD_DONE);
         reads(profile, part, bits + 1, CAD_VALUE_BYTES, value, CAD_REFUSED_LEFT_OVER);
+        reads(profile, part, 8 * n, CAD_VALUE_BYTES, value, 8 * n > 4096 ? CAD_REFUSED_LENGTH : CAD_REFUSED_LEFT_OVER);
         free(part.bytes);
     }
+    part = like(message, 513);
+    for (n = 2047; n <= 2049; n++)
+        reads(profile, part, n, CAD_VALUE_BYTES, value, CAD_REFUSED_LEFT_OVER);
+    for (n = 4095; n <= 4097; n++)
+        reads(profile, part, n, CAD_VALUE_BYTES, value, n > 4096 ? CAD_REFUSED_LENGTH : CAD_REFUSED_LEFT_OVER);
+    free(part.bytes);
 
     for (n = 0; n <= message.length + 9; n++)
         writes(profile, value, n, message, bits, n < message.length ? CAD_REFUSED_ROOM : CAD_DONE);
-    for (n = 0; n <= 300; n++) {
+    for (n = 0; n <= 530; n++) {
         part = like(value, n);
         writes(profile, part, CAD_MESSAGE_BYTES, message, bits, n == CAD_VALUE_BYTES ? CAD_DONE : CAD_REFUSED_VALUE);
         free(part.bytes);
@@ -158,13 +165,13 @@ static struct block block_of_hex(const char *hex)
 
 int main(void)
 {
-    static char first[600], second[600];
+    static char first[1000], second[1000];
     struct block profile;
     unsigned long bits, messages = 0;
-    if (scanf(" profile %599s", first) != 1)
+    if (scanf(" profile %999s", first) != 1)
         return 2;
     profile = block_of_hex(first);
-    while (scanf(" %lu %599s %599s", &bits, first, second) == 3) {
+    while (scanf(" %lu %999s %999s", &bits, first, second) == 3) {
         struct block message = block_of_hex(first), value = block_of_hex(second);
         try_message(profile, bits, message, value);
         free(message.bytes);

@@ -23,12 +23,12 @@ static const uint8_t zeros[CAD_VALUE_BYTES] = {0};
 /* A value is written in so many bits, as these bytes where they are given, and what was written is read as the value. */
 static void round_trip(const uint8_t *profile, const uint8_t *value, size_t bits, const uint8_t *bytes)
 {
-    uint8_t read[241], message[CAD_MESSAGE_BYTES];
+    uint8_t read[471], message[CAD_MESSAGE_BYTES];
     unsigned long before = failures;
     size_t written = 77;
-    CHECK(cad_write(profile, 39, value, 241, message, sizeof message, &written) == CAD_DONE && written == bits);
+    CHECK(cad_write(profile, 41, value, 471, message, sizeof message, &written) == CAD_DONE && written == bits);
     CHECK(bytes == NULL || memcmp(message, bytes, (bits + 7) / 8) == 0);
-    CHECK(cad_read(profile, 39, message, (bits + 7) / 8, bits, read, sizeof read) == CAD_DONE);
+    CHECK(cad_read(profile, 41, message, (bits + 7) / 8, bits, read, sizeof read) == CAD_DONE);
     CHECK(memcmp(read, value, sizeof read) == 0);
     if (failures != before)
         printf("header.c: that was %s of %lu bits\n", cad_pdu_name(cad_value_pdu(value)), (unsigned long)bits);
@@ -46,9 +46,10 @@ static void home_profile(uint8_t *profile)
 
 static void constants(void)
 {
-    CHECK(CAD_PROFILE_BYTES == 39 && CAD_VALUE_BYTES == 241 && CAD_ADDRESS_BYTES == 7 && CAD_SHARE_BYTES == 2);
+    CHECK(CAD_PROFILE_BYTES == 41 && CAD_VALUE_BYTES == 471 && CAD_ADDRESS_BYTES == 7 && CAD_SHARE_BYTES == 2);
     CHECK(CAD_PROFILE_SS_TYPE == 0 && CAD_PROFILE_HOME == 1 && CAD_PROFILE_U == 4 && CAD_PROFILE_N == 5);
     CHECK(CAD_PROFILE_MEANINGS == 6 && CAD_PROFILE_COUNT == 22 && CAD_PROFILE_SHARES == 23);
+    CHECK(CAD_PROFILE_UNRECORDED == 39 && CAD_PROFILE_ELSEWHERE == 40);
     CHECK(CAD_VALUE_PDU == 0 && CAD_VALUE_USER_RANGE == 1 && CAD_VALUE_USERS == 2 && CAD_VALUE_MASKED == 107);
     CHECK(CAD_VALUE_MASK == 108 && CAD_VALUE_RESULT == 116 && CAD_VALUE_REASON == 117 && CAD_VALUE_CAUSE == 118);
     CHECK(CAD_VALUE_IDENTIFIER == 119 && CAD_VALUE_OPTION == 121 && CAD_VALUE_DISPATCHER_RANGE == 122);
@@ -58,26 +59,33 @@ static void constants(void)
     CHECK(CAD_VALUE_HAS_CALLING_SERVICE == 232 && CAD_VALUE_HAS_CALLED_SERVICE == 233 && CAD_VALUE_MNI == 234);
     CHECK(CAD_VALUE_CALLING_AREA == 237 && CAD_VALUE_CALLED_AREA == 238);
     CHECK(CAD_VALUE_CALLING_SERVICE == 239 && CAD_VALUE_CALLED_SERVICE == 240);
+    CHECK(CAD_VALUE_HAS_SOURCES == 228 && CAD_VALUE_HAS_DESTINATIONS == 229 && CAD_VALUE_HAS_AREAS == 230);
+    CHECK(CAD_VALUE_ACTIVATION_TYPE == 241 && CAD_VALUE_INTERCEPTION_TYPE == 242);
+    CHECK(CAD_VALUE_SOURCE_RANGE == 243 && CAD_VALUE_SOURCES == 244 && CAD_VALUE_DESTINATION_RANGE == 349);
+    CHECK(CAD_VALUE_DESTINATIONS == 350 && CAD_VALUE_AREA_RANGE == 455 && CAD_VALUE_AREAS == 456);
     CHECK(CAD_RANGES == 16 && CAD_POSTS == 8 && CAD_ADDRESSES == 15 && CAD_IDENTITIES == 64);
-    CHECK(CAD_READ_BITS == 2048 && CAD_MESSAGE_BITS == 1521 && CAD_MESSAGE_BYTES == (1521 + 7) / 8);
+    CHECK(CAD_READ_BITS == 4096 && CAD_MESSAGE_BITS == 3119 && CAD_MESSAGE_BYTES == (3119 + 7) / 8);
     /* the areas end where the layouts end */
     CHECK(CAD_PROFILE_MEANINGS + CAD_RANGES == CAD_PROFILE_COUNT);
-    CHECK(CAD_PROFILE_SHARES + CAD_POSTS * CAD_SHARE_BYTES == CAD_PROFILE_BYTES);
+    CHECK(CAD_PROFILE_SHARES + CAD_POSTS * CAD_SHARE_BYTES == CAD_PROFILE_UNRECORDED && CAD_PROFILE_ELSEWHERE + 1 == CAD_PROFILE_BYTES);
     CHECK(CAD_VALUE_USERS + CAD_ADDRESSES * CAD_ADDRESS_BYTES == CAD_VALUE_MASKED);
     CHECK(CAD_VALUE_MASK + CAD_IDENTITIES / 8 == CAD_VALUE_RESULT);
     CHECK(CAD_VALUE_DISPATCHERS + CAD_ADDRESSES * CAD_ADDRESS_BYTES == CAD_VALUE_HAS_CALLED);
-    CHECK(CAD_VALUE_MNI + 3 == CAD_VALUE_CALLING_AREA && CAD_VALUE_CALLED_SERVICE + 1 == CAD_VALUE_BYTES);
+    CHECK(CAD_VALUE_MNI + 3 == CAD_VALUE_CALLING_AREA && CAD_VALUE_CALLED_SERVICE + 1 == CAD_VALUE_ACTIVATION_TYPE);
+    CHECK(CAD_VALUE_SOURCES + CAD_ADDRESSES * CAD_ADDRESS_BYTES == CAD_VALUE_DESTINATION_RANGE);
+    CHECK(CAD_VALUE_DESTINATIONS + CAD_ADDRESSES * CAD_ADDRESS_BYTES == CAD_VALUE_AREA_RANGE);
+    CHECK(CAD_VALUE_AREAS + CAD_ADDRESSES == CAD_VALUE_BYTES);
 
     CHECK(CAD_ACTIVATE == 2 && CAD_ACTIVATE_ACK == 3 && CAD_INTERROGATE == 8 && CAD_INTERCEPTED == 10);
     CHECK(CAD_ACCEPT == 12 && CAD_ACCEPTED == 13 && CAD_DIVERT == 15 && CAD_DIVERTED == 16);
     CHECK(CAD_REQUEST == 11 && CAD_CANCEL == 14 && CAD_REJECT == 17 && CAD_REJECTED == 18);
-    CHECK(CAD_DEACTIVATE == 4 && CAD_DEACTIVATE_ACK == 5);
+    CHECK(CAD_DEACTIVATE == 4 && CAD_DEACTIVATE_ACK == 5 && CAD_INTERROGATE_ACK == 9);
     CHECK(CAD_MEANS_RESERVED == 0 && CAD_MEANS_NOBODY == 16 && CAD_MEANS_FIRST_LAST == 17);
     CHECK(CAD_KIND_HOME == 1 && CAD_KIND_OTHER == 2);
     CHECK(CAD_DONE == 0 && CAD_REFUSED_PROFILE == 1 && CAD_REFUSED_LENGTH == 3 && CAD_REFUSED_SHORT == 4);
     CHECK(CAD_REFUSED_SS_TYPE == 5 && CAD_REFUSED_UNKNOWN == 6 && CAD_REFUSED_NOT_CARRIED == 7 && CAD_REFUSED_RANGE == 9);
     CHECK(CAD_REFUSED_KIND == 10 && CAD_REFUSED_ENDS == 11 && CAD_REFUSED_OPTION == 12 && CAD_REFUSED_LEFT_OVER == 13);
-    CHECK(CAD_REFUSED_ROOM == 14 && CAD_REFUSED_VALUE == 22);
+    CHECK(CAD_REFUSED_ROOM == 14 && CAD_REFUSED_VALUE == 22 && CAD_REFUSED_EXTERNAL == 27);
 }
 
 static void words(void)
@@ -87,8 +95,8 @@ static void words(void)
         const char *name;
     } names[] = {{2, "ACTIVATE"},     {3, "ACTIVATE ACK"}, {4, "DEACTIVATE"}, {5, "DEACTIVATE ACK"}, {8, "INTERROGATE"},
                  {10, "INTERCEPTED"}, {11, "REQUEST"},     {12, "ACCEPT"},    {13, "ACCEPTED"},      {14, "CANCEL"},
-                 {15, "DIVERT"},      {16, "DIVERTED"},    {17, "REJECT"},    {18, "REJECTED"}};
-    static const unsigned given[] = {0, 1, 3, 4, 5, 6, 7, 9, 10, 11, 12, 13, 14, 22};
+                 {15, "DIVERT"},      {16, "DIVERTED"},    {17, "REJECT"},    {18, "REJECTED"},      {9, "INTERROGATE ACK"}};
+    static const unsigned given[] = {0, 1, 3, 4, 5, 6, 7, 9, 10, 11, 12, 13, 14, 22, 27};
     unsigned number, named = 0, said = 0;
     size_t i;
     for (i = 0; i < sizeof names / sizeof names[0]; i++)
@@ -105,15 +113,15 @@ static void words(void)
 
 static void profiles(void)
 {
-    static const uint8_t sample[39] = {9, 0, 0, 0,  1, 2, 16, 1, 2, 3, 0, 0, 0, 0, 0, 0, 0, 0, 0, 0,
-                                       0, 17, 2, 2, 30, 4, 8, 0, 0, 0, 0, 0, 0, 0, 0, 0, 0, 0, 0};
-    uint8_t profile[39], other[39];
+    static const uint8_t sample[41] = {9, 0, 0, 0,  1, 2, 16, 1, 2, 3, 0, 0, 0, 0, 0, 0, 0, 0, 0, 0,
+                                       0, 17, 2, 2, 30, 4, 8, 0, 0, 0, 0, 0, 0, 0, 0, 0, 0, 0, 0, 1, 2};
+    uint8_t profile[41], other[41];
     unsigned i;
     memset(profile, 0xAA, sizeof profile);
     cad_profile_sample(profile);
     CHECK(memcmp(profile, sample, sizeof sample) == 0);
 
-    for (i = 0; i < 39; i++)
+    for (i = 0; i < 41; i++)
         profile[i] = (uint8_t)(37 * i + 11);
     CHECK(cad_profile_ss_type(profile) == profile[0]);
     CHECK(cad_profile_home(profile) == 65536ul * profile[1] + 256ul * profile[2] + profile[3]);
@@ -128,6 +136,7 @@ static void profiles(void)
         CHECK(cad_profile_ceiling(profile, i) == profile[24 + 2 * i]);
     }
     CHECK(cad_profile_reserved(profile, 8) == 0 && cad_profile_ceiling(profile, 8) == 0);
+    CHECK(cad_profile_unrecorded(profile) == profile[39] && cad_profile_elsewhere(profile) == profile[40]);
 
     memset(profile, 0xAA, sizeof profile);
     cad_profile_start(profile, 63, 0xABCDEF, 127, 126);
@@ -151,6 +160,12 @@ static void profiles(void)
         other[24 + 2 * i] = (uint8_t)(32 - i);
         CHECK(memcmp(profile, other, sizeof other) == 0);
     }
+    cad_profile_set_unrecorded(profile, 7);
+    other[39] = 7;
+    CHECK(memcmp(profile, other, sizeof other) == 0);
+    cad_profile_set_elsewhere(profile, 6);
+    other[40] = 6;
+    CHECK(memcmp(profile, other, sizeof other) == 0);
     /* a ninth post, a range that is not there and numbers that no byte holds */
     cad_profile_add_post(profile, 0, 1);
     other[22] = 9;
@@ -164,6 +179,9 @@ static void profiles(void)
     CHECK(profile[0] == 0xFF && profile[4] == 0xFF && profile[5] == 0xFF);
     cad_profile_set_meaning(profile, 3, 256 + 1);
     CHECK(profile[6 + 3] == 0xFF);
+    cad_profile_set_unrecorded(profile, 256 + 1);
+    cad_profile_set_elsewhere(profile, 256 + 2);
+    CHECK(profile[39] == 0xFF && profile[40] == 0xFF);
 }
 
 static int is_address(struct cad_address address, unsigned kind, uint32_t ssi, uint32_t extension)
@@ -183,19 +201,29 @@ static uint32_t three(const uint8_t *bytes)
 
 static void accessors(void)
 {
-    uint8_t value[241];
+    uint8_t value[471];
     unsigned i, k;
-    for (i = 0; i < 241; i++)
+    for (i = 0; i < 471; i++)
         value[i] = (uint8_t)(37 * i + 11);
     CHECK(cad_value_pdu(value) == value[0]);
     CHECK(cad_value_user_range(value) == value[1]);
     for (k = 0; k < 15; k++) {
         const uint8_t *user = value + 2 + 7 * k, *dispatcher = value + 123 + 7 * k;
+        const uint8_t *source = value + 244 + 7 * k, *destination = value + 350 + 7 * k;
         CHECK(is_address(cad_value_user(value, k), user[0], three(user + 1), three(user + 4)));
         CHECK(is_address(cad_value_dispatcher(value, k), dispatcher[0], three(dispatcher + 1), three(dispatcher + 4)));
+        CHECK(is_address(cad_value_source(value, k), source[0], three(source + 1), three(source + 4)));
+        CHECK(is_address(cad_value_destination(value, k), destination[0], three(destination + 1), three(destination + 4)));
+        CHECK(cad_value_area(value, k) == value[456 + k]);
     }
     CHECK(is_address(cad_value_user(value, 15), 0, 0, 0) && is_address(cad_value_dispatcher(value, 15), 0, 0, 0));
     CHECK(is_address(cad_value_user(value, ~0u), 0, 0, 0) && is_address(cad_value_dispatcher(value, ~0u), 0, 0, 0));
+    CHECK(is_address(cad_value_source(value, 15), 0, 0, 0) && is_address(cad_value_destination(value, 15), 0, 0, 0));
+    CHECK(is_address(cad_value_source(value, ~0u), 0, 0, 0) && is_address(cad_value_destination(value, ~0u), 0, 0, 0));
+    CHECK(cad_value_area(value, 15) == 0 && cad_value_area(value, ~0u) == 0);
+    CHECK(cad_value_activation_type(value) == value[241] && cad_value_interception_type(value) == value[242]);
+    CHECK(cad_value_source_range(value) == value[243] && cad_value_destination_range(value) == value[349]);
+    CHECK(cad_value_area_range(value) == value[455]);
     CHECK(cad_value_result(value) == value[116]);
     CHECK(cad_value_reason(value) == value[117]);
     CHECK(cad_value_cause(value) == value[118]);
@@ -206,21 +234,28 @@ static void accessors(void)
     CHECK(cad_value_mni(value) == three(value + 234));
     CHECK(cad_value_calling_area(value) == value[237] && cad_value_called_area(value) == value[238]);
     CHECK(cad_value_calling_service(value) == value[239] && cad_value_called_service(value) == value[240]);
-    /* one option at a time */
+    /* one option at a time: of a REQUEST, of an INTERROGATE ACK, which has others at the same bytes, and of a message with neither */
     for (i = 0; i < 7; i++) {
         value[121] = i == 0;
         for (k = 1; k < 7; k++)
             value[227 + k] = k == i;
-        CHECK(cad_value_has_calling(value) == (i == 0) && cad_value_has_called(value) == (i == 1));
-        CHECK(cad_value_has_mni(value) == (i == 2));
-        CHECK(cad_value_has_calling_area(value) == (i == 3) && cad_value_has_called_area(value) == (i == 4));
-        CHECK(cad_value_has_calling_service(value) == (i == 5) && cad_value_has_called_service(value) == (i == 6));
+        for (k = 9; k <= 11; k++) {
+            value[0] = (uint8_t)k;
+            CHECK(cad_value_option(value) == (i == 0));
+            CHECK(cad_value_has_calling(value) == (k == 11 && i == 0) && cad_value_has_called(value) == (k == 11 && i == 1));
+            CHECK(cad_value_has_mni(value) == (k == 11 && i == 2));
+            CHECK(cad_value_has_calling_area(value) == (k == 11 && i == 3) && cad_value_has_called_area(value) == (k == 11 && i == 4));
+            CHECK(cad_value_has_calling_service(value) == (k == 11 && i == 5));
+            CHECK(cad_value_has_called_service(value) == (k == 11 && i == 6));
+            CHECK(cad_value_has_sources(value) == (k == 9 && i == 1) && cad_value_has_destinations(value) == (k == 9 && i == 2));
+            CHECK(cad_value_has_areas(value) == (k == 9 && i == 3));
+        }
     }
     /* which types are ACKs, and which have a range of users */
     for (i = 0; i < 256; i++) {
         value[0] = (uint8_t)i;
-        CHECK(cad_value_is_ack(value) == (i == 3 || i == 5));
-        CHECK(cad_value_has_user_range(value) == (i >= 2 && i <= 5));
+        CHECK(cad_value_is_ack(value) == (i == 3 || i == 5 || i == 9));
+        CHECK(cad_value_has_user_range(value) == ((i >= 2 && i <= 5) || i == 9));
     }
     value[107] = 0;
     value[121] = 1;
@@ -241,7 +276,7 @@ static void accessors(void)
 
 static void setters(void)
 {
-    uint8_t value[241], other[241];
+    uint8_t value[471], other[471];
     unsigned i, k;
     memset(value, 0xAA, sizeof value);
     memset(other, 0, sizeof other);
@@ -273,6 +308,14 @@ static void setters(void)
     SETS(cad_value_set_called_area(value, 14), (other[231] = 1, other[238] = 14));
     SETS(cad_value_set_calling_service(value, 3), (other[232] = 1, other[239] = 3));
     SETS(cad_value_set_called_service(value, 2), (other[233] = 1, other[240] = 2));
+    SETS(cad_value_set_activation_type(value, 1), other[241] = 1);
+    SETS(cad_value_set_interception_type(value, 1), other[242] = 1);
+    SETS(cad_value_set_source_range(value, 14), (other[228] = 1, other[243] = 14));
+    SETS(cad_value_set_destination_range(value, 13), (other[229] = 1, other[349] = 13));
+    SETS(cad_value_set_area_range(value, 12), (other[230] = 1, other[455] = 12));
+    /* the services of an INTERROGATE ACK have no mark */
+    SETS((value[0] = 9, cad_value_set_calling_service(value, 3)), (other[0] = 9, other[239] = 3));
+    SETS((value[0] = 9, cad_value_set_called_service(value, 2)), (other[0] = 9, other[240] = 2));
     for (k = 0; k < 15; k++) {
         static const uint8_t home[7] = {1, 0xAB, 0xCD, 0xEF, 0, 0, 0}, far[7] = {2, 0x12, 0x34, 0x56, 0xFE, 0xDC, 0xBA};
         SETS(cad_value_set_user(value, k, cad_address_home(0xABCDEF)), memcpy(other + 2 + 7 * k, home, 7));
@@ -281,6 +324,13 @@ static void setters(void)
              (other[121] = 1, memcpy(other + 123 + 7 * k, home, 7)));
         SETS(cad_value_set_dispatcher(value, k, cad_address_other(0x123456, 0xFEDCBA)),
              (other[121] = 1, memcpy(other + 123 + 7 * k, far, 7)));
+        SETS(cad_value_set_source(value, k, cad_address_home(0xABCDEF)), (other[228] = 1, memcpy(other + 244 + 7 * k, home, 7)));
+        SETS(cad_value_set_source(value, k, cad_address_other(0x123456, 0xFEDCBA)),
+             (other[228] = 1, memcpy(other + 244 + 7 * k, far, 7)));
+        SETS(cad_value_set_destination(value, k, cad_address_home(0xABCDEF)), (other[229] = 1, memcpy(other + 350 + 7 * k, home, 7)));
+        SETS(cad_value_set_destination(value, k, cad_address_other(0x123456, 0xFEDCBA)),
+             (other[229] = 1, memcpy(other + 350 + 7 * k, far, 7)));
+        SETS(cad_value_set_area(value, k, 15 - k), (other[230] = 1, other[456 + k] = (uint8_t)(15 - k)));
     }
     for (i = 0; i < 64; i++) {
         SETS(cad_value_set_mask_bit(value, i, 1), (other[107] = 1, other[108 + i / 8] = (uint8_t)(128 >> (i % 8))));
@@ -315,6 +365,17 @@ static void setters(void)
     SPOILS(cad_value_set_called_area(value, 256 + 1), 238);
     SPOILS(cad_value_set_calling_service(value, 256 + 1), 239);
     SPOILS(cad_value_set_called_service(value, 256 + 1), 240);
+    SPOILS(cad_value_set_activation_type(value, 256 + 1), 241);
+    SPOILS(cad_value_set_interception_type(value, 256 + 1), 242);
+    SPOILS(cad_value_set_source_range(value, 256 + 15), 243);
+    SPOILS(cad_value_set_source(value, 0, cad_address_home(0x1000001)), 0);
+    SPOILS(cad_value_set_source(value, 15, cad_address_home(1)), 0);
+    SPOILS(cad_value_set_destination_range(value, 256 + 15), 349);
+    SPOILS(cad_value_set_destination(value, 0, cad_address_other(1, 0x1000001)), 0);
+    SPOILS(cad_value_set_destination(value, 15, cad_address_home(1)), 0);
+    SPOILS(cad_value_set_area_range(value, 256 + 15), 455);
+    SPOILS(cad_value_set_area(value, 14, 256 + 1), 470);
+    SPOILS(cad_value_set_area(value, 15, 1), 0);
 #undef SPOILS
 }
 
@@ -330,7 +391,7 @@ static void four_users(uint8_t *value, unsigned pdu)
 /* Whom a message with a range of users names. */
 static void range_of_users(unsigned pdu)
 {
-    uint8_t profile[39], value[241];
+    uint8_t profile[41], value[471];
     unsigned i;
     home_profile(profile);
 
@@ -376,7 +437,7 @@ static void range_of_users(unsigned pdu)
 
 static void identities(void)
 {
-    uint8_t profile[39], value[241];
+    uint8_t profile[41], value[471];
     unsigned i;
     home_profile(profile);
 
@@ -384,6 +445,7 @@ static void identities(void)
     range_of_users(CAD_ACTIVATE_ACK);
     range_of_users(CAD_DEACTIVATE);
     range_of_users(CAD_DEACTIVATE_ACK);
+    range_of_users(CAD_INTERROGATE_ACK);
     for (i = 0; i < 256; i++)
         CHECK(cad_meaning_addresses(i) == (i == 17 ? 2 : i <= 15 ? i : 0u));
 
@@ -397,6 +459,27 @@ static void identities(void)
         cad_value_set_dispatcher_range(value, 3);
         CHECK(cad_value_dispatchers(profile, value) == (i == CAD_ACTIVATE ? 3u : 0u));
     }
+
+    /* INTERROGATE ACK alone has sources, destinations and areas, and dispatchers too */
+    for (i = 0; i < 256; i++) {
+        cad_value_start(value, i);
+        CHECK(cad_value_sources(profile, value) == 0);
+        CHECK(cad_value_destinations(profile, value) == 0 && cad_value_areas(profile, value) == 0);
+        cad_value_set_source_range(value, 7);
+        CHECK(cad_value_sources(profile, value) == (i == CAD_INTERROGATE_ACK ? 15u : 0u));
+        CHECK(cad_value_destinations(profile, value) == 0 && cad_value_areas(profile, value) == 0);
+        cad_value_set_destination_range(value, 15);
+        CHECK(cad_value_destinations(profile, value) == (i == CAD_INTERROGATE_ACK ? 2u : 0u) && cad_value_areas(profile, value) == 0);
+        cad_value_set_area_range(value, 3);
+        CHECK(cad_value_areas(profile, value) == (i == CAD_INTERROGATE_ACK ? 3u : 0u));
+    }
+    cad_value_start(value, CAD_INTERROGATE_ACK);
+    cad_value_set_dispatcher_range(value, 2);
+    CHECK(cad_value_dispatchers(profile, value) == 2 && cad_value_sources(profile, value) == 0);
+    cad_value_set_source_range(value, 0);
+    cad_value_set_destination_range(value, 4);
+    cad_value_set_area_range(value, 16);
+    CHECK(cad_value_sources(profile, value) == 0 && cad_value_destinations(profile, value) == 0 && cad_value_areas(profile, value) == 0);
 
     cad_value_start(value, CAD_INTERROGATE);
     cad_value_set_user(value, 0, cad_address_home(1001));
@@ -432,7 +515,7 @@ static void deactivation(void)
     static const uint8_t request[9] = {0x24, 0x9E, 0x80, 0x01, 0xF4, 0xA0, 0x00, 0x7D, 0x80};
     static const uint8_t third[10] = {0x24, 0xBE, 0x80, 0x01, 0xF4, 0xA0, 0x00, 0x7D, 0x92, 0x01};
     static const uint8_t all[9] = {0x24, 0xBE, 0x80, 0x01, 0xF4, 0xA0, 0x00, 0x7D, 0x88};
-    uint8_t profile[39], value[241], read[241], message[CAD_MESSAGE_BYTES];
+    uint8_t profile[41], value[471], read[471], message[CAD_MESSAGE_BYTES];
     size_t bits = 77;
     unsigned k;
     cad_profile_sample(profile);
@@ -441,7 +524,7 @@ static void deactivation(void)
     round_trip(profile, value, 67, request);
     CHECK(cad_read(profile, sizeof profile, request, sizeof request, 66, read, sizeof read) == CAD_REFUSED_SHORT);
     CHECK(cad_read(profile, sizeof profile, request, sizeof request, 68, read, sizeof read) == CAD_REFUSED_LEFT_OVER);
-    for (k = 16; k < 241; k++) {
+    for (k = 16; k < 471; k++) {
         value[k] = 1;
         CHECK(cad_write(profile, sizeof profile, value, sizeof value, message, sizeof message, &bits) == CAD_REFUSED_VALUE);
         value[k] = 0;
@@ -483,13 +566,141 @@ static void deactivation(void)
     round_trip(profile, value, 789, NULL);
 }
 
-/* The two functions themselves, where the header's words meet them; the differential test is elsewhere. */
+/*
+ * INTERROGATE ACK, written and read, and what it may not have: with one result what belongs to the other, a reason over 3 bits, a type over
+ * 1, anything in a group that is absent or says "none", areas that fall, a destination that is an external number.
+ */
+static void interrogation(void)
+{
+    static const uint8_t active[7] = {0x25, 0x22, 0x80, 0x01, 0xF4, 0xB0, 0x00};
+    static const uint8_t unrecorded[6] = {0x25, 0x22, 0x80, 0x01, 0xF4, 0x84};
+    static const uint8_t areas[8] = {0x25, 0x22, 0x80, 0x01, 0xF4, 0x86, 0x3E, 0x6A};
+    static const uint8_t falling[8] = {0x25, 0x22, 0x80, 0x01, 0xF4, 0x86, 0x3E, 0xA6};
+    static const uint8_t external[7] = {0x25, 0x22, 0x80, 0x01, 0xF4, 0x86, 0x47};
+    static const uint8_t all[30] = {0x25, 0x22, 0x80, 0x01, 0xF4, 0xB1, 0xE2, 0x80, 0x01, 0xF6, 0x4A, 0x00, 0x03, 0xE9, 0x00,
+                                    0x00, 0x05, 0x40, 0x00, 0xFB, 0x3E, 0x80, 0x01, 0xF4, 0xA0, 0x00, 0x7D, 0x93, 0x1F, 0x00};
+    static const unsigned flags[4] = {121, 228, 229, 230}, ranges[4] = {122, 243, 349, 455}, beyond[4] = {130, 258, 364, 459};
+    uint8_t profile[41], value[471], read[471], message[CAD_MESSAGE_BYTES];
+    size_t bits = 77;
+    unsigned k;
+    cad_profile_sample(profile);
+#define REFUSES_VALUE(given) \
+    CHECK(cad_write(profile, sizeof profile, given, sizeof given, message, sizeof message, &bits) == CAD_REFUSED_VALUE)
+
+    /* accepted: activated, the types and services, and nothing else; a reason is the other result's */
+    cad_value_start(value, CAD_INTERROGATE_ACK);
+    cad_value_set_user_range(value, 1);
+    cad_value_set_user(value, 0, cad_address_home(1001));
+    cad_value_set_result(value, 1);
+    cad_value_set_activation_type(value, 1);
+    round_trip(profile, value, 50, active);
+    memcpy(read, value, sizeof read);
+    cad_value_set_reason(read, 1);
+    REFUSES_VALUE(read);
+    for (k = 239; k <= 242; k++) {
+        memcpy(read, value, sizeof read);
+        read[k] = k < 241 ? 4 : 2;
+        REFUSES_VALUE(read);
+    }
+    for (k = 231; k <= 238; k++) {
+        memcpy(read, value, sizeof read);
+        read[k] = 1;
+        REFUSES_VALUE(read);
+    }
+
+    /* with all four groups */
+    cad_value_set_calling_service(value, 3);
+    cad_value_set_dispatcher_range(value, 1);
+    cad_value_set_dispatcher(value, 0, cad_address_home(1004));
+    cad_value_set_source_range(value, 2);
+    cad_value_set_source(value, 0, cad_address_other(1001, 5));
+    cad_value_set_source(value, 1, cad_address_home(1004));
+    cad_value_set_destination_range(value, 15);
+    cad_value_set_destination(value, 0, cad_address_home(1001));
+    cad_value_set_destination(value, 1, cad_address_home(1004));
+    cad_value_set_area_range(value, 3);
+    cad_value_set_area(value, 0, 1);
+    cad_value_set_area(value, 1, 15);
+    round_trip(profile, value, 236, all);
+    CHECK(cad_read(profile, sizeof profile, all, sizeof all, 236, read, sizeof read) == CAD_DONE);
+    CHECK(cad_value_is_ack(read) && !cad_value_masked(read) && cad_value_result(read) == 1 && cad_value_activation_type(read) == 1);
+    CHECK(cad_value_interception_type(read) == 0 && cad_value_called_service(read) == 0 && cad_value_calling_service(read) == 3);
+    CHECK(cad_value_option(read) && cad_value_has_sources(read) && cad_value_has_destinations(read) && cad_value_has_areas(read));
+    CHECK(cad_value_dispatchers(profile, read) == 1 && is_address(cad_value_dispatcher(read, 0), 1, 1004, 0));
+    CHECK(cad_value_sources(profile, read) == 2 && is_address(cad_value_source(read, 0), 2, 1001, 5));
+    CHECK(is_address(cad_value_source(read, 1), 1, 1004, 0) && is_address(cad_value_source(read, 2), 0, 0, 0));
+    CHECK(cad_value_destinations(profile, read) == 2 && is_address(cad_value_destination(read, 0), 1, 1001, 0));
+    CHECK(is_address(cad_value_destination(read, 1), 1, 1004, 0));
+    CHECK(cad_value_areas(profile, read) == 3);
+    CHECK(cad_value_area(read, 0) == 1 && cad_value_area(read, 1) == 15 && cad_value_area(read, 2) == 0);
+    for (k = 0; k < 4; k++) {
+        /* a mark over 1, one that is not there, a reserved range, a place beyond the count, and "none" with what follows left there */
+        memcpy(read, value, sizeof read);
+        read[flags[k]] = 2;
+        REFUSES_VALUE(read);
+        read[flags[k]] = 0;
+        REFUSES_VALUE(read);
+        memcpy(read, value, sizeof read);
+        read[ranges[k]] = 4;
+        REFUSES_VALUE(read);
+        memcpy(read, value, sizeof read);
+        read[beyond[k]] = 1;
+        REFUSES_VALUE(read);
+        memcpy(read, value, sizeof read);
+        read[ranges[k]] = 0;
+        REFUSES_VALUE(read);
+    }
+    memcpy(read, value, sizeof read);
+    read[456] = 16;
+    REFUSES_VALUE(read);
+    memcpy(read, value, sizeof read);
+    read[350] = 3;
+    REFUSES_VALUE(read);
+
+    /* not accepted: a reason of 3 bits, and none of the other result's; groups are read and written all the same */
+    cad_value_start(value, CAD_INTERROGATE_ACK);
+    cad_value_set_user_range(value, 1);
+    cad_value_set_user(value, 0, cad_address_home(1001));
+    cad_value_set_reason(value, cad_profile_unrecorded(profile));
+    round_trip(profile, value, 47, unrecorded);
+    for (k = 239; k <= 242; k++) {
+        memcpy(read, value, sizeof read);
+        read[k] = 1;
+        REFUSES_VALUE(read);
+    }
+    cad_value_set_area_range(value, 15);
+    cad_value_set_area(value, 0, 3);
+    cad_value_set_area(value, 1, 5);
+    round_trip(profile, value, 63, areas);
+    cad_value_set_area(value, 1, 2);
+    REFUSES_VALUE(value);
+    cad_value_set_area(value, 1, 5);
+    cad_value_set_reason(value, 8);
+    REFUSES_VALUE(value);
+    memset(read, 0x55, sizeof read);
+    CHECK(cad_read(profile, sizeof profile, falling, sizeof falling, 63, read, sizeof read) == CAD_REFUSED_ENDS);
+    CHECK(cad_read(profile, sizeof profile, external, sizeof external, 56, read, sizeof read) == CAD_REFUSED_EXTERNAL);
+    for (k = 0; k < 471; k++)
+        CHECK(read[k] == 0x55);
+
+    /* a profile whose reasons do not fit */
+    for (k = 39; k <= 40; k++) {
+        cad_profile_sample(profile);
+        profile[k] = 7;
+        CHECK(cad_read(profile, sizeof profile, active, sizeof active, 50, read, sizeof read) == CAD_DONE);
+        profile[k] = 8;
+        CHECK(cad_read(profile, sizeof profile, active, sizeof active, 50, read, sizeof read) == CAD_REFUSED_PROFILE);
+    }
+#undef REFUSES_VALUE
+}
+
+/* The three functions themselves, where the header's words meet them; the differential test is elsewhere. */
 static void functions(void)
 {
     static const uint8_t case_8[9] = {0x24, 0x5E, 0x80, 0x01, 0xF4, 0xA0, 0x00, 0x7D, 0x80};
     static const uint8_t request[19] = {0x25, 0x60, 0x02, 0x8B, 0x40, 0x00, 0xFA, 0x70, 0x00, 0x1F,
                                         0x60, 0x00, 0x00, 0x2C, 0x00, 0x00, 0x16, 0x32, 0xB8};
-    uint8_t profile[39], value[241], read[241], message[CAD_MESSAGE_BYTES];
+    uint8_t profile[41], value[471], read[471], message[CAD_MESSAGE_BYTES];
     size_t bits = 77;
     unsigned k;
     cad_profile_sample(profile);
@@ -549,7 +760,7 @@ static void functions(void)
         cad_profile_add_post(profile, 0, 1);
     CHECK(cad_read(profile, sizeof profile, case_8, sizeof case_8, 68, read, sizeof read) == CAD_REFUSED_PROFILE);
 
-    /* the longest message: fifteen users and fifteen dispatchers of kind 2 */
+    /* the longest ACTIVATE: fifteen users and fifteen dispatchers of kind 2 */
     home_profile(profile);
     cad_value_start(value, CAD_ACTIVATE);
     cad_value_set_user_range(value, 7);
@@ -557,6 +768,22 @@ static void functions(void)
     for (k = 0; k < 15; k++) {
         cad_value_set_user(value, k, cad_address_other(k, k));
         cad_value_set_dispatcher(value, k, cad_address_other(k, 0xFFFFFF - k));
+    }
+    round_trip(profile, value, 1521, NULL);
+
+    /* the longest message: an INTERROGATE ACK with a mask, accepted, and fifteen of each group beside them */
+    value[CAD_VALUE_PDU] = CAD_INTERROGATE_ACK;
+    cad_value_set_mask_bit(value, 14, 1);
+    cad_value_set_result(value, 1);
+    cad_value_set_interception_type(value, 1);
+    cad_value_set_called_service(value, 3);
+    cad_value_set_source_range(value, 7);
+    cad_value_set_destination_range(value, 7);
+    cad_value_set_area_range(value, 7);
+    for (k = 0; k < 15; k++) {
+        cad_value_set_source(value, k, cad_address_other(0xFFFFFF - k, k));
+        cad_value_set_destination(value, k, cad_address_other(0xFFFFFF, k));
+        cad_value_set_area(value, k, 15 - k);
     }
     round_trip(profile, value, CAD_MESSAGE_BITS, NULL);
     CHECK(cad_write(profile, sizeof profile, value, sizeof value, message, sizeof message - 1, &bits) == CAD_REFUSED_ROOM);
@@ -573,12 +800,15 @@ static void broken_off(void)
                                         "activation-type", "interception-type", "type-of-restriction", "?"};
     static const uint8_t accept[4] = {0x25, 0x80, 0x02, 0x80};
     static const uint8_t masked[10] = {0x24, 0xBE, 0x80, 0x01, 0xF4, 0xA0, 0x00, 0x7D, 0x92, 0x01};
-    uint8_t profile[39], read[241];
+    static const uint8_t answered[7] = {0x25, 0x22, 0x80, 0x01, 0xF4, 0xB0, 0x00};
+    static const uint8_t failed[6] = {0x25, 0x22, 0x80, 0x01, 0xF4, 0x84};
+    uint8_t profile[41], read[471];
     uint32_t position, element, k;
     size_t bits;
     cad_profile_sample(profile);
     CHECK(CAD_ELEMENT_SS_TYPE == 1 && CAD_ELEMENT_EXTENSION == 6 && CAD_ELEMENT_MASK == 8 && CAD_ELEMENT_IDENTIFIER == 12);
-    CHECK(CAD_ELEMENT_P_BIT == 14 && CAD_ELEMENT_BASIC_SERVICE == 17 && CAD_ELEMENT_TYPE_OF_RESTRICTION == 20);
+    CHECK(CAD_ELEMENT_P_BIT == 14 && CAD_ELEMENT_BASIC_SERVICE == 17 && CAD_ELEMENT_ACTIVATION_TYPE == 18);
+    CHECK(CAD_ELEMENT_INTERCEPTION_TYPE == 19 && CAD_ELEMENT_TYPE_OF_RESTRICTION == 20);
     for (k = 0; k < sizeof names / sizeof names[0]; k++)
         CHECK(strcmp(cad_element_name(k), names[k]) == 0);
     CHECK(strcmp(cad_element_name(0xFFFFFFFFu), "?") == 0);
@@ -586,7 +816,7 @@ static void broken_off(void)
     /* an ACCEPT, cut at each of its bits: SS type from 0, PDU type from 6, identifier from 11 */
     for (bits = 1; bits < 25; bits++) {
         position = element = 77;
-        CHECK(cad_read_at(profile, 39, accept, sizeof accept, bits, read, sizeof read, &position, &element) == CAD_REFUSED_SHORT);
+        CHECK(cad_read_at(profile, 41, accept, sizeof accept, bits, read, sizeof read, &position, &element) == CAD_REFUSED_SHORT);
         CHECK(position == (bits < 6 ? 0u : bits < 11 ? 6u : 11u));
         CHECK(element == (bits < 6 ? CAD_ELEMENT_SS_TYPE : bits < 11 ? CAD_ELEMENT_PDU_TYPE : CAD_ELEMENT_IDENTIFIER));
     }
@@ -594,7 +824,7 @@ static void broken_off(void)
     /* a DEACTIVATE ACK, cut behind its users: mask present at 67, four mask bits from 68, result at 72, reason from 73 */
     for (bits = 67; bits < 80; bits++) {
         position = element = 77;
-        CHECK(cad_read_at(profile, 39, masked, sizeof masked, bits, read, sizeof read, &position, &element) == CAD_REFUSED_SHORT);
+        CHECK(cad_read_at(profile, 41, masked, sizeof masked, bits, read, sizeof read, &position, &element) == CAD_REFUSED_SHORT);
         CHECK(position == (bits < 68 ? 67u : bits < 72 ? 68u : bits < 73 ? 72u : 73u));
         CHECK(element == (bits < 68   ? CAD_ELEMENT_MASK_PRESENT
                           : bits < 72 ? CAD_ELEMENT_MASK
@@ -602,13 +832,28 @@ static void broken_off(void)
                                       : CAD_ELEMENT_REASON));
     }
 
+    /* an INTERROGATE ACK, cut behind its user: mask present at 41, result, activation type, interception type, two services, O-bit at 49 */
+    for (bits = 41; bits < 50; bits++) {
+        static const uint32_t begins[9] = {41, 42, 43, 44, 45, 45, 47, 47, 49};
+        static const uint32_t broken[9] = {7, 9, 18, 19, 17, 17, 17, 17, 13};
+        position = element = 77;
+        CHECK(cad_read_at(profile, 41, answered, sizeof answered, bits, read, sizeof read, &position, &element) == CAD_REFUSED_SHORT);
+        CHECK(position == begins[bits - 41] && element == broken[bits - 41]);
+    }
+    /* not accepted: a reason of 3 bits from 43, O-bit at 46 */
+    for (bits = 43; bits < 47; bits++) {
+        position = element = 77;
+        CHECK(cad_read_at(profile, 41, failed, sizeof failed, bits, read, sizeof read, &position, &element) == CAD_REFUSED_SHORT);
+        CHECK(position == (bits < 46 ? 43u : 46u) && element == (bits < 46 ? CAD_ELEMENT_REASON : CAD_ELEMENT_O_BIT));
+    }
+
     /* whole, left over, no bits, an area too short, no profile: both numbers stay */
     position = 7;
     element = 9;
-    CHECK(cad_read_at(profile, 39, accept, sizeof accept, 25, read, sizeof read, &position, &element) == CAD_DONE);
-    CHECK(cad_read_at(profile, 39, accept, sizeof accept, 26, read, sizeof read, &position, &element) == CAD_REFUSED_LEFT_OVER);
-    CHECK(cad_read_at(profile, 39, accept, sizeof accept, 0, read, sizeof read, &position, &element) == CAD_REFUSED_LENGTH);
-    CHECK(cad_read_at(profile, 39, accept, sizeof accept, 25, read, sizeof read - 1, &position, &element) == CAD_REFUSED_ROOM);
+    CHECK(cad_read_at(profile, 41, accept, sizeof accept, 25, read, sizeof read, &position, &element) == CAD_DONE);
+    CHECK(cad_read_at(profile, 41, accept, sizeof accept, 26, read, sizeof read, &position, &element) == CAD_REFUSED_LEFT_OVER);
+    CHECK(cad_read_at(profile, 41, accept, sizeof accept, 0, read, sizeof read, &position, &element) == CAD_REFUSED_LENGTH);
+    CHECK(cad_read_at(profile, 41, accept, sizeof accept, 25, read, sizeof read - 1, &position, &element) == CAD_REFUSED_ROOM);
     CHECK(cad_read_at(NULL, 0, accept, sizeof accept, 24, read, sizeof read, &position, &element) == CAD_REFUSED_PROFILE);
     CHECK(position == 7 && element == 9);
 }
@@ -622,6 +867,7 @@ int main(void)
     setters();
     identities();
     deactivation();
+    interrogation();
     broken_off();
     functions();
     printf("%lu checks of the header, %lu failed\n", checks, failures);
