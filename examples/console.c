@@ -16,9 +16,9 @@
 #include <stdlib.h>
 #include <string.h>
 
-/* A good line: a bit length of 1 to 4 digits, one space, and at most 512 hex digits. */
+/* A good line: a bit length of 1 to 4 digits, one space, and at most 1024 hex digits. */
 #define LINE_DIGITS 4
-#define LINE_BYTES 256
+#define LINE_BYTES 512
 #define LINE_LENGTH (LINE_DIGITS + 1 + 2 * LINE_BYTES)
 
 static const char *identities_word(unsigned count)
@@ -46,17 +46,22 @@ static void say_range(const uint8_t *profile, const char *word, unsigned range)
         printf("a list of %u\n", meaning);
 }
 
-static void say_users(const uint8_t *profile, const uint8_t *value)
+static void say_addresses(const uint8_t *value, unsigned count, struct cad_address (*address)(const uint8_t *value, unsigned k))
 {
     unsigned k;
+    for (k = 0; k < count; k++) {
+        printf("    address %u: ", k);
+        say_address(address(value, k));
+    }
+}
+
+static void say_users(const uint8_t *profile, const uint8_t *value)
+{
     if (cad_value_pdu(value) == CAD_INTERROGATE)
         printf("  user:\n");
     else
         say_range(profile, "users", cad_value_user_range(value));
-    for (k = 0; k < cad_value_users(profile, value); k++) {
-        printf("    address %u: ", k);
-        say_address(cad_value_user(value, k));
-    }
+    say_addresses(value, cad_value_users(profile, value), cad_value_user);
 }
 
 /* Each identity that the users are; of an ACK with its mask bit, so that nobody has to count bits. */
@@ -85,21 +90,42 @@ static void say_result(const uint8_t *value)
         printf("  result: not accepted, reason %u\n", cad_value_reason(value));
 }
 
-static void say_option(const uint8_t *profile, const uint8_t *value)
+/* What an INTERROGATE ACK that is accepted says of its users. */
+static void say_state(const uint8_t *value)
+{
+    printf("  activation type: %s\n", cad_value_activation_type(value) == 1 ? "activated" : "not activated");
+    printf("  interception type: %s\n",
+           cad_value_interception_type(value) == 1 ? "dispatcher requested set-up" : "immediate set-up");
+    printf("  basic service of the called: %u\n", cad_value_called_service(value));
+    printf("  basic service of the calling: %u\n", cad_value_calling_service(value));
+}
+
+/* The groups that are there: of an INTERROGATE ACK up to four, of the others at most dispatchers. */
+static void say_options(const uint8_t *profile, const uint8_t *value)
 {
     unsigned k;
-    if (!cad_value_option(value)) {
+    if (cad_value_option(value)) {
+        if (cad_value_pdu(value) == CAD_ACTIVATE || cad_value_pdu(value) == CAD_INTERROGATE_ACK)
+            say_range(profile, "option, dispatchers", cad_value_dispatcher_range(value));
+        else
+            printf("  option, dispatcher:\n");
+        say_addresses(value, cad_value_dispatchers(profile, value), cad_value_dispatcher);
+    }
+    if (cad_value_has_sources(value)) {
+        say_range(profile, "option, sources", cad_value_source_range(value));
+        say_addresses(value, cad_value_sources(profile, value), cad_value_source);
+    }
+    if (cad_value_has_destinations(value)) {
+        say_range(profile, "option, destinations", cad_value_destination_range(value));
+        say_addresses(value, cad_value_destinations(profile, value), cad_value_destination);
+    }
+    if (cad_value_has_areas(value)) {
+        say_range(profile, "option, areas", cad_value_area_range(value));
+        for (k = 0; k < cad_value_areas(profile, value); k++)
+            printf("    area %u: %u\n", k, cad_value_area(value, k));
+    }
+    if (!cad_value_option(value) && !cad_value_has_sources(value) && !cad_value_has_destinations(value) && !cad_value_has_areas(value))
         printf("  no option\n");
-        return;
-    }
-    if (cad_value_pdu(value) == CAD_ACTIVATE)
-        say_range(profile, "option, dispatchers", cad_value_dispatcher_range(value));
-    else
-        printf("  option, dispatcher:\n");
-    for (k = 0; k < cad_value_dispatchers(profile, value); k++) {
-        printf("    address %u: ", k);
-        say_address(cad_value_dispatcher(value, k));
-    }
 }
 
 /* Who calls whom, and what else a REQUEST may say of the call. */
@@ -131,13 +157,21 @@ static void say_value(const uint8_t *profile, const uint8_t *value)
     case CAD_ACTIVATE:
         say_users(profile, value);
         say_identities(profile, value);
-        say_option(profile, value);
+        say_options(profile, value);
         break;
     case CAD_ACTIVATE_ACK:
     case CAD_DEACTIVATE_ACK:
         say_users(profile, value);
         say_identities(profile, value);
         say_result(value);
+        break;
+    case CAD_INTERROGATE_ACK:
+        say_users(profile, value);
+        say_identities(profile, value);
+        say_result(value);
+        if (cad_value_result(value) == 1)
+            say_state(value);
+        say_options(profile, value);
         break;
     case CAD_DEACTIVATE:
     case CAD_INTERROGATE:
@@ -148,7 +182,7 @@ static void say_value(const uint8_t *profile, const uint8_t *value)
     case CAD_DIVERTED:
     case CAD_REJECTED:
         printf("  cause: %u\n", cad_value_cause(value));
-        say_option(profile, value);
+        say_options(profile, value);
         break;
     case CAD_REQUEST:
     case CAD_REJECT:
