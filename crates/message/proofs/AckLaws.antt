@@ -1,17 +1,17 @@
--- The mask and the result of an ACK are good codecs. Assumes nothing.
+-- The mask, the result and the state of an ACK are good codecs. Assumes nothing.
 use Prim.Native.Nat.{ℕ, _-_, _*_, _/_, _^_}
 use mathlib.Core.Path.{_≡_, refl}
 use mathlib.Core.Bool.{true}
 use lib.Dec.{eqb}
 use lib.Pow.{shl-shr}
 use borrow.Author.Tests.{eqb-true, eq-eqb}
-use Rattle.codec.specs.Codec.{number, pure, choose}
+use Rattle.codec.specs.Codec.{number, pure, seq, choose}
 use Rattle.codec.proofs.Good.{Good}
-use Rattle.codec.proofs.Combinators.{good-number, good-seq, good-map, good-choose}
+use Rattle.codec.proofs.Combinators.{good-number, good-seq, good-map, good-iso, good-choose}
 use Rattle.codec.proofs.OptionLaws.{good-given}
 use Rattle.message.specs.Elements as element
 use Rattle.message.specs.Addresses.{isZero}
-use Rattle.message.specs.Acks.{maskC, maskedC, resultC}
+use Rattle.message.specs.Acks.{maskC, maskedC, resultC, whyNotC, ifAcceptedC, stateC}
 use Rattle.message.proofs.AddressLaws.{zero-is, good-zero}
 
 mask-fits : (v k : ℕ) → eqb (v * 2 ^ k / 2 ^ k * 2 ^ k) (v * 2 ^ k) ≡ true
@@ -32,3 +32,22 @@ unfolding resultC
 good-result =
     good-seq (number element.result 1) (λ r. choose (eqb r 1) (pure 0 isZero) (number element.reason 7)) (good-number element.result 1)
     (λ r _. good-choose (eqb r 1) good-zero (good-number element.reason 7))
+
+good-why-not : (r : ℕ) → Good (whyNotC r)
+unfolding whyNotC
+good-why-not r = good-choose (eqb r 1) good-zero (good-number element.reason 3)
+
+good-if-accepted : (r e w : ℕ) → Good (ifAcceptedC r e w)
+unfolding ifAcceptedC
+good-if-accepted r e w = good-choose (eqb r 1) (good-number e w) good-zero
+
+pub good-state : Good stateC
+unfolding stateC
+good-state =
+    good-iso _ _ _ (λ x v. refl) (λ b _. refl)
+    (good-seq _ _ (good-number element.result 1)
+    (λ r _. good-seq (whyNotC r) _ (good-why-not r)
+    (λ _ _. good-seq (ifAcceptedC r element.activationType 1) _ (good-if-accepted r element.activationType 1)
+    (λ _ _. good-seq (ifAcceptedC r element.interceptionType 1) _ (good-if-accepted r element.interceptionType 1)
+    (λ _ _. good-seq (ifAcceptedC r element.basicService 2) _ (good-if-accepted r element.basicService 2)
+    (λ _ _. good-if-accepted r element.basicService 2))))))

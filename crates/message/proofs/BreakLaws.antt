@@ -2,7 +2,7 @@
 --     broke-off        a 4 has the first element along the bits that reaches past the length, and where it begins
 --     one-bit-shorter  one bit less, still within that element, gives the same refusal
 --     carries-neither  any other refusal has neither element nor position
---     position-most    the position is at most 2,048
+--     position-most    the position is at most 4,096
 use Prim.Native.Nat.{ℕ, suc, _+_, _*_, _≤_, _<_}
 use mathlib.Core.Path.{_≡_, refl, sym, _∙_, subst}
 use mathlib.Core.Bool.{Bool, true, false, not, cond}
@@ -102,7 +102,7 @@ module _ (p : Profile) (l : List ℕ) (n : ℕ) where
         go (broken four _) = not-both (sym other ∙ rw four)
         go (plain z) = z .1
 
-at-most : (c : ℕ) → refusal c .at ≤ 2048
+at-most : (c : ℕ) → refusal c .at ≤ 4096
 unfolding refusal
 at-most c = omega arith
 
@@ -110,9 +110,9 @@ at-most c = omega arith
 shorter-length : (l : List ℕ) (n : ℕ) → 1 ≤ n → lengthOk l (suc n) ≡ true → lengthOk l n ≡ true
 unfolding lengthOk
 shorter-length l n h e =
-    let most = leb-true (suc n) 2048 (both-left _ _ (both-right (leb 1 (suc n)) _ e)) in
-    let lent = leb-true (suc n) (8 * length l) (both-right (leb (suc n) 2048) _ (both-right (leb 1 (suc n)) _ e)) in
-    both-true _ _ (le-leb 1 n h) (both-true _ _ (le-leb n 2048 (omega (arith, most))) (le-leb n (8 * length l) (omega (arith, lent))))
+    let most = leb-true (suc n) 4096 (both-left _ _ (both-right (leb 1 (suc n)) _ e)) in
+    let lent = leb-true (suc n) (8 * length l) (both-right (leb (suc n) 4096) _ (both-right (leb 1 (suc n)) _ e)) in
+    both-true _ _ (le-leb 1 n h) (both-true _ _ (le-leb n 4096 (omega (arith, most))) (le-leb n (8 * length l) (omega (arith, lent))))
 
 module _ (p : Profile) (l : List ℕ) (n : ℕ) (s : Stop) where
   -- what gives a 4 is of a good length
@@ -125,17 +125,17 @@ module _ (p : Profile) (l : List ℕ) (n : ℕ) (s : Stop) where
       go true false h z = let y : _≡_ {A = ℕ} 3 4 = cc in absurd (omega arith)
       go false c h z = let y : _≡_ {A = ℕ} 1 4 = cc in absurd (omega arith)
 
-  -- the position is at most 2,048, so it fits everywhere it is handed to
-  pub position-most : readOf p l n ≡ no s → s .at ≤ 2048
+  -- the position is at most 4,096, so it fits everywhere it is handed to
+  pub position-most : readOf p l n ≡ no s → s .at ≤ 4096
   unfolding lengthOk
   position-most e = go (eqb (s .number) 4) refl
     where
-      go : (b : Bool) → eqb (s .number) 4 ≡ b → s .at ≤ 2048
+      go : (b : Bool) → eqb (s .number) 4 ≡ b → s .at ≤ 4096
       go true z =
           let four = eqb-true (s .number) 4 z in
-          let most = leb-true n 2048 (both-left _ _ (both-right (leb 1 n) _ (short-length e four))) in
+          let most = leb-true n 4096 (both-left _ _ (both-right (leb 1 n) _ (short-length e four))) in
           omega (arith, broke-off p l n s e four .within, most)
-      go false z = subst (λ (t : Stop). t .at ≤ 2048) (sym (carries-neither p l n s e z)) (at-most (s .number))
+      go false z = subst (λ (t : Stop). t .at ≤ 4096) (sym (carries-neither p l n s e z)) (at-most (s .number))
 
 pub one-bit-shorter : (p : Profile) (l : List ℕ) (n : ℕ) (s : Stop) → 1 ≤ n → readOf p l (suc n) ≡ no s → s .number ≡ 4 → s .at ≤ n → readOf p l n ≡ no s
 one-bit-shorter p l n s h e four k =

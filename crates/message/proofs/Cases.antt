@@ -5,7 +5,8 @@ use mathlib.Core.Path.{_≡_, refl}
 use mathlib.Core.Bool.{Bool, true, false}
 use mathlib.Core.List as list
 use mathlib.Core.List.{List, [], _∷_}
-use lib.ListN.{set}
+use lib.ListN.{set, replicate}
+use lib.Seq.{sets}
 use Rattle.bits.specs.Fields.{bitAt, fieldAt}
 use Rattle.codec.specs.Stops.{short, refusal}
 use Rattle.codec.specs.Codec.{Ground, groundsOf, Read, got, no, both, number, vecRead, vecOrder}
@@ -16,16 +17,18 @@ use Rattle.profile.specs.Sample.{sample, sampleMeanings, sampleShare}
 use Rattle.message.specs.Elements as element
 use Rattle.message.specs.Addresses.{kindC, extensionC, addressC}
 use Rattle.message.specs.Groups.{addressesIn, allowedIn, nobodies, placesC, rangeOk, endsOk, addressesC, rangeC, groupC, noGroup, oneGroup, spanIn, spanOf}
-use Rattle.message.specs.Acks.{maskC, maskedC, resultC}
+use Rattle.message.specs.Areas.{areaPlacesC, rises, areaListC, areasC, noAreas}
+use Rattle.message.specs.Acks.{maskC, maskedC, resultC, whyNotC, ifAcceptedC, stateC}
 use Rattle.message.specs.Numbers as place
 use Rattle.message.specs.Numbers.{elements, elementOf, widths, widthOf}
-use Rattle.message.specs.Values.{blank, withNumber, withUsers, withMask, withDispatchers, withGiven}
+use Rattle.message.specs.Values.{noLists, blank, withNumber, withUsers, withMask, withDispatchers, withSources, withDestinations, withAreas, withGiven}
 use Rattle.message.specs.Rows.{table, rowIn, rowOf, put, partsC, puts, eachC, optionsC, putOptions, firstParts}
 use Rattle.message.specs.Messages.{bodyC, isKnown, isCarried, headerC, messageC}
 use Rattle.message.specs.Reading.{wholeOf, lengthOk, readBits, readOf, bitsOrder, readingOrder}
 use Rattle.message.specs.declared.Value.{Value}
 use Rattle.message.specs.declared.Address.{Address}
 use Rattle.message.specs.declared.Group.{Group}
+use Rattle.message.specs.declared.State.{State}
 use Rattle.message.specs.declared.Part.the-variants as part
 
 -- these bytes, so many bits, are read as this under the sample profile
@@ -70,6 +73,28 @@ all calling =
     and 6 place.calledService 2 (and 5 place.callingService 1 (and 4 place.calledArea 2 (and 3 place.callingArea 1 (and 2 place.mni 5
     (withGiven 1 true (put (part.User 1) (record { kind = 2; ssi = 1004; extension = 5 }) (withGiven 0 true (put (part.User 0) calling (request 2)))))))))
 
+-- INTERROGATE ACK of 1,001
+abbrev pub told : State → Value
+told s = put part.Interrogation s (withUsers (record { range = 1; addresses = set nobodies 0 (home 1001) }) (blank 9))
+
+abbrev pub accepted : ℕ → ℕ → ℕ → ℕ → State
+accepted a i called calling = record { result = 1; reason = 0; activation = a; interception = i; called = called; calling = calling }
+
+abbrev pub notAccepted : ℕ → State
+notAccepted r = record { result = 0; reason = r; activation = 0; interception = 0; called = 0; calling = 0 }
+
+-- not accepted, reason 1, with these areas
+abbrev pub covers : ℕ → List ℕ → Value
+covers range l = withGiven 3 true (withAreas (record { range = range; areas = sets (replicate 15 0) 0 l }) (told (notAccepted 1)))
+
+-- active, basic service of the calling 3, dispatcher 1,004, sources 1,001 with extension 5 and 1,004, destinations 1,001 to 1,004, areas 1, 15, 0
+abbrev pub allFour : Value
+allFour =
+    withGiven 3 true (withAreas (record { range = 3; areas = sets (replicate 15 0) 0 (1 ∷ 15 ∷ 0 ∷ []) })
+    (withGiven 2 true (withDestinations four
+    (withGiven 1 true (withSources (record { range = 2; addresses = set (set nobodies 0 (record { kind = 2; ssi = 1001; extension = 5 })) 1 (home 1004) })
+    (withGiven 0 true (withDispatchers (record { range = 1; addresses = set nobodies 0 (home 1004) }) (told (accepted 1 0 0 3)))))))))
+
 abbrev pub whole : List ℕ
 whole = 0x25 ∷ 0x60 ∷ 0x02 ∷ 0x8B ∷ 0x40 ∷ 0x00 ∷ 0xFA ∷ 0x70 ∷ 0x00 ∷ 0x1F ∷ 0x60 ∷ 0x00 ∷ 0x00 ∷ 0x2C ∷ 0x00 ∷ 0x00 ∷ 0x16 ∷ 0x32 ∷ 0xB8 ∷ []
 
@@ -101,14 +126,14 @@ cases =
     -- SS type 10 with PDU type 1 and with type 6: 5 comes before 6 and 7
     ∷ reads (0x28 ∷ 0x20 ∷ []) 11 (no (refusal 5))
     ∷ reads (0x28 ∷ 0xC0 ∷ []) 11 (no (refusal 5))
-    -- 6: types 0, 1, 19 and 31; 7: types 6, 7 and 9, which are known and not carried
+    -- 6: types 0, 1, 19 and 31; 7: types 6 and 7, which are known and not carried; 9 is carried, and its range is missing
     ∷ reads (0x24 ∷ 0x00 ∷ []) 11 (no (refusal 6))
     ∷ reads (0x24 ∷ 0x20 ∷ []) 11 (no (refusal 6))
     ∷ reads (0x26 ∷ 0x60 ∷ []) 11 (no (refusal 6))
     ∷ reads (0x27 ∷ 0xE0 ∷ []) 11 (no (refusal 6))
     ∷ reads (0x24 ∷ 0xC0 ∷ []) 11 (no (refusal 7))
     ∷ reads (0x24 ∷ 0xE0 ∷ []) 11 (no (refusal 7))
-    ∷ reads (0x25 ∷ 0x20 ∷ []) 11 (no (refusal 7))
+    ∷ reads (0x25 ∷ 0x20 ∷ []) 11 (no (short element.range 11))
     -- 9: ACTIVATE with a reserved range, 4, and with "none" for its users, 0
     ∷ reads (0x24 ∷ 0x48 ∷ []) 15 (no (refusal 9))
     ∷ reads (0x24 ∷ 0x40 ∷ []) 15 (no (refusal 9))
@@ -131,6 +156,36 @@ cases =
     ∷ reads (0x25 ∷ 0x60 ∷ 0x02 ∷ 0x83 ∷ 0x00 ∷ []) 34 (no (refusal 10))
     ∷ reads (0x25 ∷ 0x60 ∷ 0x02 ∷ 0x83 ∷ 0xC0 ∷ []) 34 (no (refusal 10))
     ∷ reads whole 80 (no (short element.ssi 61))
+    -- INTERROGATE ACK of 1,001: active, not active; not accepted, reason 1, and its O-bit missing; with areas 3 to 5; with all four groups
+    ∷ reads (0x25 ∷ 0x22 ∷ 0x80 ∷ 0x01 ∷ 0xF4 ∷ 0xB0 ∷ 0x00 ∷ []) 50 (got (told (accepted 1 0 0 0)) 50)
+    ∷ reads (0x25 ∷ 0x22 ∷ 0x80 ∷ 0x01 ∷ 0xF4 ∷ 0xA0 ∷ 0x00 ∷ []) 50 (got (told (accepted 0 0 0 0)) 50)
+    ∷ reads (0x25 ∷ 0x22 ∷ 0x80 ∷ 0x01 ∷ 0xF4 ∷ 0x84 ∷ []) 47 (got (told (notAccepted 1)) 47)
+    ∷ reads (0x25 ∷ 0x22 ∷ 0x80 ∷ 0x01 ∷ 0xF4 ∷ 0x84 ∷ []) 46 (no (short element.oBit 46))
+    ∷ reads (0x25 ∷ 0x22 ∷ 0x80 ∷ 0x01 ∷ 0xF4 ∷ 0x86 ∷ 0x3E ∷ 0x6A ∷ []) 63 (got (covers 15 (3 ∷ 5 ∷ [])) 63)
+    ∷ reads (0x25 ∷ 0x22 ∷ 0x80 ∷ 0x01 ∷ 0xF4 ∷ 0xB1 ∷ 0xE2 ∷ 0x80 ∷ 0x01 ∷ 0xF6 ∷ 0x4A ∷ 0x00 ∷ 0x03 ∷ 0xE9 ∷ 0x00 ∷ 0x00 ∷ 0x05 ∷ 0x40 ∷ 0x00 ∷ 0xFB ∷ 0x3E ∷ 0x80 ∷ 0x01 ∷ 0xF4 ∷ 0xA0 ∷ 0x00 ∷ 0x7D ∷ 0x93 ∷ 0x1F ∷ 0x00 ∷ []) 236 (got allFour 236)
+    -- 1,002 and 1,004 of four by the mask, each element its own value; all four groups there, and each "none"
+    ∷ reads (0x25 ∷ 0x3E ∷ 0x80 ∷ 0x01 ∷ 0xF4 ∷ 0xA0 ∷ 0x00 ∷ 0x7D ∷ 0x95 ∷ 0xFC ∷ []) 80 (got (put part.Interrogation (accepted 1 1 3 2) (withMask true (5 * 2 ^ 60) (withUsers four (blank 9)))) 80)
+    ∷ reads (0x25 ∷ 0x22 ∷ 0x80 ∷ 0x01 ∷ 0xF4 ∷ 0xAC ∷ 0xE1 ∷ 0x08 ∷ 0x40 ∷ []) 70 (got (withGiven 3 true (withGiven 2 true (withGiven 1 true (withGiven 0 true (told (accepted 0 1 2 1)))))) 70)
+    -- kind 3: 27 of a destination, the first or the second; 10 of a source and of a dispatcher; kind 0 of a destination is 10
+    ∷ reads (0x25 ∷ 0x22 ∷ 0x80 ∷ 0x01 ∷ 0xF4 ∷ 0x86 ∷ 0x47 ∷ []) 56 (no (refusal 27))
+    ∷ reads (0x25 ∷ 0x22 ∷ 0x80 ∷ 0x01 ∷ 0xF4 ∷ 0x86 ∷ 0x49 ∷ 0x00 ∷ 0x03 ∷ 0xE9 ∷ 0xC0 ∷ []) 82 (no (refusal 27))
+    ∷ reads (0x25 ∷ 0x22 ∷ 0x80 ∷ 0x01 ∷ 0xF4 ∷ 0x86 ∷ 0x8E ∷ []) 55 (no (refusal 10))
+    ∷ reads (0x25 ∷ 0x22 ∷ 0x80 ∷ 0x01 ∷ 0xF4 ∷ 0x87 ∷ 0x1C ∷ []) 54 (no (refusal 10))
+    ∷ reads (0x25 ∷ 0x22 ∷ 0x80 ∷ 0x01 ∷ 0xF4 ∷ 0x86 ∷ 0x44 ∷ []) 56 (no (refusal 10))
+    -- areas: 5 to 3 fall; 0 to 15 and 3 to 3 are good; a reserved range; users that are "none"; four P-bits that are 0
+    ∷ reads (0x25 ∷ 0x22 ∷ 0x80 ∷ 0x01 ∷ 0xF4 ∷ 0x86 ∷ 0x3E ∷ 0xA6 ∷ []) 63 (no (refusal 11))
+    ∷ reads (0x25 ∷ 0x22 ∷ 0x80 ∷ 0x01 ∷ 0xF4 ∷ 0x86 ∷ 0x3E ∷ 0x1E ∷ []) 63 (got (covers 15 (0 ∷ 15 ∷ [])) 63)
+    ∷ reads (0x25 ∷ 0x22 ∷ 0x80 ∷ 0x01 ∷ 0xF4 ∷ 0x86 ∷ 0x3E ∷ 0x66 ∷ []) 63 (got (covers 15 (3 ∷ 3 ∷ [])) 63)
+    ∷ reads (0x25 ∷ 0x22 ∷ 0x80 ∷ 0x01 ∷ 0xF4 ∷ 0x86 ∷ 0x28 ∷ []) 55 (no (refusal 9))
+    ∷ reads (0x25 ∷ 0x20 ∷ []) 15 (no (refusal 9))
+    ∷ reads (0x25 ∷ 0x22 ∷ 0x80 ∷ 0x01 ∷ 0xF4 ∷ 0x86 ∷ 0x00 ∷ []) 51 (no (refusal 12))
+    -- cut in the reason, the activation type, the interception type, the basic service of the called, of the calling, the second area
+    ∷ reads (0x25 ∷ 0x22 ∷ 0x80 ∷ 0x01 ∷ 0xF4 ∷ 0x84 ∷ []) 45 (no (short element.reason 43))
+    ∷ reads (0x25 ∷ 0x22 ∷ 0x80 ∷ 0x01 ∷ 0xF4 ∷ 0xB0 ∷ 0x00 ∷ []) 43 (no (short element.activationType 43))
+    ∷ reads (0x25 ∷ 0x22 ∷ 0x80 ∷ 0x01 ∷ 0xF4 ∷ 0xB0 ∷ 0x00 ∷ []) 44 (no (short element.interceptionType 44))
+    ∷ reads (0x25 ∷ 0x22 ∷ 0x80 ∷ 0x01 ∷ 0xF4 ∷ 0xB0 ∷ 0x00 ∷ []) 46 (no (short element.basicService 45))
+    ∷ reads (0x25 ∷ 0x22 ∷ 0x80 ∷ 0x01 ∷ 0xF4 ∷ 0xB0 ∷ 0x00 ∷ []) 48 (no (short element.basicService 47))
+    ∷ reads (0x25 ∷ 0x22 ∷ 0x80 ∷ 0x01 ∷ 0xF4 ∷ 0x86 ∷ 0x3E ∷ 0x6A ∷ []) 62 (no (short element.area 59))
     -- CANCEL, call 5; REJECT, call 5, cause 2; REJECTED, cause 2, without and with dispatcher 1,001
     ∷ reads (0x25 ∷ 0xC0 ∷ 0x02 ∷ 0x80 ∷ []) 25 (got (call 14 5) 25)
     ∷ reads (0x26 ∷ 0x20 ∷ 0x02 ∷ 0x88 ∷ []) 30 (got (withNumber place.cause 2 (call 17 5)) 30)
@@ -170,7 +225,7 @@ cases =
     ∷ []
 
 pub cases-right : list.map gives cases ≡ list.map wants cases
-unfolding bitAt fieldAt both number vecRead flag every sum meaningOk meaningIn airOk shareOk shareIn sharesOk profileOk sample sampleMeanings sampleShare kindC extensionC addressC addressesIn allowedIn nobodies placesC rangeOk endsOk addressesC rangeC groupC noGroup oneGroup spanIn spanOf maskC maskedC resultC elements elementOf widths widthOf blank rowOf rowIn table partsC puts eachC optionsC putOptions firstParts bodyC isKnown isCarried headerC messageC wholeOf lengthOk readBits readOf
+unfolding bitAt fieldAt both number vecRead flag every sum meaningOk meaningIn airOk shareOk shareIn sharesOk profileOk sample sampleMeanings sampleShare kindC extensionC addressC addressesIn allowedIn nobodies placesC rangeOk endsOk addressesC rangeC groupC noGroup oneGroup spanIn spanOf areaPlacesC rises areaListC areasC noAreas maskC maskedC resultC whyNotC ifAcceptedC stateC elements elementOf widths widthOf noLists blank rowOf rowIn table partsC puts eachC optionsC putOptions firstParts bodyC isKnown isCarried headerC messageC wholeOf lengthOk readBits readOf
 cases-right = refl
 
 -- ---- the grounds along the bits
@@ -181,5 +236,5 @@ pub order-right : list.map (λ (g : Ground). g .0) (readingOrder sample (0x24 �
     ≡ refusal 1 ∷ refusal 3 ∷ short element.ssType 0 ∷ short element.pduType 6 ∷ refusal 5 ∷ refusal 6 ∷ refusal 7 ∷ short element.range 11 ∷ refusal 9
     ∷ short element.kind 15 ∷ refusal 10 ∷ short element.ssi 17 ∷ short element.kind 41 ∷ refusal 10 ∷ short element.ssi 43 ∷ refusal 11
     ∷ short element.oBit 67 ∷ refusal 13 ∷ []
-unfolding bitAt fieldAt both number vecRead vecOrder flag every sum meaningOk meaningIn airOk shareOk shareIn sharesOk profileOk sample sampleMeanings sampleShare kindC extensionC addressC addressesIn allowedIn nobodies placesC rangeOk endsOk addressesC rangeC groupC noGroup oneGroup spanIn spanOf maskC maskedC resultC elements elementOf widths widthOf blank rowOf rowIn table partsC puts eachC optionsC putOptions firstParts bodyC isKnown isCarried headerC messageC wholeOf lengthOk readBits readOf bitsOrder readingOrder groundsOf
+unfolding bitAt fieldAt both number vecRead vecOrder flag every sum meaningOk meaningIn airOk shareOk shareIn sharesOk profileOk sample sampleMeanings sampleShare kindC extensionC addressC addressesIn allowedIn nobodies placesC rangeOk endsOk addressesC rangeC groupC noGroup oneGroup spanIn spanOf areaPlacesC rises areaListC areasC noAreas maskC maskedC resultC whyNotC ifAcceptedC stateC elements elementOf widths widthOf noLists blank rowOf rowIn table partsC puts eachC optionsC putOptions firstParts bodyC isKnown isCarried headerC messageC wholeOf lengthOk readBits readOf bitsOrder readingOrder groundsOf
 order-right = refl

@@ -1,5 +1,6 @@
 pub mod AddressLaws
 pub mod GroupLaws
+pub mod AreaLaws
 pub mod AckLaws
 pub mod ValueLaws
 pub mod MessageLaws

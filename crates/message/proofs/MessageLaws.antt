@@ -15,8 +15,9 @@ use Rattle.profile.specs.declared.Air.{Air}
 use Rattle.message.specs.Elements as element
 use Rattle.message.specs.Numbers.{elementOf, widthOf}
 use Rattle.message.specs.Groups.{noGroup, nobodies}
-use Rattle.message.specs.Values.{blank, sameValue}
-use Rattle.message.specs.Rows.{identifier, cause, ofRequest, table, rowIn, rowOf, Holds, partC, put, get, Tuple, partsC, puts, gets, Options, orElse, putOption, putOptions, getOptions, someOf, noneOf, eachC, optionsC, firstParts, partsOf, optionsOf}
+use Rattle.message.specs.Areas.{noAreas}
+use Rattle.message.specs.Values.{noLists, blank, sameValue}
+use Rattle.message.specs.Rows.{identifier, cause, users, masked, ofRequest, ofRestriction, table, rowIn, rowOf, Holds, partC, put, get, Tuple, partsC, puts, gets, Options, orElse, putOption, putOptions, getOptions, someOf, noneOf, eachC, optionsC, firstParts, partsOf, optionsOf}
 use Rattle.message.specs.Messages.{fill, taken, holdsJust, messageOf, bodyC, isKnown, isCarried, headerC, messageC}
 use Rattle.message.specs.declared.Address.{Address}
 use Rattle.message.specs.declared.Group.{Group}
@@ -26,7 +27,8 @@ use Rattle.message.specs.declared.Row.{Row}
 use Rattle.message.specs.declared.Value.{Value}
 use Rattle.message.proofs.AddressLaws.{good-address}
 use Rattle.message.proofs.GroupLaws.{good-group}
-use Rattle.message.proofs.AckLaws.{good-masked, good-result}
+use Rattle.message.proofs.AreaLaws.{good-areas}
+use Rattle.message.proofs.AckLaws.{good-masked, good-result, good-state}
 use Rattle.message.proofs.ValueLaws.{value-self, value-one}
 use Rattle.message.proofs.RowLaws.{given-back, none-none, none-only}
 
@@ -38,12 +40,16 @@ good-nothing = good-pure tt (λ _. true) refl (λ b e. refl)
 pub good-part : (air : Air) (v : Value) (p : Part) → Good (partC air v p)
 good-part air v part.Nothing = good-nothing
 good-part air v (part.Number k) = good-number (elementOf k) (widthOf k)
-good-part air v part.Users = good-group air false
-good-part air v (part.User i) = good-address
+good-part air v part.Users = good-group air false false
+good-part air v (part.User i) = good-address false
 good-part air v part.Masked = good-masked _
 good-part air v part.Result = good-result
-good-part air v part.Dispatchers = good-group air true
-good-part air v part.Dispatcher = good-address
+good-part air v part.Dispatchers = good-group air true false
+good-part air v part.Dispatcher = good-address false
+good-part air v part.Interrogation = good-state
+good-part air v part.Sources = good-group air true false
+good-part air v part.Destinations = good-group air true true
+good-part air v part.Areas = good-areas air
 
 pub good-parts : (air : Air) (v : Value) (ps : List Part) → Good (partsC air v ps)
 unfolding partsC
@@ -85,7 +91,7 @@ pair-eq {A} {B} {a} {c} {b} {d} e h = ap (λ (x : A). (x, b)) e ∙ ap (λ (y : 
 
 -- REQUEST is, with its seven options
 request-back : (t : ℕ) → Back t (identifier ∷ cause ∷ []) ofRequest
-unfolding gets puts getOptions putOptions blank noGroup nobodies
+unfolding gets puts getOptions putOptions blank noLists noGroup noAreas nobodies
 request-back t x y =
     pair-eq refl
     (pair-eq (given-back (y .0) _)
@@ -94,19 +100,28 @@ request-back t x y =
     (pair-eq (given-back (y .1 .1 .1 .0) _)
     (pair-eq (given-back (y .1 .1 .1 .1 .0) _) (pair-eq (given-back (y .1 .1 .1 .1 .1 .0) _) (pair-eq (given-back (y .1 .1 .1 .1 .1 .1 .0) _) refl)))))))
 
+-- INTERROGATE ACK is, with its four
+interrogate-ack-back : (t : ℕ) → Back t (users ∷ masked ∷ part.Interrogation ∷ []) ofRestriction
+unfolding gets puts getOptions putOptions blank noLists noGroup noAreas nobodies
+interrogate-ack-back t x y =
+    pair-eq refl
+    (pair-eq (given-back (y .0) _)
+    (pair-eq (given-back (y .1 .0) _) (pair-eq (given-back (y .1 .1 .0) _) (pair-eq (given-back (y .1 .1 .1 .0) _) refl))))
+
 -- every row of the table is one: each in its turn
 arm : (b : Bool) (t : ℕ) (r s : Row) → Back t (partsOf r) (optionsOf r) → Back t (partsOf s) (optionsOf s) → Back t (partsOf (cond b r s)) (optionsOf (cond b r s))
 arm true t r s h k = h
 arm false t r s h k = k
 
 back-of : (t : ℕ) → Back t (partsOf (rowOf t)) (optionsOf (rowOf t))
-unfolding rowOf rowIn table firstParts gets puts getOptions putOptions blank noGroup nobodies
+unfolding rowOf rowIn table firstParts gets puts getOptions putOptions blank noLists noGroup noAreas nobodies
 back-of t =
     arm (eqb t 2) t _ _ (λ x y. ap (λ (o : Optional Group). (x, (o, tt))) (given-back (y .0) _))
     (arm (eqb t 3) t _ _ (λ x y. refl)
     (arm (eqb t 4) t _ _ (λ x y. refl)
     (arm (eqb t 5) t _ _ (λ x y. refl)
     (arm (eqb t 8) t _ _ (λ x y. refl)
+    (arm (eqb t 9) t _ _ (interrogate-ack-back t)
     (arm (eqb t 10) t _ _ (λ x y. ap (λ (o : Optional Address). (x, (o, tt))) (given-back (y .0) _))
     (arm (eqb t 11) t _ _ (request-back t)
     (arm (eqb t 12) t _ _ (λ x y. refl)
@@ -116,7 +131,7 @@ back-of t =
     (arm (eqb t 16) t _ _ (λ x y. ap (λ (o : Optional Address). (x, (o, tt))) (given-back (y .0) _))
     (arm (eqb t 17) t _ _ (λ x y. refl)
     (arm (eqb t 18) t _ _ (λ x y. ap (λ (o : Optional Address). (x, (o, tt))) (given-back (y .0) _))
-    (λ x y. refl))))))))))))))
+    (λ x y. refl)))))))))))))))
 
 good-body : (air : Air) (t : ℕ) → Good (bodyC air t)
 unfolding bodyC
@@ -133,6 +148,10 @@ put-pdu part.Masked x v = refl
 put-pdu part.Result x v = refl
 put-pdu part.Dispatchers x v = refl
 put-pdu part.Dispatcher x v = refl
+put-pdu part.Interrogation x v = refl
+put-pdu part.Sources x v = refl
+put-pdu part.Destinations x v = refl
+put-pdu part.Areas x v = refl
 
 puts-pdu : (ps : List Part) (x : Tuple ps) (v : Value) → puts ps x v .pdu ≡ v .pdu
 unfolding puts

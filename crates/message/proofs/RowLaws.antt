@@ -61,6 +61,10 @@ width-few k = at-most 32 widths refl k
 number-back : (k : ℕ) (v : Value) → withNumber k (numberAt k v) v ≡ v
 number-back k v = rw (set-getD (v .numbers) k 0)
 
+-- and so after another that changed nothing
+number-back-on : (k : ℕ) (v w : Value) → w ≡ v → withNumber k (numberAt k v) w ≡ v
+number-back-on k v w e = ap (λ (u : Value). withNumber k (numberAt k v) u) e ∙ number-back k v
+
 group-back : (i : ℕ) (g : Group) → _≡_ {A = Group} (record { range = g .range; addresses = set (g .addresses) i (getD (g .addresses) i nobody) }) g
 group-back i g = rw (set-getD (g .addresses) i nobody)
 
@@ -70,9 +74,17 @@ put-get (part.Number k) v = number-back k v
 put-get part.Users v = refl
 put-get (part.User i) v = rw (group-back i (v .users))
 put-get part.Masked v = refl
-put-get part.Result v = ap (λ (w : Value). withNumber place.reason (numberAt place.reason v) w) (number-back place.result v) ∙ number-back place.reason v
+put-get part.Result v = number-back-on place.reason v _ (number-back place.result v)
 put-get part.Dispatchers v = refl
 put-get part.Dispatcher v = rw (group-back 0 (v .dispatchers))
+put-get part.Interrogation v =
+    number-back-on place.callingService v _
+    (number-back-on place.calledService v _
+    (number-back-on place.interceptionType v _
+    (number-back-on place.activationType v _ (number-back-on place.reason v _ (number-back place.result v)))))
+put-get part.Sources v = refl
+put-get part.Destinations v = refl
+put-get part.Areas v = refl
 
 -- an option that is absent changes nothing
 pub option-absent : (i : ℕ) (q : Part) (v : Value) → putOption i q absent v ≡ v

@@ -1,15 +1,17 @@
 -- The test that two values are one, both ways. Assumes nothing.
 use Prim.Native.Nat.{ℕ}
-use mathlib.Core.Path.{_≡_, refl, sym}
+use mathlib.Core.Path.{_≡_, refl, _∙_, ap}
 use mathlib.Core.Bool.{Bool, true, false}
 use mathlib.Core.List.{List, [], _∷_}
 use lib.Dec.{eqb}
 use borrow.Author.Tests.{eqb-true, eq-eqb}
 use Rattle.codec.specs.Codec.{both}
 use Rattle.codec.proofs.Good.{both-true, both-left, both-right, not-both}
-use Rattle.message.specs.Values.{sameBool, sameBools, sameNumbers, sameAddress, sameAddresses, sameGroup, sameValue}
+use Rattle.message.specs.Values.{sameBool, sameBools, sameNumbers, sameAddress, sameAddresses, sameGroup, sameAreas, sameLists, sameValue, withLists}
 use Rattle.message.specs.declared.Address.{Address}
 use Rattle.message.specs.declared.Group.{Group}
+use Rattle.message.specs.declared.Areas.{Areas}
+use Rattle.message.specs.declared.Lists.{Lists}
 use Rattle.message.specs.declared.Value.{Value}
 
 -- ---- one value is the same as itself
@@ -44,13 +46,23 @@ unfolding sameBools
 bools-self [] = refl
 bools-self (b ∷ l) = both-true _ _ (bool-self b) (bools-self l)
 
+areas-self : (a : Areas) → sameAreas a a ≡ true
+unfolding sameAreas
+areas-self a = both-true _ _ (self (a .range)) (numbers-self (a .areas))
+
+lists-self : (x : Lists) → sameLists x x ≡ true
+unfolding sameLists
+lists-self x = both-true _ _ (group-self (x .sources)) (both-true _ _ (group-self (x .destinations)) (areas-self (x .areas)))
+
 pub value-self : (v : Value) → sameValue v v ≡ true
 unfolding sameValue
 value-self v =
     both-true _ _ (self (v .pdu))
     (both-true _ _ (numbers-self (v .numbers))
     (both-true _ _ (group-self (v .users))
-    (both-true _ _ (bool-self (v .masked)) (both-true _ _ (self (v .mask)) (both-true _ _ (bools-self (v .given)) (group-self (v .dispatchers)))))))
+    (both-true _ _ (bool-self (v .masked))
+    (both-true _ _ (self (v .mask))
+    (both-true _ _ (bools-self (v .given)) (both-true _ _ (group-self (v .dispatchers)) (lists-self (v .lists))))))))
 
 -- ---- what passes the test is one
 
@@ -99,19 +111,43 @@ bools-one [] (y ∷ m) e = not-both e
 bools-one (x ∷ l) [] e = not-both e
 bools-one (x ∷ l) (y ∷ m) e = rw (bool-one x y (both-left _ _ e), bools-one l m (both-right (sameBool x y) _ e))
 
-value-eq : (v w : Value) → v .pdu ≡ w .pdu → v .numbers ≡ w .numbers → v .users ≡ w .users → v .masked ≡ w .masked → v .mask ≡ w .mask → v .given ≡ w .given → v .dispatchers ≡ w .dispatchers
-    → _≡_ {A = Value}
-    (record { pdu = v .pdu; numbers = v .numbers; users = v .users; masked = v .masked; mask = v .mask; given = v .given; dispatchers = v .dispatchers })
-    (record { pdu = w .pdu; numbers = w .numbers; users = w .users; masked = w .masked; mask = w .mask; given = w .given; dispatchers = w .dispatchers })
-value-eq v w e₀ e₁ e₂ e₃ e₄ e₅ e₆ = rw (e₀, e₁, e₂, e₃, e₄, e₅, e₆)
+areas-one : (a b : Areas) → sameAreas a b ≡ true → a ≡ b
+unfolding sameAreas
+areas-one a b e = eq a b (eqb-true _ _ (both-left _ _ e)) (numbers-one _ _ (both-right (eqb (a .range) (b .range)) _ e))
+  where
+    eq : (a b : Areas) → a .range ≡ b .range → a .areas ≡ b .areas
+        → _≡_ {A = Areas} (record { range = a .range; areas = a .areas }) (record { range = b .range; areas = b .areas })
+    eq a b e d = rw (e, d)
 
-pub value-one : (v w : Value) → sameValue v w ≡ true → v ≡ w
-unfolding sameValue
-value-one v w e =
-    let r₁ = both-right (eqb (v .pdu) (w .pdu)) _ e in
-    let r₂ = both-right (sameNumbers (v .numbers) (w .numbers)) _ r₁ in
-    let r₃ = both-right (sameGroup (v .users) (w .users)) _ r₂ in
-    let r₄ = both-right (sameBool (v .masked) (w .masked)) _ r₃ in
-    let r₅ = both-right (eqb (v .mask) (w .mask)) _ r₄ in
-    value-eq v w (eqb-true _ _ (both-left _ _ e)) (numbers-one _ _ (both-left _ _ r₁)) (group-one _ _ (both-left _ _ r₂)) (bool-one _ _ (both-left _ _ r₃))
-    (eqb-true _ _ (both-left _ _ r₄)) (bools-one _ _ (both-left _ _ r₅)) (group-one _ _ (both-right (sameBools (v .given) (w .given)) _ r₅))
+lists-one : (x y : Lists) → sameLists x y ≡ true → x ≡ y
+unfolding sameLists
+lists-one x y e =
+    let r = both-right (sameGroup (x .sources) (y .sources)) _ e in
+    eq x y (group-one _ _ (both-left _ _ e)) (group-one _ _ (both-left _ _ r)) (areas-one _ _ (both-right (sameGroup (x .destinations) (y .destinations)) _ r))
+  where
+    eq : (x y : Lists) → x .sources ≡ y .sources → x .destinations ≡ y .destinations → x .areas ≡ y .areas
+        → _≡_ {A = Lists}
+        (record { sources = x .sources; destinations = x .destinations; areas = x .areas })
+        (record { sources = y .sources; destinations = y .destinations; areas = y .areas })
+    eq x y e d c = rw (e, d, c)
+
+module _ (v w : Value) where
+  -- w's fields, with v's lists
+  value-eq : (x : Lists) → v .pdu ≡ w .pdu → v .numbers ≡ w .numbers → v .users ≡ w .users → v .masked ≡ w .masked → v .mask ≡ w .mask → v .given ≡ w .given → v .dispatchers ≡ w .dispatchers
+      → _≡_ {A = Value}
+      (record { pdu = v .pdu; numbers = v .numbers; users = v .users; masked = v .masked; mask = v .mask; given = v .given; dispatchers = v .dispatchers; lists = x })
+      (record { pdu = w .pdu; numbers = w .numbers; users = w .users; masked = w .masked; mask = w .mask; given = w .given; dispatchers = w .dispatchers; lists = x })
+  value-eq x e₀ e₁ e₂ e₃ e₄ e₅ e₆ = rw (e₀, e₁, e₂, e₃, e₄, e₅, e₆)
+
+  pub value-one : sameValue v w ≡ true → v ≡ w
+  unfolding sameValue
+  value-one e =
+      let r₁ = both-right (eqb (v .pdu) (w .pdu)) _ e in
+      let r₂ = both-right (sameNumbers (v .numbers) (w .numbers)) _ r₁ in
+      let r₃ = both-right (sameGroup (v .users) (w .users)) _ r₂ in
+      let r₄ = both-right (sameBool (v .masked) (w .masked)) _ r₃ in
+      let r₅ = both-right (eqb (v .mask) (w .mask)) _ r₄ in
+      let r₆ = both-right (sameBools (v .given) (w .given)) _ r₅ in
+      value-eq (v .lists) (eqb-true _ _ (both-left _ _ e)) (numbers-one _ _ (both-left _ _ r₁)) (group-one _ _ (both-left _ _ r₂)) (bool-one _ _ (both-left _ _ r₃))
+      (eqb-true _ _ (both-left _ _ r₄)) (bools-one _ _ (both-left _ _ r₅)) (group-one _ _ (both-left _ _ r₆))
+      ∙ ap (λ (x : Lists). withLists x w) (lists-one _ _ (both-right (sameGroup (v .dispatchers) (w .dispatchers)) _ r₆))

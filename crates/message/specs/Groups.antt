@@ -43,16 +43,21 @@ allowedIn none m = allowedBy (m .kind) (m .count) none
 unfoldable pub nobodies : List Address
 nobodies = replicate 15 nobody
 
--- k addresses, all zero
-unfoldable pub areNobody : ℕ → List Address → Bool
-areNobody zero [] = true
-areNobody zero (a ∷ l) = false
-areNobody (suc k) [] = false
-areNobody (suc k) (a ∷ l) = both (isNobody a) (areNobody k l)
+-- k of them, each of them none
+unfoldable pub areNone : {A : Type 0} → (A → Bool) → ℕ → List A → Bool
+areNone isNone zero [] = true
+areNone isNone zero (a ∷ l) = false
+areNone isNone (suc k) [] = false
+areNone isNone (suc k) (a ∷ l) = both (isNone a) (areNone isNone k l)
 
--- k addresses in the first k places; the places beyond are zero
-unfoldable pub placesC : ℕ → Codec (List Address)
-placesC k = map (λ xs. sets nobodies 0 xs) (λ l. take k l) (λ l. areNobody (15 - k) (drop k l)) (vec k addressC)
+-- k of them in the first k of fifteen places; the places beyond are none
+abbrev pub fifteenC : {A : Type 0} → A → (A → Bool) → Codec A → ℕ → Codec (List A)
+fifteenC none isNone C k =
+    map (λ xs. sets (replicate 15 none) 0 xs) (λ l. take k l) (λ l. areNone isNone (15 - k) (drop k l)) (vec k C)
+
+-- k addresses
+unfoldable pub placesC : Bool → ℕ → Codec (List Address)
+placesC external k = fifteenC nobody isNobody (addressC external) k
 
 -- one kind, one extension, first ≤ last, at most 64 identities
 unfoldable pub rangeOk : Address → Address → Bool
@@ -70,8 +75,8 @@ unfoldable pub endsOk : Meaning → List Address → Bool
 endsOk m l = endsBy (m .kind) l
 
 -- 11 after the second address
-unfoldable pub addressesC : Meaning → Codec (List Address)
-addressesC m = guard 11 (λ l. endsOk m l) (placesC (addressesIn m))
+unfoldable pub addressesC : Bool → Meaning → Codec (List Address)
+addressesC external m = guard 11 (λ l. endsOk m l) (placesC external (addressesIn m))
 
 -- ---- the group
 
@@ -79,13 +84,14 @@ addressesC m = guard 11 (λ l. endsOk m l) (placesC (addressesIn m))
 unfoldable pub rangeC : Air → Bool → Codec ℕ
 rangeC air none = guard 9 (λ r. allowedIn none (meaningIn (air .meanings) r)) (number element.range 4)
 
-unfoldable pub groupC : Air → Bool → Codec Group
-groupC air none =
+-- `none` says whether it may be "none", `external` whether it has destinations
+unfoldable pub groupC : Air → Bool → Bool → Codec Group
+groupC air none external =
     map
     (λ (x : ℕ × List Address). record { range = x .0; addresses = x .1 })
     (λ (g : Group). (g .range, g .addresses))
     (λ _. true)
-    (seq (rangeC air none) (λ r. addressesC (meaningIn (air .meanings) r)))
+    (seq (rangeC air none) (λ r. addressesC external (meaningIn (air .meanings) r)))
 
 -- no group, and one address alone, as groups with range number 0
 unfoldable pub noGroup : Group

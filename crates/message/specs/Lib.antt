@@ -2,6 +2,7 @@ pub mod Elements
 pub mod Numbers
 pub mod Addresses
 pub mod Groups
+pub mod Areas
 pub mod Acks
 pub mod Values
 pub mod Rows

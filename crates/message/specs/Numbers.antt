@@ -33,6 +33,13 @@ callingService = 7
 abbrev pub calledService : ℕ
 calledService = 8
 
+-- INTERROGATE ACK's, beside the basic services of both
+abbrev pub activationType : ℕ
+activationType = 9
+
+abbrev pub interceptionType : ℕ
+interceptionType = 10
+
 -- which element the number at each place is
 unfoldable pub elements : List ℕ
 elements =

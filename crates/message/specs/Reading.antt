@@ -1,6 +1,6 @@
 -- Reading a message: document 01's order, 1, then 3, then along the bits, then 13.
 use Prim.Native.Nat.{ℕ, _*_}
-use mathlib.Core.Bool.{Bool, cond, not}
+use mathlib.Core.Bool.{Bool, cond, not, _||_}
 use mathlib.Core.List.{List, [], _∷_, _++_}
 use lib.Dec.{eqb, leb}
 use lib.ListN.{length}
@@ -20,9 +20,9 @@ whole C f n = bind (C .read f n 0) (λ a p. cond (eqb p n) (got a p) (no (refusa
 unfoldable pub wholeOf : Air → (ℕ → ℕ) → ℕ → Read Value
 wholeOf air f n = whole (messageC air) f n
 
--- 3 where this fails: some bits, at most 2,048, and no more than the bytes lent have
+-- 3 where this fails: some bits, at most 4,096, and no more than the bytes lent have
 unfoldable pub lengthOk : List ℕ → ℕ → Bool
-lengthOk l n = both (leb 1 n) (both (leb n 2048) (leb n (8 * length l)))
+lengthOk l n = both (leb 1 n) (both (leb n 4096) (leb n (8 * length l)))
 
 unfoldable pub readBits : Air → List ℕ → ℕ → Read Value
 readBits air l n = cond (lengthOk l n) (wholeOf air (bitAt l) n) (no (refusal 3))
@@ -41,6 +41,6 @@ bitsOrder air f n = messageC air .order f n 0 ++ afterwards (messageC air .read 
 unfoldable pub readingOrder : Profile → List ℕ → ℕ → List Ground
 readingOrder p l n = (refusal 1, not (profileOk p)) ∷ ((refusal 3, not (lengthOk l n)) ∷ groundsOf n (bitsOrder (p .air) (bitAt l) n))
 
--- the numbers that reading gives once 1 does not come: 3 to 13 without 8
+-- the numbers that reading gives once 1 does not come: 3 to 13 without 8, and 27
 unfoldable pub isReading : ℕ → Bool
-isReading c = both (both (leb 3 c) (leb c 13)) (not (eqb c 8))
+isReading c = both (both (leb 3 c) (leb c 13)) (not (eqb c 8)) || eqb c 27

@@ -13,10 +13,13 @@ use Rattle.message.specs.Numbers as place
 use Rattle.message.specs.Numbers.{elementOf, widthOf}
 use Rattle.message.specs.Addresses.{addressC}
 use Rattle.message.specs.Groups.{groupC, spanOf, addressAt, withAddress}
-use Rattle.message.specs.Acks.{maskedC, resultC}
-use Rattle.message.specs.Values.{numberAt, givenAt, withNumber, withUsers, withMask, withDispatchers, withGiven}
+use Rattle.message.specs.Areas.{areasC}
+use Rattle.message.specs.Acks.{maskedC, resultC, stateC}
+use Rattle.message.specs.Values.{numberAt, givenAt, withNumber, withUsers, withMask, withDispatchers, withSources, withDestinations, withAreas, withGiven}
 use Rattle.message.specs.declared.Address.{Address}
 use Rattle.message.specs.declared.Group.{Group}
+use Rattle.message.specs.declared.Areas.{Areas}
+use Rattle.message.specs.declared.State.{State}
 use Rattle.message.specs.declared.Value.{Value}
 use Rattle.message.specs.declared.Part.{Part}
 use Rattle.message.specs.declared.Part.the-variants as part
@@ -72,6 +75,10 @@ ofRequest =
 abbrev pub ackRow : Row
 ackRow = row (users ∷ masked ∷ result ∷ []) []
 
+-- what a restriction of a user covers: for which dispatchers, sources, destinations, areas
+abbrev pub ofRestriction : List Part
+ofRestriction = dispatchers ∷ part.Sources ∷ part.Destinations ∷ part.Areas ∷ []
+
 -- document 01's table and those of document 02, by PDU type
 unfoldable pub table : List (ℕ × Row)
 table =
@@ -85,6 +92,8 @@ table =
     ∷ (5, ackRow)
     -- INTERROGATE
     ∷ (8, row (user ∷ []) [])
+    -- INTERROGATE ACK
+    ∷ (9, row (users ∷ masked ∷ part.Interrogation ∷ []) ofRestriction)
     -- INTERCEPTED
     ∷ (10, row (cause ∷ []) (dispatcher ∷ []))
     -- REQUEST
@@ -125,17 +134,25 @@ Holds part.Masked = Bool × ℕ
 Holds part.Result = ℕ × ℕ
 Holds part.Dispatchers = Group
 Holds part.Dispatcher = Address
+Holds part.Interrogation = State
+Holds part.Sources = Group
+Holds part.Destinations = Group
+Holds part.Areas = Areas
 
 -- its format; v is the value so far, whose users say how long the mask is
 abbrev pub partC : Air → Value → (p : Part) → Codec (Holds p)
 partC air v part.Nothing = pure tt (λ _. true)
 partC air v (part.Number k) = number (elementOf k) (widthOf k)
-partC air v part.Users = groupC air false
-partC air v (part.User i) = addressC
+partC air v part.Users = groupC air false false
+partC air v (part.User i) = addressC false
 partC air v part.Masked = maskedC (min (spanOf air (v .users)) 64)
 partC air v part.Result = resultC
-partC air v part.Dispatchers = groupC air true
-partC air v part.Dispatcher = addressC
+partC air v part.Dispatchers = groupC air true false
+partC air v part.Dispatcher = addressC false
+partC air v part.Interrogation = stateC
+partC air v part.Sources = groupC air true false
+partC air v part.Destinations = groupC air true true
+partC air v part.Areas = areasC air
 
 -- put into a value, and taken out of one
 abbrev pub put : (p : Part) → Holds p → Value → Value
@@ -147,6 +164,12 @@ put part.Masked x v = withMask (x .0) (x .1) v
 put part.Result x v = withNumber place.reason (x .1) (withNumber place.result (x .0) v)
 put part.Dispatchers x v = withDispatchers x v
 put part.Dispatcher x v = withDispatchers (withAddress 0 x (v .dispatchers)) v
+put part.Interrogation x v =
+    withNumber place.callingService (x .calling) (withNumber place.calledService (x .called) (withNumber place.interceptionType (x .interception)
+    (withNumber place.activationType (x .activation) (withNumber place.reason (x .reason) (withNumber place.result (x .result) v)))))
+put part.Sources x v = withSources x v
+put part.Destinations x v = withDestinations x v
+put part.Areas x v = withAreas x v
 
 abbrev pub get : (p : Part) → Value → Holds p
 get part.Nothing v = tt
@@ -157,6 +180,18 @@ get part.Masked v = (v .masked, v .mask)
 get part.Result v = (numberAt place.result v, numberAt place.reason v)
 get part.Dispatchers v = v .dispatchers
 get part.Dispatcher v = addressAt 0 (v .dispatchers)
+get part.Interrogation v =
+    record {
+      result = numberAt place.result v;
+      reason = numberAt place.reason v;
+      activation = numberAt place.activationType v;
+      interception = numberAt place.interceptionType v;
+      called = numberAt place.calledService v;
+      calling = numberAt place.callingService v;
+    }
+get part.Sources v = v .lists .sources
+get part.Destinations v = v .lists .destinations
+get part.Areas v = v .lists .areas
 
 -- what a part holds in v, put into w
 unfoldable pub copyOf : Part → Value → Value → Value

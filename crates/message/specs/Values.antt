@@ -7,13 +7,19 @@ use lib.ListN.{getD, set, replicate}
 use Rattle.codec.specs.Codec.{both}
 use Rattle.message.specs.Numbers as place
 use Rattle.message.specs.Groups.{noGroup}
+use Rattle.message.specs.Areas.{noAreas}
 use Rattle.message.specs.declared.Address.{Address}
 use Rattle.message.specs.declared.Group.{Group}
+use Rattle.message.specs.declared.Areas.{Areas}
+use Rattle.message.specs.declared.Lists.{Lists}
 use Rattle.message.specs.declared.Value.{Value}
+
+unfoldable pub noLists : Lists
+noLists = record { sources = noGroup; destinations = noGroup; areas = noAreas }
 
 unfoldable pub blank : ℕ → Value
 blank t =
-    record { pdu = t; numbers = replicate 12 0; users = noGroup; masked = false; mask = 0; given = replicate 7 false; dispatchers = noGroup }
+    record { pdu = t; numbers = replicate 12 0; users = noGroup; masked = false; mask = 0; given = replicate 7 false; dispatchers = noGroup; lists = noLists }
 
 -- what stands beside a refusal
 abbrev pub noValue : Value
@@ -37,29 +43,42 @@ givenAt i v = getD (v .given) i false
 
 abbrev pub withNumbers : List ℕ → Value → Value
 withNumbers l v =
-    record { pdu = v .pdu; numbers = l; users = v .users; masked = v .masked; mask = v .mask; given = v .given; dispatchers = v .dispatchers }
+    record { pdu = v .pdu; numbers = l; users = v .users; masked = v .masked; mask = v .mask; given = v .given; dispatchers = v .dispatchers; lists = v .lists }
 
 abbrev pub withNumber : ℕ → ℕ → Value → Value
 withNumber k n v = withNumbers (set (v .numbers) k n) v
 
 abbrev pub withUsers : Group → Value → Value
 withUsers g v =
-    record { pdu = v .pdu; numbers = v .numbers; users = g; masked = v .masked; mask = v .mask; given = v .given; dispatchers = v .dispatchers }
+    record { pdu = v .pdu; numbers = v .numbers; users = g; masked = v .masked; mask = v .mask; given = v .given; dispatchers = v .dispatchers; lists = v .lists }
 
 abbrev pub withMask : Bool → ℕ → Value → Value
 withMask b m v =
-    record { pdu = v .pdu; numbers = v .numbers; users = v .users; masked = b; mask = m; given = v .given; dispatchers = v .dispatchers }
+    record { pdu = v .pdu; numbers = v .numbers; users = v .users; masked = b; mask = m; given = v .given; dispatchers = v .dispatchers; lists = v .lists }
 
 abbrev pub withDispatchers : Group → Value → Value
 withDispatchers g v =
-    record { pdu = v .pdu; numbers = v .numbers; users = v .users; masked = v .masked; mask = v .mask; given = v .given; dispatchers = g }
+    record { pdu = v .pdu; numbers = v .numbers; users = v .users; masked = v .masked; mask = v .mask; given = v .given; dispatchers = g; lists = v .lists }
 
 abbrev pub withGivens : List Bool → Value → Value
 withGivens l v =
-    record { pdu = v .pdu; numbers = v .numbers; users = v .users; masked = v .masked; mask = v .mask; given = l; dispatchers = v .dispatchers }
+    record { pdu = v .pdu; numbers = v .numbers; users = v .users; masked = v .masked; mask = v .mask; given = l; dispatchers = v .dispatchers; lists = v .lists }
 
 abbrev pub withGiven : ℕ → Bool → Value → Value
 withGiven i b v = withGivens (set (v .given) i b) v
+
+abbrev pub withLists : Lists → Value → Value
+withLists x v =
+    record { pdu = v .pdu; numbers = v .numbers; users = v .users; masked = v .masked; mask = v .mask; given = v .given; dispatchers = v .dispatchers; lists = x }
+
+abbrev pub withSources : Group → Value → Value
+withSources g v = withLists (record { sources = g; destinations = v .lists .destinations; areas = v .lists .areas }) v
+
+abbrev pub withDestinations : Group → Value → Value
+withDestinations g v = withLists (record { sources = v .lists .sources; destinations = g; areas = v .lists .areas }) v
+
+abbrev pub withAreas : Areas → Value → Value
+withAreas a v = withLists (record { sources = v .lists .sources; destinations = v .lists .destinations; areas = a }) v
 
 -- ---- two values are one
 
@@ -91,10 +110,17 @@ sameAddresses (x ∷ xs) (y ∷ ys) = both (sameAddress x y) (sameAddresses xs y
 unfoldable pub sameGroup : Group → Group → Bool
 sameGroup g h = both (eqb (g .range) (h .range)) (sameAddresses (g .addresses) (h .addresses))
 
+unfoldable pub sameAreas : Areas → Areas → Bool
+sameAreas a b = both (eqb (a .range) (b .range)) (sameNumbers (a .areas) (b .areas))
+
+unfoldable pub sameLists : Lists → Lists → Bool
+sameLists x y = both (sameGroup (x .sources) (y .sources)) (both (sameGroup (x .destinations) (y .destinations)) (sameAreas (x .areas) (y .areas)))
+
 unfoldable pub sameValue : Value → Value → Bool
 sameValue v w =
     both (eqb (v .pdu) (w .pdu))
     (both (sameNumbers (v .numbers) (w .numbers))
     (both (sameGroup (v .users) (w .users))
     (both (sameBool (v .masked) (w .masked))
-    (both (eqb (v .mask) (w .mask)) (both (sameBools (v .given) (w .given)) (sameGroup (v .dispatchers) (w .dispatchers)))))))
+    (both (eqb (v .mask) (w .mask))
+    (both (sameBools (v .given) (w .given)) (both (sameGroup (v .dispatchers) (w .dispatchers)) (sameLists (v .lists) (w .lists))))))))

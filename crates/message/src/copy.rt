@@ -1,7 +1,7 @@
 // What one part holds in a value, put into another.
 ghost use mathlib.Core.Path.{_≡_};
 ghost use Rattle.message.specs.Rows.{copyOf};
-ghost use Rattle.message.specs.declared.Part.the-variants.{Nothing, Number, Users, User, Masked, Result, Dispatchers, Dispatcher};
+ghost use Rattle.message.specs.declared.Part.the-variants.{Nothing, Number, Users, User, Masked, Result, Dispatchers, Dispatcher, Interrogation, Sources, Destinations, Areas};
 use crate::Value;
 
 pub(crate) fn nothing(from: Value, to: Value) -> Value
@@ -58,4 +58,34 @@ pub(crate) fn dispatcher(from: Value, to: Value) -> Value
 {
     let dispatchers = from.dispatchers;
     crate::with_dispatcher(to, crate::address_at(dispatchers, 0))
+}
+
+pub(crate) fn state(from: Value, to: Value) -> Value
+    ensures { λ r. ⌜ r ≡ copyOf Interrogation from to ⌝ }
+{
+    crate::with_state(to, crate::state_in(from))
+}
+
+pub(crate) fn sources(from: Value, to: Value) -> Value
+    ensures { λ r. ⌜ r ≡ copyOf Sources from to ⌝ }
+{
+    let lists = from.lists;
+    let sources = lists.sources;
+    crate::with_sources(to, sources)
+}
+
+pub(crate) fn destinations(from: Value, to: Value) -> Value
+    ensures { λ r. ⌜ r ≡ copyOf Destinations from to ⌝ }
+{
+    let lists = from.lists;
+    let destinations = lists.destinations;
+    crate::with_destinations(to, destinations)
+}
+
+pub(crate) fn areas(from: Value, to: Value) -> Value
+    ensures { λ r. ⌜ r ≡ copyOf Areas from to ⌝ }
+{
+    let lists = from.lists;
+    let areas = lists.areas;
+    crate::with_areas(to, areas)
 }

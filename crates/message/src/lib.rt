@@ -7,11 +7,12 @@ ghost use mathlib.Core.Path.{_≡_};
 ghost use mathlib.Core.Bool.{true};
 ghost use Prim.Native.Nat.{_+_, _-_};
 ghost use Rattle.message.specs.Groups.{addressesIn, allowedIn, rangeOk, endsOk, noGroup, addressAt, spanIn, spanOf};
+ghost use Rattle.message.specs.Areas.{rises};
 ghost use Rattle.message.specs.Numbers.{elementOf, widthOf};
-ghost use Rattle.message.specs.Values.{blank, numberAt, givenAt, withNumber, withUsers, withMask, withDispatchers, withGiven};
-ghost use Rattle.message.specs.Rows.{row, rowOf, put, copyOf, copyOption};
+ghost use Rattle.message.specs.Values.{noLists, blank, numberAt, givenAt, withNumber, withUsers, withMask, withDispatchers, withSources, withDestinations, withAreas, withGiven};
+ghost use Rattle.message.specs.Rows.{row, rowOf, put, get, copyOf, copyOption};
 ghost use Rattle.message.specs.Messages.{isCarried};
-ghost use Rattle.message.specs.declared.Part.the-variants.{User, Result, Dispatcher};
+ghost use Rattle.message.specs.declared.Part.the-variants.{User, Result, Dispatcher, Interrogation};
 use profile::Air;
 use profile::Kind;
 use profile::Meaning;
@@ -33,6 +34,29 @@ pub struct Group {
     pub addresses: [Address; 15],
 }
 
+// A range number and the areas that its meaning has; the places beyond are zero.
+pub struct Areas {
+    pub range: u8,
+    pub areas: [u8; 15],
+}
+
+// What a restriction covers beside its dispatchers.
+pub struct Lists {
+    pub sources: Group,
+    pub destinations: Group,
+    pub areas: Areas,
+}
+
+// What INTERROGATE ACK says of its users: a result; where it is 0 a reason, and where it is 1 the rest.
+pub struct State {
+    pub result: u32,
+    pub reason: u32,
+    pub activation: u32,
+    pub interception: u32,
+    pub called: u32,
+    pub calling: u32,
+}
+
 // A message. All that it doesn't carry is zero. A number stands at its place (specs/Numbers); `given` says which of the row's options are
 // there. INTERROGATE's address is user address 0, REQUEST's calling and called are user addresses 0 and 1, the dispatcher of INTERCEPTED,
 // DIVERTED and REJECTED is dispatcher address 0, all with range number 0. Identity i, from 0, is bit 63 − i of the mask.
@@ -44,10 +68,11 @@ pub struct Value {
     pub mask: u64,
     pub given: [bool; 7],
     pub dispatchers: Group,
+    pub lists: Lists,
 }
 
-// What a message has next: a number at its place, a group or the address at one of its places, a mask, a result with its reason. (An
-// array holds the first variant past its end.)
+// What a message has next: a number at its place, a group or the address at one of its places, a mask, a result with its reason, a state,
+// areas. (An array holds the first variant past its end.)
 pub enum Part {
     Nothing,
     Number(u8),
@@ -57,6 +82,10 @@ pub enum Part {
     Result,
     Dispatchers,
     Dispatcher,
+    Interrogation,
+    Sources,
+    Destinations,
+    Areas,
 }
 
 pub struct Slot {
@@ -82,6 +111,12 @@ pub const NOBODY: Address = Address {
     kind: 0,
     ssi: 0,
     extension: 0,
+};
+
+// No area.
+pub const NO_AREAS: Areas = Areas {
+    range: 0,
+    areas: [0; 15],
 };
 
 // ---- what a range value's meaning asks for
@@ -123,6 +158,19 @@ pub fn ends_ok(m: Meaning, list: [Address; 15]) -> bool
             let last = list[1];
             range_ok(first, last)
         }
+        Kind::Listed => true,
+        Kind::Nobody => true,
+        Kind::Reserved => true,
+    }
+}
+
+// First and last of a range of areas are not refused with 11.
+pub fn areas_rise(m: Meaning, list: [u8; 15]) -> bool
+    ensures { λ r. ⌜ r ≡ rises m list ⌝ }
+{
+    let kind = m.kind;
+    match kind {
+        Kind::FirstLast => list[0] <= list[1],
         Kind::Listed => true,
         Kind::Nobody => true,
         Kind::Reserved => true,
@@ -241,6 +289,10 @@ pub const CALLING_SERVICE_AT: u8 = 7;
 
 pub const CALLED_SERVICE_AT: u8 = 8;
 
+pub const ACTIVATION_TYPE_AT: u8 = 9;
+
+pub const INTERCEPTION_TYPE_AT: u8 = 10;
+
 const ELEMENTS: [u8; 12] = [
     IDENTIFIER,
     CAUSE,
@@ -307,6 +359,10 @@ pub fn row_of(pdu: u8) -> Row
     // INTERROGATE
     if pdu == 8 {
         return rows::one(Part::User(0));
+    }
+    // INTERROGATE ACK
+    if pdu == 9 {
+        return rows::interrogate_ack();
     }
     // INTERCEPTED
     if pdu == 10 {
@@ -381,6 +437,21 @@ pub fn given_at(value: Value, option: usize) -> bool
     store::given_in(given, option)
 }
 
+// What INTERROGATE ACK says.
+pub fn state_in(value: Value) -> State
+    ensures { λ r. ⌜ r ≡ get Interrogation value ⌝ }
+{
+    let numbers = value.numbers;
+    State {
+        result: numbers[RESULT_AT as usize],
+        reason: numbers[REASON_AT as usize],
+        activation: numbers[ACTIVATION_TYPE_AT as usize],
+        interception: numbers[INTERCEPTION_TYPE_AT as usize],
+        called: numbers[CALLED_SERVICE_AT as usize],
+        calling: numbers[CALLING_SERVICE_AT as usize],
+    }
+}
+
 // ---- groups and values
 
 pub fn no_group() -> Group
@@ -392,12 +463,25 @@ pub fn no_group() -> Group
     }
 }
 
+fn no_lists() -> Lists
+    ensures { λ r. ⌜ r ≡ noLists ⌝ }
+{
+    let sources = no_group();
+    let destinations = no_group();
+    Lists {
+        sources: sources,
+        destinations: destinations,
+        areas: NO_AREAS,
+    }
+}
+
 // A message of this type with nothing in it.
 pub fn blank(pdu: u8) -> Value
     ensures { λ r. ⌜ r ≡ blank pdu ⌝ }
 {
     let users = no_group();
     let dispatchers = no_group();
+    let lists = no_lists();
     Value {
         pdu: pdu,
         numbers: [0; 12],
@@ -406,6 +490,7 @@ pub fn blank(pdu: u8) -> Value
         mask: 0,
         given: [false; 7],
         dispatchers: dispatchers,
+        lists: lists,
     }
 }
 
@@ -463,6 +548,47 @@ pub fn with_dispatcher(value: Value, dispatcher: Address) -> Value
     with_dispatchers(value, store::with_address(dispatchers, 0, dispatcher))
 }
 
+pub fn with_state(value: Value, state: State) -> Value
+    ensures { λ r. ⌜ r ≡ put Interrogation state value ⌝ }
+{
+    let v = with_number(value, RESULT_AT, state.result);
+    let v = with_number(v, REASON_AT, state.reason);
+    let v = with_number(v, ACTIVATION_TYPE_AT, state.activation);
+    let v = with_number(v, INTERCEPTION_TYPE_AT, state.interception);
+    let v = with_number(v, CALLED_SERVICE_AT, state.called);
+    with_number(v, CALLING_SERVICE_AT, state.calling)
+}
+
+pub fn with_sources(value: Value, sources: Group) -> Value
+    ensures { λ r. ⌜ r ≡ withSources sources value ⌝ }
+{
+    let mut lists = value.lists;
+    lists.sources = sources;
+    let mut v = value;
+    v.lists = lists;
+    v
+}
+
+pub fn with_destinations(value: Value, destinations: Group) -> Value
+    ensures { λ r. ⌜ r ≡ withDestinations destinations value ⌝ }
+{
+    let mut lists = value.lists;
+    lists.destinations = destinations;
+    let mut v = value;
+    v.lists = lists;
+    v
+}
+
+pub fn with_areas(value: Value, areas: Areas) -> Value
+    ensures { λ r. ⌜ r ≡ withAreas areas value ⌝ }
+{
+    let mut lists = value.lists;
+    lists.areas = areas;
+    let mut v = value;
+    v.lists = lists;
+    v
+}
+
 // The option of that number in its row is there from now on.
 pub fn with_given(value: Value, option: usize) -> Value
     ensures { λ r. ⌜ r ≡ withGiven option true value ⌝ }
@@ -484,6 +610,10 @@ pub fn copied(part: Part, from: Value, to: Value) -> Value
         Part::Result => copy::result(from, to),
         Part::Dispatchers => copy::dispatchers(from, to),
         Part::Dispatcher => copy::dispatcher(from, to),
+        Part::Interrogation => copy::state(from, to),
+        Part::Sources => copy::sources(from, to),
+        Part::Destinations => copy::destinations(from, to),
+        Part::Areas => copy::areas(from, to),
     }
 }
 

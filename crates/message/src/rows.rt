@@ -1,7 +1,8 @@
 // Rows put together from their parts.
 ghost use mathlib.Core.Path.{_≡_};
 ghost use mathlib.Core.List.{[], _∷_};
-ghost use Rattle.message.specs.Rows.{row, noRow, ackRow, identifier, cause, ofRequest};
+ghost use Rattle.message.specs.Rows.{row, noRow, ackRow, identifier, cause, users, masked, ofRequest, ofRestriction};
+ghost use Rattle.message.specs.declared.Part.the-variants.{Interrogation};
 use crate::Part;
 use crate::Row;
 use crate::Slot;
@@ -135,6 +136,42 @@ pub(crate) fn request() -> Row
             called_area,
             calling_service,
             called_service,
+        ],
+    }
+}
+
+// As every ACK with a state for its result, then what the restriction covers.
+pub(crate) fn interrogate_ack() -> Row
+    ensures { λ r. ⌜ r ≡ row (users ∷ masked ∷ Interrogation ∷ []) ofRestriction ⌝ }
+{
+    let users = Slot { part: Part::Users };
+    let masked = Slot { part: Part::Masked };
+    let state = Slot {
+        part: Part::Interrogation,
+    };
+    let dispatchers = Slot {
+        part: Part::Dispatchers,
+    };
+    let sources = Slot {
+        part: Part::Sources,
+    };
+    let destinations = Slot {
+        part: Part::Destinations,
+    };
+    let areas = Slot { part: Part::Areas };
+    Row {
+        carried: true,
+        count: 3,
+        parts: [users, masked, state, NOTHING, NOTHING, NOTHING],
+        options: 4,
+        optional: [
+            dispatchers,
+            sources,
+            destinations,
+            areas,
+            NOTHING,
+            NOTHING,
+            NOTHING,
         ],
     }
 }

@@ -1,14 +1,14 @@
--- Laws of `every` and `sum`, and of `both` as the code's branches take it. Assumes nothing.
-use Prim.Native.Nat.{ℕ, zero, suc, _+_, _<_}
-use mathlib.Core.Path.{_≡_, refl, sym, subst}
-use mathlib.Core.Bool.{Bool, true, false}
+-- Laws of `every`, `sum` and `lowestFrom`, and of `both` as the code's branches take it. Assumes nothing.
+use Prim.Native.Nat.{ℕ, zero, suc, _+_, _-_, _<_}
+use mathlib.Core.Path.{_≡_, refl, sym, _∙_, subst}
+use mathlib.Core.Bool.{Bool, true, false, cond}
 use mathlib.Core.Logic.{⊎-elim}
 use native.Mathlib.Nat.{eq-or-lt-of-le, le-of-suc-le-suc}
 use native.Mathlib.Numerals.{add-one}
 use native.Mathlib.Omega.{arith}
 use Rattle.codec.specs.Codec.{both}
 use Rattle.codec.proofs.Good.{both-true, both-left, both-right, both-none}
-use Rattle.profile.specs.Counting.{every, sum}
+use Rattle.profile.specs.Counting.{every, sum, lowestFrom}
 
 -- ---- every, as a loop going up takes it
 
@@ -52,3 +52,34 @@ sum-more n f = rw add-one
 -- the loop's end
 pub every-end : (n i : ℕ) (test : ℕ → Bool) → every i test ≡ true → i ≡ n → true ≡ every n test
 every-end n i test e d = sym (subst (λ (k : ℕ). every k test ≡ true) d e)
+
+-- ---- the lowest that passes, as a loop going up finds it: what is left at i gives what was asked for
+
+module _ (i w : ℕ) (test : ℕ → Bool) where
+  left-on : (n : ℕ) → 16 - i ≡ suc n → lowestFrom (16 - i) i test ≡ w → cond (test i) i (lowestFrom n (suc i) test) ≡ w
+  unfolding lowestFrom
+  left-on n d e = subst (λ (k : ℕ). lowestFrom k i test ≡ w) d e
+
+  pub lowest-turn : i < 16 → lowestFrom (16 - i) i test ≡ w → test i ≡ false → lowestFrom (16 - (i + 1)) (i + 1) test ≡ w
+  lowest-turn h e f = rw add-one (turned f (left-on (16 - suc i) (omega arith) e))
+    where
+      turned : test i ≡ false → cond (test i) i (lowestFrom (16 - suc i) (suc i) test) ≡ w → lowestFrom (16 - suc i) (suc i) test ≡ w
+      turned z g = (rw z at g)
+
+  pub lowest-here : i < 16 → lowestFrom (16 - i) i test ≡ w → test i ≡ true → i ≡ w
+  lowest-here h e t = (rw t at (left-on (16 - (i + 1)) (omega arith) e))
+
+  pub lowest-end : i ≡ 16 → lowestFrom (16 - i) i test ≡ w → 16 ≡ w
+  unfolding lowestFrom
+  lowest-end d e = let z : 16 - i ≡ 0 = omega arith in sym d ∙ (rw z at e)
+
+-- the number that it gives passes, where it is one of them
+pub lowest-passes : (n i : ℕ) (test : ℕ → Bool) → lowestFrom n i test < i + n → test (lowestFrom n i test) ≡ true
+unfolding lowestFrom
+lowest-passes zero i test h = absurd (omega arith)
+lowest-passes (suc n) i test h = go (test i) refl h (λ k. lowest-passes n (suc i) test k)
+  where
+    go : (b : Bool) → test i ≡ b → cond b i (lowestFrom n (suc i) test) < i + suc n → (lowestFrom n (suc i) test < suc i + n → test (lowestFrom n (suc i) test) ≡ true)
+        → test (cond b i (lowestFrom n (suc i) test)) ≡ true
+    go true e k ih = e
+    go false e k ih = ih (omega arith)

@@ -6,7 +6,7 @@ use lib.Dec.{eqb, leb}
 use lib.ListN.{getD, replicate}
 use Rattle.codec.specs.Codec.{both}
 use Rattle.codec.specs.Stops.{refusal, noStop}
-use Rattle.profile.specs.Counting.{every, sum}
+use Rattle.profile.specs.Counting.{every, sum, lowestFrom}
 use Rattle.profile.specs.declared.Kind.{Kind}
 use Rattle.profile.specs.declared.Kind.the-variants as kind
 use Rattle.profile.specs.declared.Meaning.{Meaning}
@@ -46,13 +46,29 @@ meaningOk m = meaningOkBy (m .kind) (m .count)
 unfoldable pub meaningIn : List Meaning → ℕ → Meaning
 meaningIn meanings r = getD meanings r reserved
 
--- ---- the part on the air: SS type 6 bits, home extension 24, U and N 7 each, sixteen meanings
+abbrev pub isOneBy : Kind → ℕ → Bool
+isOneBy kind.Reserved n = false
+isOneBy kind.Nobody n = false
+isOneBy kind.Listed n = eqb n 1
+isOneBy kind.FirstLast n = false
+
+-- a list of one
+unfoldable pub isOne : Meaning → Bool
+isOne m = isOneBy (m .kind) (m .count)
+
+-- the lowest range value that means it; 16 where none does
+unfoldable pub listOfOne : List Meaning → ℕ
+listOfOne meanings = lowestFrom 16 0 (λ r. isOne (meaningIn meanings r))
+
+-- ---- the part on the air: SS type 6 bits, home extension 24, U and N 7 each, INTERROGATE ACK's two reasons 3 each, sixteen meanings
 
 unfoldable pub airOk : Air → Bool
 airOk air =
     both (leb (air .ss) 63)
     (both (leb (air .home) 0xFF_FFFF)
-    (both (leb (air .unknown) 127) (both (leb (air .other) 127) (every 16 (λ r. meaningOk (meaningIn (air .meanings) r))))))
+    (both (leb (air .unknown) 127)
+    (both (leb (air .other) 127)
+    (both (leb (air .unrecorded) 7) (both (leb (air .elsewhere) 7) (every 16 (λ r. meaningOk (meaningIn (air .meanings) r))))))))
 
 -- ---- the shares: 1 to 8 posts, each with a ceiling 1 to 32 and a reserved number up to it; 32 places hold all that is reserved
 
@@ -81,7 +97,7 @@ profileOk p = both (airOk (p .air)) (sharesOk (p .shares))
 unfoldable pub noProfile : Profile
 noProfile =
     record {
-      air = record { ss = 0; home = 0; meanings = replicate 16 reserved; unknown = 0; other = 0 };
+      air = record { ss = 0; home = 0; meanings = replicate 16 reserved; unknown = 0; other = 0; unrecorded = 0; elsewhere = 0 };
       shares = record { posts = 0; share = replicate 8 noShare };
     }
 

@@ -1,4 +1,4 @@
--- The sample profile: document 01, "Profile", its last paragraph.
+-- The sample profile: document 01, "Profile", its last paragraph; INTERROGATE ACK's reasons are 1 and 2 (document 02, viii).
 use mathlib.Core.List.{List, [], _∷_}
 use Rattle.profile.specs.Rules.{reserved, noShare}
 use Rattle.profile.specs.declared.Kind.the-variants as kind
@@ -25,6 +25,6 @@ sampleShare =
 unfoldable pub sample : Profile
 sample =
     record {
-      air = record { ss = 9; home = 0; meanings = sampleMeanings; unknown = 1; other = 2 };
+      air = record { ss = 9; home = 0; meanings = sampleMeanings; unknown = 1; other = 2; unrecorded = 1; elsewhere = 2 };
       shares = record { posts = 2; share = sampleShare };
     }

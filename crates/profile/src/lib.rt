@@ -7,7 +7,7 @@
 ghost use mathlib.Core.Path.{_≡_};
 ghost use Prim.Native.Nat.{_≤_};
 ghost use Rattle.profile.specs.Counting.{every, sum};
-ghost use Rattle.profile.specs.Rules.{listOk, meaningOk, meaningIn, meaningOf, airOk, shareOk, shareIn, sharesOk, profileOk, noProfile, newOf};
+ghost use Rattle.profile.specs.Rules.{listOk, meaningOk, meaningIn, meaningOf, airOk, isOne, listOfOne, shareOk, shareIn, sharesOk, profileOk, noProfile, newOf};
 ghost use Rattle.profile.specs.Sample.{sample};
 use codec::Stop;
 
@@ -25,13 +25,16 @@ pub struct Meaning {
     pub count: u8,
 }
 
-// `unknown` is U, the failure of an identity with no record; `other` is N, of another post's user.
+// `unknown` is U, the failure of an identity with no record; `other` is N, of another post's user. `unrecorded` and `elsewhere` are
+// what INTERROGATE ACK gives as its reason for the same two.
 pub struct Air {
     pub ss: u8,
     pub home: u32,
     pub meanings: [Meaning; 16],
     pub unknown: u8,
     pub other: u8,
+    pub unrecorded: u8,
+    pub elsewhere: u8,
 }
 
 // A post's share of the places: so many are reserved for it, and it may hold no more than its ceiling.
@@ -139,6 +142,8 @@ pub const SAMPLE: Profile = Profile {
         meanings: SAMPLE_MEANINGS,
         unknown: 1,
         other: 2,
+        unrecorded: 1,
+        elsewhere: 2,
     },
     shares: Shares {
         posts: 2,
@@ -204,6 +209,33 @@ pub fn meaning_of(meanings: [Meaning; 16], range: u8) -> Meaning
     RESERVED
 }
 
+// The lowest range value that means a list of one; 16 where none does.
+pub fn list_of_one(meanings: [Meaning; 16]) -> u8
+    ensures { λ r. ⌜ r ≡ listOfOne meanings ⌝ }
+{
+    let mut r: usize = 0;
+    while r < Air::RANGES {
+        let m = meanings[r];
+        if is_one(m) {
+            return r as u8;
+        }
+        r += 1;
+    }
+    16
+}
+
+fn is_one(m: Meaning) -> bool
+    ensures { λ r. ⌜ r ≡ isOne m ⌝ }
+{
+    let kind = m.kind;
+    match kind {
+        Kind::Listed => m.count == 1,
+        Kind::Reserved => false,
+        Kind::Nobody => false,
+        Kind::FirstLast => false,
+    }
+}
+
 // The meaning by its number: 0 reserved, 16 nobody, 17 first and last, any other a list of that many.
 pub fn meaning_from(n: u8) -> Meaning
     ensures { λ r. ⌜ r ≡ meaningOf n ⌝ }
@@ -239,6 +271,8 @@ fn no_profile() -> Profile
             meanings: [RESERVED; 16],
             unknown: 0,
             other: 0,
+            unrecorded: 0,
+            elsewhere: 0,
         },
         shares: Shares {
             posts: 0,
@@ -260,6 +294,12 @@ fn air_ok(air: Air) -> bool
         return false;
     }
     if air.other > 127 {
+        return false;
+    }
+    if air.unrecorded > 7 {
+        return false;
+    }
+    if air.elsewhere > 7 {
         return false;
     }
     let meanings = air.meanings;

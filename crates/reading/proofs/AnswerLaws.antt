@@ -7,10 +7,13 @@ use Rattle.codec.specs.Codec.{Read, got, no}
 use Rattle.codec.specs.declared.Stop.{Stop}
 use Rattle.message.specs.declared.Address.{Address}
 use Rattle.message.specs.declared.Group.{Group}
+use Rattle.message.specs.declared.Areas.{Areas}
 use Rattle.message.specs.declared.Value.{Value}
-use Rattle.reading.specs.Answers.{placesOf, groupOf, bodyOf, eachOf}
+use Rattle.reading.specs.Answers.{placesOf, groupOf, areaPlacesOf, areasOf, bodyOf, eachOf}
 use Rattle.reading.specs.declared.group.PlacesRead.{PlacesRead}
 use Rattle.reading.specs.declared.group.GroupRead.{GroupRead}
+use Rattle.reading.specs.declared.area.AreaPlaces.{AreaPlaces}
+use Rattle.reading.specs.declared.area.AreasRead.{AreasRead}
 use Rattle.reading.specs.declared.option.Each.{Each}
 use Rattle.reading.specs.declared.part.Body.{Body}
 
@@ -45,6 +48,26 @@ pub group-no : (rd : Read Group) (r : GroupRead) → r ≡ groupOf rd → r .fou
 unfolding groupOf
 group-no =
     answer-no groupOf (λ (r : GroupRead). r .found) (λ (r : GroupRead). r .group) (λ (r : GroupRead). r .next) (λ (r : GroupRead). r .stop) (λ a p. refl) (λ s. refl) (λ a p. refl) (λ s. refl)
+
+pub area-places-got : (rd : Read (List ℕ)) (r : AreaPlaces) → r ≡ areaPlacesOf rd → r .found ≡ true → rd ≡ got (r .list) (r .next)
+unfolding areaPlacesOf
+area-places-got =
+    answer-got areaPlacesOf (λ (r : AreaPlaces). r .found) (λ (r : AreaPlaces). r .list) (λ (r : AreaPlaces). r .next) (λ (r : AreaPlaces). r .stop) (λ a p. refl) (λ s. refl) (λ a p. refl) (λ s. refl)
+
+pub area-places-no : (rd : Read (List ℕ)) (r : AreaPlaces) → r ≡ areaPlacesOf rd → r .found ≡ false → rd ≡ no (r .stop)
+unfolding areaPlacesOf
+area-places-no =
+    answer-no areaPlacesOf (λ (r : AreaPlaces). r .found) (λ (r : AreaPlaces). r .list) (λ (r : AreaPlaces). r .next) (λ (r : AreaPlaces). r .stop) (λ a p. refl) (λ s. refl) (λ a p. refl) (λ s. refl)
+
+pub areas-got : (rd : Read Areas) (r : AreasRead) → r ≡ areasOf rd → r .found ≡ true → rd ≡ got (r .areas) (r .next)
+unfolding areasOf
+areas-got =
+    answer-got areasOf (λ (r : AreasRead). r .found) (λ (r : AreasRead). r .areas) (λ (r : AreasRead). r .next) (λ (r : AreasRead). r .stop) (λ a p. refl) (λ s. refl) (λ a p. refl) (λ s. refl)
+
+pub areas-no : (rd : Read Areas) (r : AreasRead) → r ≡ areasOf rd → r .found ≡ false → rd ≡ no (r .stop)
+unfolding areasOf
+areas-no =
+    answer-no areasOf (λ (r : AreasRead). r .found) (λ (r : AreasRead). r .areas) (λ (r : AreasRead). r .next) (λ (r : AreasRead). r .stop) (λ a p. refl) (λ s. refl) (λ a p. refl) (λ s. refl)
 
 pub each-got : (rd : Read (Bool × Value)) (r : Each) → r ≡ eachOf rd → r .found ≡ true → rd ≡ got (r .some, r .value) (r .next)
 unfolding eachOf

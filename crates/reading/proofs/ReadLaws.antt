@@ -1,17 +1,19 @@
--- What the readers go by: bounds of what was read, the loop over addresses, the mask in its place. Assumes nothing.
+-- What the readers go by: bounds of what was read, a kind, the loops over addresses and areas, the mask in its place. Assumes nothing.
 use Prim.Native.Nat.{ℕ, suc, _+_, _-_, _*_, _%_, _≤_, _<_, _^_}
 use mathlib.Core.Path.{_≡_, refl, sym, ap, _∙_}
-use mathlib.Core.Bool.{Bool, true, false}
+use mathlib.Core.Bool.{Bool, true, false, not, cond}
 use mathlib.Core.List.{List, _∷_}
 use native.Mathlib.Nat.{sub-zero, zero-mul, lt-of-lt-of-le}
 use native.Mathlib.Numerals.{add-one}
 use native.Mathlib.Omega.{arith}
-use lib.ListN.{set}
+use lib.Dec.{eqb}
+use lib.ListN.{set, replicate}
 use lib.Pow.{pow-mono, shl-exact}
 use lib.Seq.{sets}
 use Rattle.bits.specs.Fields.{bitAt}
-use Rattle.codec.specs.Stops.{noStop}
-use Rattle.codec.specs.Codec.{Read, got, no, bind, number, vecRead}
+use borrow.Author.Tests.{eqb-true}
+use Rattle.codec.specs.Stops.{refusal}
+use Rattle.codec.specs.Codec.{Codec, Read, got, no, bind, both, number, vecRead}
 use Rattle.codec.specs.Taking.{tookOf, takeOf}
 use Rattle.codec.specs.declared.Stop.{Stop}
 use Rattle.codec.specs.declared.Took.{Took}
@@ -20,13 +22,11 @@ use Rattle.codec.proofs.RoundTrips.{read-found, number-lt}
 use Rattle.codec.proofs.TakeLaws.{take-number}
 use Rattle.profile.specs.Rules.{meaningIn}
 use Rattle.profile.specs.declared.Air.{Air}
-use Rattle.message.specs.Addresses.{addressC}
-use Rattle.message.specs.Groups.{addressesIn, nobodies, placesC, rangeC, groupC, spanOf}
-use Rattle.message.specs.declared.Address.{Address}
-use Rattle.message.specs.declared.Group.{Group}
-use Rattle.message.proofs.GroupLaws.{good-range, good-group, range-allowed, few-addresses, few-identities}
-use Rattle.reading.specs.Answers.{placesOf}
-use Rattle.reading.specs.declared.group.PlacesRead.{PlacesRead}
+use Rattle.message.specs.Elements as element
+use Rattle.message.specs.Addresses.{isKind, isInternal, kindC}
+use Rattle.message.specs.Groups.{addressesIn, fifteenC, rangeC}
+use Rattle.message.proofs.GroupLaws.{good-range, range-allowed, few-addresses}
+use Rattle.reading.specs.Parts.{noKind}
 
 -- ---- take, with a width that it can have
 
@@ -43,47 +43,59 @@ pub range-few : (air : Air) (none : Bool) (l : List ℕ) (n at r p : ℕ) → ra
 range-few air none l n at r p e =
     few-addresses none (meaningIn (air .meanings) r) (range-allowed air none r (read-found (rangeC air none) (good-range air none) l n at r p e .valid))
 
-pub group-few : (air : Air) (none : Bool) (l : List ℕ) (n at : ℕ) (g : Group) (p : ℕ) → groupC air none .read (bitAt l) n at ≡ got g p → spanOf air g ≤ 64
-group-few air none l n at g p e = few-identities air none g (read-found (groupC air none) (good-group air none) l n at g p e .valid)
+-- ---- a kind
 
--- ---- the loop that reads addresses
+abbrev kindOr : Bool → ℕ → ℕ → Read ℕ
+kindOr external k p = cond (isKind k) (got k p) (no (refusal (noKind external k)))
 
--- what is left to read, into the places from i on of l
-unfoldable pub fill : List Address → ℕ → Read (List Address) → PlacesRead
-fill l i (got xs q) = record { found = true; stop = noStop; next = q; list = sets l i xs }
-fill l i (no s) = record { found = false; stop = s; next = 0; list = nobodies }
+external-kind : (b : Bool) (k p : ℕ) → eqb k 3 ≡ b
+    → bind (cond (not b) (got k p) (no (refusal 27))) (λ j q. cond (isKind j) (got j q) (no (refusal 10))) ≡ cond (isKind k) (got k p) (no (refusal (cond b 27 10)))
+external-kind true k p e = rw (eqb-true k 3 e)
+external-kind false k p e = refl
 
-fill-cons : (l : List Address) (i : ℕ) (a : Address) (r : Read (List Address)) → fill l i (bind r (λ xs q. got (a ∷ xs) q)) ≡ fill (set l i a) (suc i) r
-unfolding fill
-fill-cons l i a (got xs q) = refl
-fill-cons l i a (no s) = refl
+-- one test after another, as one
+pub kind-read : (external : Bool) (f : ℕ → ℕ) (n at : ℕ) → kindC external .read f n at ≡ bind (number element.kind 2 .read f n at) (λ k p. kindOr external k p)
+unfolding kindC noKind both
+kind-read true f n at = go (number element.kind 2 .read f n at)
+  where
+    go : (r : Read ℕ)
+        → bind (bind r (λ k p. cond (isInternal k) (got k p) (no (refusal 27)))) (λ k p. cond (isKind k) (got k p) (no (refusal 10)))
+        ≡ bind r (λ k p. cond (isKind k) (got k p) (no (refusal (cond (eqb k 3) 27 10))))
+    go (got k p) = external-kind (eqb k 3) k p refl
+    go (no s) = refl
+kind-read false f n at = refl
 
-fill-start : (r : Read (List Address)) → placesOf (bind r (λ xs p. got (sets nobodies 0 xs) p)) ≡ fill nobodies 0 r
-unfolding placesOf fill
-fill-start (got xs q) = refl
-fill-start (no s) = refl
+-- ---- a loop that reads k of C into fifteen places, one after the other
 
-pub start : (f : ℕ → ℕ) (n at count : ℕ) → placesOf (placesC count .read f n at) ≡ fill nobodies 0 (vecRead addressC (count - 0) f n at)
-unfolding placesC
-start f n at count = rw sub-zero (fill-start (vecRead addressC count f n at))
+module _ {A R : Type 0} (answer : Read (List A) → R) (C : Codec A) where
+  -- what is left to read, into the places from i on of l
+  abbrev pub fill : List A → ℕ → Read (List A) → R
+  fill l i r = answer (bind r (λ xs q. got (sets l i xs) q))
 
-module _ (f : ℕ → ℕ) (n : ℕ) (l : List Address) (at count i : ℕ) (h : i < count) where
-  more : count - i ≡ suc (count - (i + 1))
-  more = omega arith
+  fill-cons : (l : List A) (i : ℕ) (a : A) (r : Read (List A)) → fill l i (bind r (λ xs q. got (a ∷ xs) q)) ≡ fill (set l i a) (suc i) r
+  fill-cons l i a (got xs q) = refl
+  fill-cons l i a (no s) = refl
 
-  pub turn : (a : Address) (p : ℕ) → addressC .read f n at ≡ got a p
-      → fill l i (vecRead addressC (count - i) f n at) ≡ fill (set l i a) (i + 1) (vecRead addressC (count - (i + 1)) f n p)
+  pub start : (f : ℕ → ℕ) (n at count : ℕ) (none : A) (isNone : A → Bool)
+      → answer (fifteenC none isNone C count .read f n at) ≡ fill (replicate 15 none) 0 (vecRead C (count - 0) f n at)
+  start f n at count none isNone = rw sub-zero
+
+  module _ (f : ℕ → ℕ) (n : ℕ) (l : List A) (at count i : ℕ) (h : i < count) where
+    more : count - i ≡ suc (count - (i + 1))
+    more = omega arith
+
+    pub turn : (a : A) (p : ℕ) → C .read f n at ≡ got a p
+        → fill l i (vecRead C (count - i) f n at) ≡ fill (set l i a) (i + 1) (vecRead C (count - (i + 1)) f n p)
+    unfolding vecRead
+    turn a p e = rw (more, e, fill-cons l i a, ← add-one i)
+
+    pub turn-stop : (s : Stop) → C .read f n at ≡ no s → fill l i (vecRead C (count - i) f n at) ≡ answer (no s)
+    unfolding vecRead
+    turn-stop s e = rw (more, e)
+
+  pub turns-end : (f : ℕ → ℕ) (n : ℕ) (l : List A) (at count i : ℕ) → count ≤ i → fill l i (vecRead C (count - i) f n at) ≡ answer (got l at)
   unfolding vecRead
-  turn a p e = rw (more, e, fill-cons l i a, ← add-one i)
-
-  pub turn-stop : (s : Stop) → addressC .read f n at ≡ no s → fill l i (vecRead addressC (count - i) f n at) ≡ placesOf (no s)
-  unfolding vecRead placesOf fill
-  turn-stop s e = rw (more, e)
-
-pub turns-end : (f : ℕ → ℕ) (n : ℕ) (l : List Address) (at count i : ℕ) → count ≤ i
-    → fill l i (vecRead addressC (count - i) f n at) ≡ record { found = true; stop = noStop; next = at; list = l }
-unfolding vecRead fill
-turns-end f n l at count i h = let z : count - i ≡ 0 = omega arith in rw z
+  turns-end f n l at count i h = let z : count - i ≡ 0 = omega arith in rw z
 
 -- ---- a mask in its place
 

@@ -4,13 +4,17 @@ use Prim.Native.Nat.{ℕ}
 use mathlib.Core.Bool.{Bool, true, false, cond}
 use mathlib.Core.List.{List}
 use lib.Dec.{leb}
+use lib.ListN.{replicate}
 use Rattle.bits.specs.Fields.{bitAt}
 use Rattle.codec.specs.Stops.{short, noStop}
 use Rattle.codec.specs.Codec.{Read, got, no, number}
 use Rattle.message.specs.Groups.{nobodies, noGroup}
+use Rattle.message.specs.Areas.{noAreas}
 use Rattle.message.specs.Values.{noValue}
 use Rattle.message.specs.declared.Address.{Address}
 use Rattle.message.specs.declared.Group.{Group}
+use Rattle.message.specs.declared.Areas.{Areas}
+use Rattle.message.specs.declared.State.{State}
 use Rattle.message.specs.declared.Value.{Value}
 use Rattle.reading.specs.declared.element.ByteTook.{ByteTook}
 use Rattle.reading.specs.declared.element.ByteTook.the-variants as byte
@@ -22,11 +26,15 @@ use Rattle.reading.specs.declared.address.AddressTook.{AddressTook}
 use Rattle.reading.specs.declared.address.AddressTook.the-variants as address
 use Rattle.reading.specs.declared.group.PlacesRead.{PlacesRead}
 use Rattle.reading.specs.declared.group.GroupRead.{GroupRead}
+use Rattle.reading.specs.declared.area.AreaPlaces.{AreaPlaces}
+use Rattle.reading.specs.declared.area.AreasRead.{AreasRead}
 use Rattle.reading.specs.declared.option.Each.{Each}
 use Rattle.reading.specs.declared.ack.MaskedTook.{MaskedTook}
 use Rattle.reading.specs.declared.ack.MaskedTook.the-variants as masked
 use Rattle.reading.specs.declared.ack.ResultTook.{ResultTook}
 use Rattle.reading.specs.declared.ack.ResultTook.the-variants as result
+use Rattle.reading.specs.declared.ack.StateTook.{StateTook}
+use Rattle.reading.specs.declared.ack.StateTook.the-variants as state
 use Rattle.reading.specs.declared.part.Body.{Body}
 use Rattle.reading.specs.declared.header.HeaderTook.{HeaderTook}
 use Rattle.reading.specs.declared.header.HeaderTook.the-variants as header
@@ -69,6 +77,14 @@ unfoldable pub groupOf : Read Group → GroupRead
 groupOf (got g p) = record { found = true; stop = noStop; next = p; group = g }
 groupOf (no s) = record { found = false; stop = s; next = 0; group = noGroup }
 
+unfoldable pub areaPlacesOf : Read (List ℕ) → AreaPlaces
+areaPlacesOf (got l p) = record { found = true; stop = noStop; next = p; list = l }
+areaPlacesOf (no s) = record { found = false; stop = s; next = 0; list = replicate 15 0 }
+
+unfoldable pub areasOf : Read Areas → AreasRead
+areasOf (got a p) = record { found = true; stop = noStop; next = p; areas = a }
+areasOf (no s) = record { found = false; stop = s; next = 0; areas = noAreas }
+
 -- ---- acks, parts, options, headers
 
 abbrev pub maskedOf : MaskedTook → Read (Bool × ℕ)
@@ -78,6 +94,10 @@ maskedOf (masked.Refused s) = no s
 abbrev pub resultOf : ResultTook → Read (ℕ × ℕ)
 resultOf (result.Got v w p) = got (v, w) p
 resultOf (result.Refused s) = no s
+
+abbrev pub stateOf : StateTook → Read State
+stateOf (state.Got s p) = got s p
+stateOf (state.Refused s) = no s
 
 unfoldable pub bodyOf : Read Value → Body
 bodyOf (got v p) = record { found = true; stop = noStop; next = p; value = v }

@@ -2,8 +2,9 @@
 use Prim.Native.Nat.{ℕ, zero, suc}
 use mathlib.Core.Bool.{Bool, true, false, cond, _||_}
 use mathlib.Core.List.{List, [], _∷_}
+use lib.Dec.{eqb}
 use Rattle.codec.specs.Stops.{refusal}
-use Rattle.codec.specs.Codec.{Read, got, no, bind}
+use Rattle.codec.specs.Codec.{Read, got, no, bind, both}
 use Rattle.codec.specs.Options.{flag}
 use Rattle.profile.specs.declared.Air.{Air}
 use Rattle.message.specs.Elements as element
@@ -12,6 +13,10 @@ use Rattle.message.specs.Rows.{partC, put}
 use Rattle.message.specs.declared.Value.{Value}
 use Rattle.message.specs.declared.Part.{Part}
 use Rattle.message.specs.declared.Slot.{Slot}
+
+-- the number that a kind other than 1 and 2 is refused with
+unfoldable pub noKind : Bool → ℕ → ℕ
+noKind external k = cond (both external (eqb k 3)) 27 10
 
 unfoldable pub partRead : Air → Value → Part → (ℕ → ℕ) → ℕ → ℕ → Read Value
 partRead air v p f n at = bind (partC air v p .read f n at) (λ x q. got (put p x v) q)

@@ -29,15 +29,22 @@ pub struct GroupRead {
     pub group: Group,
 }
 
-// `none` says whether the range may mean "none".
-pub(crate) fn read_group(air: Air, none: bool, buf: &[u8], bits: usize, at: usize) -> GroupRead
-    ensures { λ r. ⌜ r ≡ groupOf (groupC air none .read (bitAt (now (buf .entry))) bits at) ⌝ }
+// `none` says whether the range may mean "none", `external` whether these are destinations.
+pub(crate) fn read_group(
+    air: Air,
+    none: bool,
+    external: bool,
+    buf: &[u8],
+    bits: usize,
+    at: usize,
+) -> GroupRead
+    ensures { λ r. ⌜ r ≡ groupOf (groupC air none external .read (bitAt (now (buf .entry))) bits at) ⌝ }
 {
     let meanings = air.meanings;
     match read_range(air, none, buf, bits, at) {
         ByteTook::Refused(s) => no_group(s),
         ByteTook::Got(range, p) => {
-            let l = read_addresses(profile::meaning_of(meanings, range), buf, bits, p);
+            let l = read_addresses(external, profile::meaning_of(meanings, range), buf, bits, p);
             if l.found {
                 let list = l.list;
                 let next = l.next;
@@ -57,7 +64,7 @@ pub(crate) fn read_group(air: Air, none: bool, buf: &[u8], bits: usize, at: usiz
     }
 }
 
-fn read_range(air: Air, none: bool, buf: &[u8], bits: usize, at: usize) -> ByteTook
+pub(crate) fn read_range(air: Air, none: bool, buf: &[u8], bits: usize, at: usize) -> ByteTook
     ensures { λ r. ⌜ byteOf r ≡ rangeC air none .read (bitAt (now (buf .entry))) bits at ⌝ }
 {
     let meanings = air.meanings;
@@ -72,11 +79,11 @@ fn read_range(air: Air, none: bool, buf: &[u8], bits: usize, at: usize) -> ByteT
     }
 }
 
-fn read_addresses(m: Meaning, buf: &[u8], bits: usize, at: usize) -> PlacesRead
+fn read_addresses(external: bool, m: Meaning, buf: &[u8], bits: usize, at: usize) -> PlacesRead
     requires { ⌜ addressesIn m ≤ 15 ⌝ }
-    ensures { λ r. ⌜ r ≡ placesOf (addressesC m .read (bitAt (now (buf .entry))) bits at) ⌝ }
+    ensures { λ r. ⌜ r ≡ placesOf (addressesC external m .read (bitAt (now (buf .entry))) bits at) ⌝ }
 {
-    let l = read_places(message::addresses_in(m), buf, bits, at);
+    let l = read_places(external, message::addresses_in(m), buf, bits, at);
     if l.found {
         let list = l.list;
         if message::ends_ok(m, list) {
@@ -87,15 +94,15 @@ fn read_addresses(m: Meaning, buf: &[u8], bits: usize, at: usize) -> PlacesRead
     l
 }
 
-fn read_places(count: usize, buf: &[u8], bits: usize, at: usize) -> PlacesRead
+fn read_places(external: bool, count: usize, buf: &[u8], bits: usize, at: usize) -> PlacesRead
     requires { ⌜ count ≤ 15 ⌝ }
-    ensures { λ r. ⌜ r ≡ placesOf (placesC count .read (bitAt (now (buf .entry))) bits at) ⌝ }
+    ensures { λ r. ⌜ r ≡ placesOf (placesC external count .read (bitAt (now (buf .entry))) bits at) ⌝ }
 {
     let mut list = [message::NOBODY; 15];
     let mut next = at;
     let mut i: usize = 0;
     while i < count {
-        match address::read_address(buf, bits, next) {
+        match address::read_address(external, buf, bits, next) {
             AddressTook::Refused(s) => return no_places(s),
             AddressTook::Got(a, p) => {
                 list[i] = a;

@@ -1,7 +1,7 @@
 // Reading a message: from bytes and a bit length to a value, or to the refusal that document 01's order gives.
 //
 // `read` equals `readOf` of `message` for every profile, buffer and length. The files go from small to large: element, address, group,
-// ack, part, option, body, header. Each function reads one codec and hands the refusal of what it calls on unchanged.
+// area, ack, part, option, body, header. Each function reads one codec and hands the refusal of what it calls on unchanged.
 ghost use mathlib.Core.Path.{_≡_};
 ghost use Rattle.bits.specs.Fields.{bitAt};
 ghost use Rattle.codec.specs.Codec.{got, no};
@@ -14,6 +14,7 @@ use profile::Profile;
 
 mod ack;
 mod address;
+mod area;
 mod body;
 mod element;
 mod group;
@@ -45,7 +46,7 @@ fn read_bits(air: Air, message: &[u8], bits: usize) -> Reading
     if bits < 1 {
         return refused(codec::refuse(3));
     }
-    if bits > 2048 {
+    if bits > 4096 {
         return refused(codec::refuse(3));
     }
     if (bits + 7) / 8 > message.len() {

@@ -4,14 +4,16 @@ ghost use Prim.Native.Nat.{min};
 ghost use Rattle.bits.specs.Fields.{bitAt};
 ghost use Rattle.codec.specs.Codec.{got, no};
 ghost use Rattle.message.specs.Values.{noValue};
-ghost use Rattle.message.specs.declared.Part.the-variants.{Number, Users, User, Masked, Result, Dispatchers, Dispatcher};
+ghost use Rattle.message.specs.declared.Part.the-variants.{Number, Users, User, Masked, Result, Dispatchers, Dispatcher, Interrogation, Sources, Destinations, Areas};
 ghost use Rattle.reading.specs.Answers.{bodyOf};
 ghost use Rattle.reading.specs.Parts.{partRead};
 use crate::ack;
 use crate::ack::MaskedTook;
 use crate::ack::ResultTook;
+use crate::ack::StateTook;
 use crate::address;
 use crate::address::AddressTook;
+use crate::area;
 use crate::element;
 use crate::element::WordTook;
 use crate::group;
@@ -46,6 +48,10 @@ pub(crate) fn read_part(
         Part::Result => result_part(air, value, buf, bits, at),
         Part::Dispatchers => dispatchers_part(air, value, buf, bits, at),
         Part::Dispatcher => dispatcher_part(air, value, buf, bits, at),
+        Part::Interrogation => state_part(air, value, buf, bits, at),
+        Part::Sources => sources_part(air, value, buf, bits, at),
+        Part::Destinations => destinations_part(air, value, buf, bits, at),
+        Part::Areas => areas_part(air, value, buf, bits, at),
     }
 }
 
@@ -67,7 +73,7 @@ fn number_part(air: Air, value: Value, place: u8, buf: &[u8], bits: usize, at: u
 fn users_part(air: Air, value: Value, buf: &[u8], bits: usize, at: usize) -> Body
     ensures { λ r. ⌜ r ≡ bodyOf (partRead air value Users (bitAt (now (buf .entry))) bits at) ⌝ }
 {
-    let u = group::read_group(air, false, buf, bits, at);
+    let u = group::read_group(air, false, false, buf, bits, at);
     if u.found {
         let users = u.group;
         return carried(message::with_users(value, users), u.next);
@@ -79,7 +85,7 @@ fn users_part(air: Air, value: Value, buf: &[u8], bits: usize, at: usize) -> Bod
 fn user_part(air: Air, value: Value, place: u8, buf: &[u8], bits: usize, at: usize) -> Body
     ensures { λ r. ⌜ r ≡ bodyOf (partRead air value (User place) (bitAt (now (buf .entry))) bits at) ⌝ }
 {
-    match address::read_address(buf, bits, at) {
+    match address::read_address(false, buf, bits, at) {
         AddressTook::Refused(s) => no_body(s),
         AddressTook::Got(a, p) => carried(message::with_user(value, place, a), p),
     }
@@ -120,7 +126,7 @@ fn result_part(air: Air, value: Value, buf: &[u8], bits: usize, at: usize) -> Bo
 fn dispatchers_part(air: Air, value: Value, buf: &[u8], bits: usize, at: usize) -> Body
     ensures { λ r. ⌜ r ≡ bodyOf (partRead air value Dispatchers (bitAt (now (buf .entry))) bits at) ⌝ }
 {
-    let d = group::read_group(air, true, buf, bits, at);
+    let d = group::read_group(air, true, false, buf, bits, at);
     if d.found {
         let dispatchers = d.group;
         return carried(message::with_dispatchers(value, dispatchers), d.next);
@@ -132,10 +138,55 @@ fn dispatchers_part(air: Air, value: Value, buf: &[u8], bits: usize, at: usize) 
 fn dispatcher_part(air: Air, value: Value, buf: &[u8], bits: usize, at: usize) -> Body
     ensures { λ r. ⌜ r ≡ bodyOf (partRead air value Dispatcher (bitAt (now (buf .entry))) bits at) ⌝ }
 {
-    match address::read_address(buf, bits, at) {
+    match address::read_address(false, buf, bits, at) {
         AddressTook::Refused(s) => no_body(s),
         AddressTook::Got(a, p) => carried(message::with_dispatcher(value, a), p),
     }
+}
+
+fn state_part(air: Air, value: Value, buf: &[u8], bits: usize, at: usize) -> Body
+    ensures { λ r. ⌜ r ≡ bodyOf (partRead air value Interrogation (bitAt (now (buf .entry))) bits at) ⌝ }
+{
+    match ack::read_state(buf, bits, at) {
+        StateTook::Refused(s) => no_body(s),
+        StateTook::Got(state, p) => carried(message::with_state(value, state), p),
+    }
+}
+
+fn sources_part(air: Air, value: Value, buf: &[u8], bits: usize, at: usize) -> Body
+    ensures { λ r. ⌜ r ≡ bodyOf (partRead air value Sources (bitAt (now (buf .entry))) bits at) ⌝ }
+{
+    let g = group::read_group(air, true, false, buf, bits, at);
+    if g.found {
+        let sources = g.group;
+        return carried(message::with_sources(value, sources), g.next);
+    }
+    let s = g.stop;
+    no_body(s)
+}
+
+fn destinations_part(air: Air, value: Value, buf: &[u8], bits: usize, at: usize) -> Body
+    ensures { λ r. ⌜ r ≡ bodyOf (partRead air value Destinations (bitAt (now (buf .entry))) bits at) ⌝ }
+{
+    let g = group::read_group(air, true, true, buf, bits, at);
+    if g.found {
+        let destinations = g.group;
+        return carried(message::with_destinations(value, destinations), g.next);
+    }
+    let s = g.stop;
+    no_body(s)
+}
+
+fn areas_part(air: Air, value: Value, buf: &[u8], bits: usize, at: usize) -> Body
+    ensures { λ r. ⌜ r ≡ bodyOf (partRead air value Areas (bitAt (now (buf .entry))) bits at) ⌝ }
+{
+    let a = area::read_areas(air, buf, bits, at);
+    if a.found {
+        let areas = a.areas;
+        return carried(message::with_areas(value, areas), a.next);
+    }
+    let s = a.stop;
+    no_body(s)
 }
 
 pub(crate) fn carried(value: Value, next: usize) -> Body

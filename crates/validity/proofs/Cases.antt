@@ -5,7 +5,8 @@ use mathlib.Core.Path.{_≡_, refl}
 use mathlib.Core.Bool.{Bool, true, false}
 use mathlib.Core.List as list
 use mathlib.Core.List.{List, [], _∷_}
-use lib.ListN.{set}
+use lib.ListN.{set, replicate}
+use lib.Seq.{sets}
 use Rattle.codec.specs.Codec.{both, number}
 use Rattle.codec.specs.Options.{flag}
 use Rattle.profile.specs.Rules.{meaningIn}
@@ -13,14 +14,15 @@ use Rattle.profile.specs.Sample.{sample, sampleMeanings}
 use Rattle.profile.specs.declared.Kind.the-variants as kind
 use Rattle.profile.specs.declared.Air.{Air}
 use Rattle.message.specs.Addresses.{nobody, isNobody, kindC, extensionC, addressC}
-use Rattle.message.specs.Groups.{addressesIn, allowedIn, nobodies, areNobody, placesC, rangeOk, endsOk, addressesC, rangeC, groupC, noGroup, oneGroup, spanIn, spanOf}
-use Rattle.message.specs.Acks.{maskC, maskedC, resultC}
+use Rattle.message.specs.Groups.{addressesIn, allowedIn, nobodies, areNone, placesC, rangeOk, endsOk, addressesC, rangeC, groupC, noGroup, oneGroup, spanIn, spanOf}
+use Rattle.message.specs.Areas.{areaPlacesC, rises, areaListC, areasC, noAreas}
+use Rattle.message.specs.Acks.{maskC, maskedC, resultC, whyNotC, ifAcceptedC, stateC}
 use Rattle.message.specs.Numbers as place
 use Rattle.message.specs.Numbers.{widths, widthOf}
-use Rattle.message.specs.Values.{blank, withNumber, withUsers, withMask, withDispatchers, withGiven, sameBools, sameNumbers, sameAddress, sameAddresses, sameGroup, sameValue}
+use Rattle.message.specs.Values.{blank, withNumber, withUsers, withMask, withDispatchers, withGiven, sameBools, sameNumbers, sameAddress, sameAddresses, sameGroup, sameValue, noLists, sameAreas, sameLists, withSources, withDestinations, withAreas}
 use Rattle.message.specs.Rows.{table, rowIn, rowOf, partsC, puts, gets, eachC, optionsC, putOptions, getOptions, firstParts}
 use Rattle.message.specs.Messages.{bodyC, isKnown, isCarried, headerC, messageC}
-use Rattle.message.proofs.Cases.{request, and, all}
+use Rattle.message.proofs.Cases.{request, and, all, told, accepted, notAccepted, covers, allFour}
 use Rattle.message.specs.declared.Address.{Address}
 use Rattle.message.specs.declared.Group.{Group}
 use Rattle.message.specs.declared.Value.{Value}
@@ -256,6 +258,38 @@ cases =
     ∷ bad (value 4 four false 0 0 1 0 0 false noGroup)
     ∷ bad (value 4 four false 0 0 0 1 0 false noGroup)
     ∷ bad (value 4 four false 0 0 0 0 1 false noGroup)
+    -- INTERROGATE ACK: accepted, active and not, each element at its most; not accepted
+    ∷ good (told (accepted 1 0 0 0))
+    ∷ good (told (accepted 0 0 0 0))
+    ∷ good (told (accepted 1 1 3 3))
+    ∷ good (told (notAccepted 7))
+    -- a result of 2; a reason of 4 bits, or with result 1; elements too wide, or with result 0
+    ∷ bad (told (record { result = 2; reason = 0; activation = 0; interception = 0; called = 0; calling = 0 }))
+    ∷ bad (told (notAccepted 8))
+    ∷ bad (told (record { result = 1; reason = 1; activation = 1; interception = 0; called = 0; calling = 0 }))
+    ∷ bad (told (accepted 2 0 0 0))
+    ∷ bad (told (accepted 0 2 0 0))
+    ∷ bad (told (accepted 0 0 4 0))
+    ∷ bad (told (accepted 0 0 0 4))
+    ∷ bad (told (record { result = 0; reason = 1; activation = 1; interception = 0; called = 0; calling = 0 }))
+    ∷ bad (told (record { result = 0; reason = 1; activation = 0; interception = 0; called = 0; calling = 1 }))
+    -- its groups: all four; each "none"; areas 0 to 15, that fall, of 5 bits, past their count, without the option; a destination of kind 3
+    ∷ good allFour
+    ∷ good (withGiven 3 true (withGiven 2 true (withGiven 1 true (withGiven 0 true (told (accepted 0 0 0 0))))))
+    ∷ good (covers 15 (0 ∷ 15 ∷ []))
+    ∷ good (covers 3 (15 ∷ 1 ∷ 0 ∷ []))
+    ∷ bad (covers 15 (5 ∷ 3 ∷ []))
+    ∷ bad (covers 15 (0 ∷ 16 ∷ []))
+    ∷ bad (covers 1 (1 ∷ 1 ∷ []))
+    ∷ bad (covers 4 [])
+    ∷ bad (withAreas (record { range = 0; areas = sets (replicate 15 0) 0 (1 ∷ []) }) (told (notAccepted 1)))
+    ∷ bad (withSources (one 1 (home 1001)) (told (notAccepted 1)))
+    ∷ bad (withGiven 2 true (withDestinations (one 1 (record { kind = 3; ssi = 1001; extension = 0 })) (told (notAccepted 1))))
+    ∷ good (withGiven 2 true (withDestinations (one 1 (abroad 1001 5)) (told (notAccepted 1))))
+    -- an ACTIVATE with sources; a fifth option; a type of restriction
+    ∷ bad (withSources (one 1 (home 1001)) (activate four))
+    ∷ bad (withGiven 4 true (told (notAccepted 1)))
+    ∷ bad (withNumber 11 1 (told (notAccepted 1)))
     -- its ACK: accepted, not accepted; a bit beyond the fourth identity, a mask where none is present, a reason with result 1, an option
     ∷ good (ackOf 5 four true 0xC000_0000_0000_0000 1 0)
     ∷ good (ackOf 5 four false 0 0 127)
@@ -266,16 +300,16 @@ cases =
     ∷ []
 
 pub cases-right : list.map gives cases ≡ list.map wants cases
-unfolding both number flag meaningIn sample sampleMeanings isNobody kindC extensionC addressC addressesIn allowedIn nobodies areNobody placesC rangeOk endsOk addressesC rangeC groupC noGroup oneGroup spanIn spanOf maskC maskedC resultC blank sameBools sameNumbers sameAddress sameAddresses sameGroup sameValue rowOf rowIn table widths widthOf partsC puts gets eachC optionsC putOptions getOptions firstParts bodyC isKnown isCarried headerC messageC validOf
+unfolding both number flag meaningIn sample sampleMeanings isNobody kindC extensionC addressC addressesIn allowedIn nobodies areNone placesC rangeOk endsOk addressesC rangeC groupC noGroup oneGroup spanIn spanOf maskC maskedC resultC areaPlacesC rises areaListC areasC noAreas whyNotC ifAcceptedC stateC noLists blank sameBools sameNumbers sameAddress sameAddresses sameGroup sameAreas sameLists sameValue rowOf rowIn table widths widthOf partsC puts gets eachC optionsC putOptions getOptions firstParts bodyC isKnown isCarried headerC messageC validOf
 cases-right = refl
 
 -- ---- profiles that break a rule: a list of 200, an SS type of 7 bits
 
 abbrev pub wide : ℕ → Air
 wide ss =
-    record { ss = ss; home = 0; meanings = record { kind = kind.Listed; count = 200 } ∷ record { kind = kind.Listed; count = 1 } ∷ []; unknown = 1; other = 2 }
+    record { ss = ss; home = 0; meanings = record { kind = kind.Listed; count = 200 } ∷ record { kind = kind.Listed; count = 1 } ∷ []; unknown = 1; other = 2; unrecorded = 1; elsewhere = 2 }
 
 pub wide-right : validOf (wide 9) (activate (one 0 (home 1001))) ∷ validOf (wide 9) (activate (one 1 (home 1001))) ∷ validOf (wide 64) (activate (one 1 (home 1001))) ∷ []
     ≡ false ∷ true ∷ false ∷ []
-unfolding both number flag meaningIn isNobody kindC extensionC addressC addressesIn allowedIn nobodies areNobody placesC rangeOk endsOk addressesC rangeC groupC noGroup blank sameBools sameNumbers sameAddress sameAddresses sameGroup sameValue rowOf rowIn table widths widthOf partsC puts gets eachC optionsC putOptions getOptions firstParts bodyC isKnown isCarried headerC messageC validOf
+unfolding both number flag meaningIn isNobody kindC extensionC addressC addressesIn allowedIn nobodies areNone placesC rangeOk endsOk addressesC rangeC groupC noGroup areaPlacesC rises areaListC areasC noAreas whyNotC ifAcceptedC stateC noLists blank sameBools sameNumbers sameAddress sameAddresses sameGroup sameAreas sameLists sameValue rowOf rowIn table widths widthOf partsC puts gets eachC optionsC putOptions getOptions firstParts bodyC isKnown isCarried headerC messageC validOf
 wide-right = refl

@@ -20,18 +20,18 @@ module _ {A : Type 0} (d : A) (n : ℕ) (i : ℕ) (x : List A) (e : length x ≡
   gone : n ≤ i → drop i x ≡ []
   gone h = let k : length x ≤ i = omega arith in drop-of-length-le x k
 
-module _ (x y : List ℕ) (lx : length x ≡ 12) (ly : length y ≡ 12) (i : ℕ) where
-  pub numbers-more : i < 12 → getD x i 0 ≡ getD y i 0 → sameNumbers (drop i x) (drop i y) ≡ sameNumbers (drop (i + 1) x) (drop (i + 1) y)
+module _ (n : ℕ) (x y : List ℕ) (lx : length x ≡ n) (ly : length y ≡ n) (i : ℕ) where
+  pub numbers-more : i < n → getD x i 0 ≡ getD y i 0 → sameNumbers (drop i x) (drop i y) ≡ sameNumbers (drop (i + 1) x) (drop (i + 1) y)
   unfolding sameNumbers both
-  numbers-more h e = rw (front 0 12 i x lx h, front 0 12 i y ly h, eq-eqb _ _ e)
+  numbers-more h e = rw (front 0 n i x lx h, front 0 n i y ly h, eq-eqb _ _ e)
 
-  pub numbers-not : i < 12 → (getD x i 0 ≡ getD y i 0 → ⊥) → sameNumbers (drop i x) (drop i y) ≡ false
+  pub numbers-not : i < n → (getD x i 0 ≡ getD y i 0 → ⊥) → sameNumbers (drop i x) (drop i y) ≡ false
   unfolding sameNumbers both
-  numbers-not h e = rw (front 0 12 i x lx h, front 0 12 i y ly h, ne-eqb _ _ e)
+  numbers-not h e = rw (front 0 n i x lx h, front 0 n i y ly h, ne-eqb _ _ e)
 
-  pub numbers-end : 12 ≤ i → sameNumbers (drop i x) (drop i y) ≡ true
+  pub numbers-end : n ≤ i → sameNumbers (drop i x) (drop i y) ≡ true
   unfolding sameNumbers
-  numbers-end h = rw (gone 0 12 i x lx h, gone 0 12 i y ly h)
+  numbers-end h = rw (gone 0 n i x lx h, gone 0 n i y ly h)
 
 module _ (x y : List Bool) (lx : length x ≡ 7) (ly : length y ≡ 7) (i : ℕ) where
   bools-by : (b : Bool) → i < 7 → sameBool (getD x i false) (getD y i false) ≡ b → sameBools (drop i x) (drop i y) ≡ both b (sameBools (drop (i + 1) x) (drop (i + 1) y))

@@ -1,26 +1,32 @@
 -- What the tests of validity go by. Assumes nothing.
-use Prim.Native.Nat.{ℕ, suc, _+_, _-_, _*_, _/_, _%_, _^_, _≤_, _<_}
+use Prim.Native.Nat.{ℕ, zero, suc, _+_, _-_, _*_, _/_, _%_, _^_, _≤_, _<_}
 use mathlib.Core.Path.{_≡_, refl, sym, ap, _∙_}
-use mathlib.Core.Bool.{Bool, true, false, cond}
-use mathlib.Core.List.{List, _∷_}
+use mathlib.Core.Bool.{Bool, true, false, not, cond}
+use mathlib.Core.List.{List, [], _∷_}
 use native.Mathlib.Numerals.{add-one}
 use native.Mathlib.Omega.{arith}
 use lib.Dec.{eqb, leb, ltb}
 use lib.ListN.{length, length-take, take, drop, getD, drop-of-length-le}
 use lib.Pow.{shr-lt, shl-exact}
 use lib.Seq.{drop-cons, getD-take}
-use borrow.Author.Tests.{eqb-true, eqb-false, eq-eqb, ne-eqb, lt-ltb, le-ltb, le-leb, leb-true}
-use Rattle.codec.specs.Codec.{both, number, vecOk}
+use borrow.Author.Tests.{eqb-true, eqb-false, eq-eqb, ne-eqb, lt-ltb, le-ltb, le-leb, leb-true, leb-false}
+use Rattle.codec.specs.Codec.{Codec, both, number, pure, choose, vecOk}
 use Rattle.codec.specs.Options.{flag}
 use Rattle.codec.proofs.Good.{both-true, both-left, both-right, both-none}
-use Rattle.message.specs.Addresses.{nobody, isZero, isNobody, kindC, addressC}
-use Rattle.message.specs.Groups.{areNobody}
-use Rattle.message.specs.Acks.{maskC, maskedC}
+use Rattle.profile.specs.Rules.{meaningIn}
+use Rattle.profile.specs.declared.Air.{Air}
+use Rattle.message.specs.Addresses.{isZero, isKind, kindC, addressC}
+use Rattle.message.specs.Groups.{addressesIn, areNone, placesC, addressesC, groupC}
+use Rattle.message.specs.Elements as element
+use Rattle.message.specs.Acks.{maskC, maskedC, whyNotC, ifAcceptedC, stateC}
 use Rattle.message.specs.Rows.{table, rowOf}
 use Rattle.message.specs.Messages.{isKnown, isCarried, headerC}
+use Rattle.message.specs.declared.State.{State}
 use Rattle.message.specs.declared.Row.{Row}
 use Rattle.message.specs.declared.Address.{Address}
+use Rattle.message.specs.declared.Group.{Group}
 use Rattle.message.proofs.TableLaws.{allRows, each-row}
+use Rattle.validity.specs.Parts.{acceptedOk, notAcceptedOk}
 
 -- ---- both
 
@@ -44,57 +50,84 @@ two-fits k true e = let h = eqb-true k 2 e in sym (both-yes _ _ (lt-ltb k (2 ^ 2
 two-fits k false e = rw e (sym (both-none _))
 
 -- a kind that is not 1 is good if it is 2
-pub kind-two : (k : ℕ) → (k ≡ 1 → ⊥) → eqb k 2 ≡ kindC .ok k
+pub kind-two : (k : ℕ) → (k ≡ 1 → ⊥) → eqb k 2 ≡ kindC false .ok k
 unfolding kindC number
 kind-two k h = rw (ne-eqb _ _ h) (two-fits k (eqb k 2) refl)
 
--- ---- the first addresses
+-- ---- the first of them: addresses, areas
 
-module _ (l : List Address) (count i : ℕ) (h : i < count) (k : count ≤ length l) where
-  cut : drop i (take count l) ≡ getD l i nobody ∷ drop (i + 1) (take count l)
-  cut =
-      let n : i < length (take count l) = simp length-take (omega arith) in
-      rw (add-one, drop-cons (take count l) i nobody n, getD-take count l i nobody h)
+module _ {A : Type 0} (none : A) (C : Codec A) (l : List A) (count i : ℕ) where
+  module _ (h : i < count) (k : count ≤ length l) where
+    cut : drop i (take count l) ≡ getD l i none ∷ drop (i + 1) (take count l)
+    cut =
+        let n : i < length (take count l) = simp length-take (omega arith) in
+        rw (add-one, drop-cons (take count l) i none n, getD-take count l i none h)
 
-  left : count - i ≡ suc (count - (i + 1))
-  left = omega arith
+    left : count - i ≡ suc (count - (i + 1))
+    left = omega arith
 
-  pub first-more : addressC .ok (getD l i nobody) ≡ true
-      → vecOk addressC (count - i) (drop i (take count l)) ≡ vecOk addressC (count - (i + 1)) (drop (i + 1) (take count l))
-  first-more e = rw (left, cut) (both-yes _ _ e)
+    pub first-more : C .ok (getD l i none) ≡ true → vecOk C (count - i) (drop i (take count l)) ≡ vecOk C (count - (i + 1)) (drop (i + 1) (take count l))
+    first-more e = rw (left, cut) (both-yes _ _ e)
 
-  pub first-not : addressC .ok (getD l i nobody) ≡ false → vecOk addressC (count - i) (drop i (take count l)) ≡ false
-  first-not e = rw (left, cut) (both-no _ _ e)
+    pub first-not : C .ok (getD l i none) ≡ false → vecOk C (count - i) (drop i (take count l)) ≡ false
+    first-not e = rw (left, cut) (both-no _ _ e)
 
-pub first-end : (l : List Address) (count i : ℕ) → count ≤ i → count ≤ length l → vecOk addressC (count - i) (drop i (take count l)) ≡ true
-first-end l count i h k =
-    let n : length (take count l) ≤ i = simp length-take (omega arith) in
-    let z : count - i ≡ 0 = omega arith in
-    rw (z, drop-of-length-le (take count l) n)
+  pub first-end : count ≤ i → count ≤ length l → vecOk C (count - i) (drop i (take count l)) ≡ true
+  first-end h k =
+      let n : length (take count l) ≤ i = simp length-take (omega arith) in
+      let z : count - i ≡ 0 = omega arith in
+      rw (z, drop-of-length-le (take count l) n)
 
 -- ---- the places beyond
 
-module _ (l : List Address) (i : ℕ) (h : i < 15) (k : length l ≡ 15) where
-  gone : drop i l ≡ getD l i nobody ∷ drop (i + 1) l
-  gone = let n : i < length l = omega arith in rw (add-one, drop-cons l i nobody n)
+module _ {A : Type 0} (none : A) (isNone : A → Bool) (l : List A) (i : ℕ) where
+  module _ (h : i < 15) (k : length l ≡ 15) where
+    gone : drop i l ≡ getD l i none ∷ drop (i + 1) l
+    gone = let n : i < length l = omega arith in rw (add-one, drop-cons l i none n)
 
-  less : 15 - i ≡ suc (15 - (i + 1))
-  less = omega arith
+    less : 15 - i ≡ suc (15 - (i + 1))
+    less = omega arith
 
-  pub rest-more : isNobody (getD l i nobody) ≡ true → areNobody (15 - i) (drop i l) ≡ areNobody (15 - (i + 1)) (drop (i + 1) l)
-  unfolding areNobody
-  rest-more e = rw (less, gone) (both-yes _ _ e)
+    pub rest-more : isNone (getD l i none) ≡ true → areNone isNone (15 - i) (drop i l) ≡ areNone isNone (15 - (i + 1)) (drop (i + 1) l)
+    unfolding areNone
+    rest-more e = rw (less, gone) (both-yes _ _ e)
 
-  pub rest-not : isNobody (getD l i nobody) ≡ false → areNobody (15 - i) (drop i l) ≡ false
-  unfolding areNobody
-  rest-not e = rw (less, gone) (both-no _ _ e)
+    pub rest-not : isNone (getD l i none) ≡ false → areNone isNone (15 - i) (drop i l) ≡ false
+    unfolding areNone
+    rest-not e = rw (less, gone) (both-no _ _ e)
 
-pub rest-end : (l : List Address) (i : ℕ) → 15 ≤ i → length l ≡ 15 → areNobody (15 - i) (drop i l) ≡ true
-unfolding areNobody
-rest-end l i h k =
-    let n : length l ≤ i = omega arith in
-    let z : 15 - i ≡ 0 = omega arith in
-    rw (z, drop-of-length-le l n)
+  pub rest-end : 15 ≤ i → length l ≡ 15 → areNone isNone (15 - i) (drop i l) ≡ true
+  unfolding areNone
+  rest-end h k =
+      let n : length l ≤ i = omega arith in
+      let z : 15 - i ≡ 0 = omega arith in
+      rw (z, drop-of-length-le l n)
+
+-- ---- a destination is good as any other address is
+
+module _ (k : ℕ) where
+  kind-by : (b : Bool) → eqb k 3 ≡ b → both (both (ltb k (2 ^ 2)) (not b)) (isKind k) ≡ both (ltb k (2 ^ 2)) (isKind k)
+  unfolding both
+  kind-by true e = rw (eqb-true k 3 e)
+  kind-by false e = ap (λ (b : Bool). both b (isKind k)) (both-all (ltb k (2 ^ 2)))
+
+  kind-alike : kindC true .ok k ≡ kindC false .ok k
+  unfolding kindC number
+  kind-alike = kind-by (eqb k 3) refl
+
+address-alike : (a : Address) → addressC true .ok a ≡ addressC false .ok a
+unfolding addressC
+address-alike a = rw (kind-alike (a .kind))
+
+vec-alike : (k : ℕ) (xs : List Address) → vecOk (addressC true) k xs ≡ vecOk (addressC false) k xs
+vec-alike zero [] = refl
+vec-alike zero (a ∷ xs) = refl
+vec-alike (suc k) [] = refl
+vec-alike (suc k) (a ∷ xs) = rw (address-alike a, vec-alike k xs)
+
+pub group-alike : (air : Air) (none : Bool) (g : Group) → groupC air none true .ok g ≡ groupC air none false .ok g
+unfolding groupC addressesC placesC
+group-alike air none g = rw (vec-alike (addressesIn (meaningIn (air .meanings) (g .range))) (take (addressesIn (meaningIn (air .meanings) (g .range))) (g .addresses)))
 
 -- ---- a mask of n identities in 64 bits
 
@@ -119,6 +152,36 @@ mask-none n m e f = rw e (of-none (mask-lt 0 m (omega arith) f))
   where
     of-none : m / 2 ^ 64 < 2 ^ 0 → eqb m 0 ≡ maskC 0 .ok m
     of-none k = let z : m / 2 ^ 64 ≡ 0 = omega arith in rw (mask-ok 0 m (omega arith) f, z) (zero-first m (eqb m 0) refl)
+
+-- ---- the state of an INTERROGATE ACK
+
+below : (n m k : ℕ) → m ≡ suc k → ltb n m ≡ leb n k
+below n m k e = go (leb n k) refl
+  where
+    go : (b : Bool) → leb n k ≡ b → ltb n m ≡ b
+    go true h = let l = leb-true n k h in lt-ltb n m (omega arith)
+    go false h = let l = leb-false n k h in le-ltb n m (omega arith)
+
+both-eq : {a b c d : Bool} → a ≡ b → c ≡ d → both a c ≡ both b d
+both-eq e h = rw (e, h)
+
+module _ (s : State) where
+  content : (b : Bool)
+      → both (choose b (pure 0 isZero) (number element.reason 3) .ok (s .reason))
+      (both (choose b (number element.activationType 1) (pure 0 isZero) .ok (s .activation))
+      (both (choose b (number element.interceptionType 1) (pure 0 isZero) .ok (s .interception))
+      (both (choose b (number element.basicService 2) (pure 0 isZero) .ok (s .called)) (choose b (number element.basicService 2) (pure 0 isZero) .ok (s .calling)))))
+      ≡ cond b (acceptedOk s) (notAcceptedOk s)
+  unfolding number acceptedOk notAcceptedOk
+  content true =
+      both-eq refl
+      (both-eq (below (s .activation) (2 ^ 1) 1 refl)
+      (both-eq (below (s .interception) (2 ^ 1) 1 refl) (both-eq (below (s .called) (2 ^ 2) 3 refl) (below (s .calling) (2 ^ 2) 3 refl))))
+  content false = both-eq (below (s .reason) (2 ^ 3) 7 refl) refl
+
+  pub state-by : stateC .ok s ≡ both (leb (s .result) 1) (cond (eqb (s .result) 1) (acceptedOk s) (notAcceptedOk s))
+  unfolding stateC whyNotC ifAcceptedC number
+  state-by = both-yes _ _ refl ∙ both-eq (below (s .result) (2 ^ 1) 1 refl) (content (eqb (s .result) 1))
 
 -- ---- what is there or not
 

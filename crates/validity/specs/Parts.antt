@@ -2,12 +2,24 @@
 use Prim.Native.Nat.{ℕ, suc}
 use mathlib.Core.Bool.{Bool, true, cond}
 use mathlib.Core.List.{List, [], _∷_}
+use lib.Dec.{eqb, leb}
 use Rattle.codec.specs.Codec.{both}
 use Rattle.profile.specs.declared.Air.{Air}
 use Rattle.message.specs.Values.{givenAt, sameValue}
 use Rattle.message.specs.Rows.{partC, get, copyOf, copyOption}
 use Rattle.message.specs.declared.Value.{Value}
 use Rattle.message.specs.declared.Part.{Part}
+use Rattle.message.specs.declared.State.{State}
+
+-- the state of an INTERROGATE ACK whose result is 1: no reason, activation and interception type of a bit each, basic services of two
+unfoldable pub acceptedOk : State → Bool
+acceptedOk s =
+    both (eqb (s .reason) 0) (both (leb (s .activation) 1) (both (leb (s .interception) 1) (both (leb (s .called) 3) (leb (s .calling) 3))))
+
+-- and of one whose result is 0: a reason of three bits, and nothing else
+unfoldable pub notAcceptedOk : State → Bool
+notAcceptedOk s =
+    both (leb (s .reason) 7) (both (eqb (s .activation) 0) (both (eqb (s .interception) 0) (both (eqb (s .called) 0) (eqb (s .calling) 0))))
 
 unfoldable pub partOk : Air → Value → Part → Value → Bool
 partOk air w p v = partC air w p .ok (get p v)

@@ -1,10 +1,11 @@
 // One address, and the place that has none.
 ghost use mathlib.Core.Path.{_≡_};
+ghost use mathlib.Core.Bool.{false};
 ghost use Rattle.message.specs.Addresses.{isNobody, kindC, extensionC, addressC};
 use message::Address;
 
 pub(crate) fn address_ok(a: Address) -> bool
-    ensures { λ r. ⌜ r ≡ addressC .ok a ⌝ }
+    ensures { λ r. ⌜ r ≡ addressC false .ok a ⌝ }
 {
     if kind_ok(a.kind) {
         if a.ssi >= 0x100_0000 {
@@ -17,7 +18,7 @@ pub(crate) fn address_ok(a: Address) -> bool
 
 // Kinds 0 and 3 would be refused with 10.
 fn kind_ok(kind: u8) -> bool
-    ensures { λ r. ⌜ r ≡ kindC .ok kind ⌝ }
+    ensures { λ r. ⌜ r ≡ kindC false .ok kind ⌝ }
 {
     if kind == 1 {
         return true;

@@ -2,7 +2,7 @@
 // and all that the message doesn't carry is zero. The definition is the `ok` of `message`'s codec, which its round trips are about.
 //
 // `valid` equals `validOf` for every profile and value, also for a profile that breaks a rule: refusing that is the caller's. The files
-// go from small to large: address, group and ack, part, body; same is the test that two values are one.
+// go from small to large: address, group, area and ack, part, body; same is the test that two values are one.
 ghost use mathlib.Core.Path.{_≡_};
 ghost use Rattle.message.specs.Messages.{headerC};
 ghost use Rattle.validity.specs.Validity.{validOf};
@@ -11,6 +11,7 @@ use profile::Profile;
 
 mod ack;
 mod address;
+mod area;
 mod body;
 mod group;
 mod part;

@@ -2,10 +2,11 @@
 ghost use mathlib.Core.Path.{_≡_};
 ghost use Prim.Native.Nat.{_^_, _≤_, min};
 ghost use lib.Dec.{ltb};
-ghost use Rattle.message.specs.declared.Part.the-variants.{Number, Users, User, Masked, Result, Dispatchers, Dispatcher};
+ghost use Rattle.message.specs.declared.Part.the-variants.{Number, Users, User, Masked, Result, Dispatchers, Dispatcher, Interrogation, Sources, Destinations, Areas};
 ghost use Rattle.validity.specs.Parts.{partOk};
 use crate::ack;
 use crate::address;
+use crate::area;
 use crate::group;
 use message::Part;
 use message::Value;
@@ -23,6 +24,10 @@ pub(crate) fn part_ok(air: Air, made: Value, part: Part, v: Value) -> bool
         Part::Result => result_ok(air, made, v),
         Part::Dispatchers => dispatchers_ok(air, made, v),
         Part::Dispatcher => dispatcher_ok(air, made, v),
+        Part::Interrogation => state_ok(air, made, v),
+        Part::Sources => sources_ok(air, made, v),
+        Part::Destinations => destinations_ok(air, made, v),
+        Part::Areas => areas_ok(air, made, v),
     }
 }
 
@@ -84,6 +89,37 @@ fn dispatcher_ok(air: Air, made: Value, v: Value) -> bool
 {
     let dispatchers = v.dispatchers;
     address::address_ok(message::address_at(dispatchers, 0))
+}
+
+fn state_ok(air: Air, made: Value, v: Value) -> bool
+    ensures { λ r. ⌜ r ≡ partOk air made Interrogation v ⌝ }
+{
+    ack::state_ok(message::state_in(v))
+}
+
+// Sources, destinations and areas may be "none" too.
+fn sources_ok(air: Air, made: Value, v: Value) -> bool
+    ensures { λ r. ⌜ r ≡ partOk air made Sources v ⌝ }
+{
+    let lists = v.lists;
+    let sources = lists.sources;
+    group::group_ok(air, true, sources)
+}
+
+fn destinations_ok(air: Air, made: Value, v: Value) -> bool
+    ensures { λ r. ⌜ r ≡ partOk air made Destinations v ⌝ }
+{
+    let lists = v.lists;
+    let destinations = lists.destinations;
+    group::group_ok(air, true, destinations)
+}
+
+fn areas_ok(air: Air, made: Value, v: Value) -> bool
+    ensures { λ r. ⌜ r ≡ partOk air made Areas v ⌝ }
+{
+    let lists = v.lists;
+    let areas = lists.areas;
+    area::areas_ok(air, areas)
 }
 
 // The number has so many bits.

@@ -2,9 +2,11 @@
 ghost use mathlib.Core.Path.{_≡_};
 ghost use lib.Dec.{eqb};
 ghost use Rattle.codec.specs.Codec.{both};
-ghost use Rattle.message.specs.Values.{sameBool, sameBools, sameNumbers, sameAddress, sameAddresses, sameGroup, sameValue};
+ghost use Rattle.message.specs.Values.{sameBool, sameBools, sameNumbers, sameAddress, sameAddresses, sameGroup, sameAreas, sameLists, sameValue};
 use message::Address;
+use message::Areas;
 use message::Group;
+use message::Lists;
 use message::Value;
 
 pub(crate) fn same_value(a: Value, b: Value) -> bool
@@ -28,7 +30,7 @@ pub(crate) fn same_value(a: Value, b: Value) -> bool
 
 // What comes after the users.
 fn same_rest(a: Value, b: Value) -> bool
-    ensures { λ r. ⌜ r ≡ both (sameBool (a .masked) (b .masked)) (both (eqb (a .mask) (b .mask)) (both (sameBools (a .given) (b .given)) (sameGroup (a .dispatchers) (b .dispatchers)))) ⌝ }
+    ensures { λ r. ⌜ r ≡ both (sameBool (a .masked) (b .masked)) (both (eqb (a .mask) (b .mask)) (both (sameBools (a .given) (b .given)) (both (sameGroup (a .dispatchers) (b .dispatchers)) (sameLists (a .lists) (b .lists))))) ⌝ }
 {
     if same_bool(a.masked, b.masked) {
         if a.mask != b.mask {
@@ -39,7 +41,12 @@ fn same_rest(a: Value, b: Value) -> bool
         if same_bools(x, y) {
             let s = a.dispatchers;
             let t = b.dispatchers;
-            return same_group(s, t);
+            if same_group(s, t) {
+                let l = a.lists;
+                let m = b.lists;
+                return same_lists(l, m);
+            }
+            return false;
         }
         return false;
     }
@@ -64,6 +71,50 @@ fn same_group(g: Group, h: Group) -> bool
     let x = g.addresses;
     let y = h.addresses;
     same_addresses(x, y)
+}
+
+fn same_lists(a: Lists, b: Lists) -> bool
+    ensures { λ r. ⌜ r ≡ sameLists a b ⌝ }
+{
+    let s = a.sources;
+    let t = b.sources;
+    if same_group(s, t) {
+        let d = a.destinations;
+        let e = b.destinations;
+        if same_group(d, e) {
+            let x = a.areas;
+            let y = b.areas;
+            return same_areas(x, y);
+        }
+        return false;
+    }
+    false
+}
+
+fn same_areas(a: Areas, b: Areas) -> bool
+    ensures { λ r. ⌜ r ≡ sameAreas a b ⌝ }
+{
+    if a.range != b.range {
+        return false;
+    }
+    let x = a.areas;
+    let y = b.areas;
+    same_small(x, y)
+}
+
+fn same_small(x: [u8; 15], y: [u8; 15]) -> bool
+    ensures { λ r. ⌜ r ≡ sameNumbers x y ⌝ }
+{
+    let mut i: usize = 0;
+    while i < 15 {
+        let a = x[i];
+        let b = y[i];
+        i += 1;
+        if a != b {
+            return false;
+        }
+    }
+    true
 }
 
 fn same_address(a: Address, b: Address) -> bool

@@ -16,17 +16,19 @@ use Rattle.profile.specs.Counting.{every, sum}
 use Rattle.profile.specs.Rules.{meaningOk, meaningIn, airOk, shareOk, shareIn, sharesOk, profileOk}
 use Rattle.profile.specs.Sample.{sample, sampleMeanings, sampleShare}
 use Rattle.message.specs.Addresses.{nobody, isNobody, kindC, extensionC, addressC}
-use Rattle.message.specs.Groups.{addressesIn, allowedIn, nobodies, areNobody, placesC, rangeOk, endsOk, addressesC, rangeC, groupC, noGroup, oneGroup, spanIn, spanOf}
-use Rattle.message.specs.Acks.{maskC, maskedC, resultC}
+use Rattle.message.specs.Groups.{addressesIn, allowedIn, nobodies, areNone, placesC, rangeOk, endsOk, addressesC, rangeC, groupC, noGroup, oneGroup, spanIn, spanOf}
+use Rattle.message.specs.Areas.{areaPlacesC, rises, areaListC, areasC, noAreas}
+use Rattle.message.specs.Acks.{maskC, maskedC, resultC, whyNotC, ifAcceptedC, stateC}
 use Rattle.message.specs.Numbers as place
 use Rattle.message.specs.Numbers.{elements, elementOf, widths, widthOf}
-use Rattle.message.specs.Values.{blank, sameBools, sameNumbers, sameAddress, sameAddresses, sameGroup, sameValue}
-use Rattle.message.specs.Rows.{table, rowIn, rowOf, partsC, puts, gets, eachC, optionsC, putOptions, getOptions, firstParts}
+use Rattle.message.specs.Values.{blank, sameBools, sameNumbers, sameAddress, sameAddresses, sameGroup, sameValue, noLists, sameAreas, sameLists, withUsers, withMask, withGiven}
+use Rattle.message.specs.Rows.{table, rowIn, rowOf, partsC, puts, gets, eachC, optionsC, putOptions, getOptions, firstParts, put}
 use Rattle.message.specs.Messages.{bodyC, isKnown, isCarried, headerC, messageC}
 use Rattle.message.specs.Reading.{wholeOf, lengthOk, readBits, readOf}
-use Rattle.message.proofs.Cases.{request, and, all, whole, longest}
+use Rattle.message.proofs.Cases.{request, and, all, whole, longest, told, accepted, notAccepted, covers, allFour}
 use Rattle.message.specs.declared.Address.{Address}
 use Rattle.message.specs.declared.Group.{Group}
+use Rattle.message.specs.declared.Part.the-variants as part
 use Rattle.message.specs.declared.Value.{Value}
 use Rattle.validity.specs.Validity.{validOf}
 use Rattle.validity.proofs.Cases.{home, abroad, none, one, two, four, activateV, deactivate, ackOf, ackV, plainV, activate, interrogate, intercepted, call}
@@ -95,6 +97,21 @@ rows =
     ∷ row (all (abroad 1001 16777215)) 174 longest
     ∷ row (and 6 place.calledService 3 (request 0)) 40
     (0x25 ∷ 0x60 ∷ 0x02 ∷ 0x82 ∷ 0x07 ∷ [])
+    -- INTERROGATE ACK of 1,001: active, not active; not accepted, reason 1; with areas 3 to 5; with all four groups; with each "none"; of four by a mask
+    ∷ row (told (accepted 1 0 0 0)) 50
+    (0x25 ∷ 0x22 ∷ 0x80 ∷ 0x01 ∷ 0xF4 ∷ 0xB0 ∷ 0x00 ∷ [])
+    ∷ row (told (accepted 0 0 0 0)) 50
+    (0x25 ∷ 0x22 ∷ 0x80 ∷ 0x01 ∷ 0xF4 ∷ 0xA0 ∷ 0x00 ∷ [])
+    ∷ row (told (notAccepted 1)) 47
+    (0x25 ∷ 0x22 ∷ 0x80 ∷ 0x01 ∷ 0xF4 ∷ 0x84 ∷ [])
+    ∷ row (covers 15 (3 ∷ 5 ∷ [])) 63
+    (0x25 ∷ 0x22 ∷ 0x80 ∷ 0x01 ∷ 0xF4 ∷ 0x86 ∷ 0x3E ∷ 0x6A ∷ [])
+    ∷ row allFour 236
+    (0x25 ∷ 0x22 ∷ 0x80 ∷ 0x01 ∷ 0xF4 ∷ 0xB1 ∷ 0xE2 ∷ 0x80 ∷ 0x01 ∷ 0xF6 ∷ 0x4A ∷ 0x00 ∷ 0x03 ∷ 0xE9 ∷ 0x00 ∷ 0x00 ∷ 0x05 ∷ 0x40 ∷ 0x00 ∷ 0xFB ∷ 0x3E ∷ 0x80 ∷ 0x01 ∷ 0xF4 ∷ 0xA0 ∷ 0x00 ∷ 0x7D ∷ 0x93 ∷ 0x1F ∷ 0x00 ∷ [])
+    ∷ row (withGiven 3 true (withGiven 2 true (withGiven 1 true (withGiven 0 true (told (accepted 0 1 2 1)))))) 70
+    (0x25 ∷ 0x22 ∷ 0x80 ∷ 0x01 ∷ 0xF4 ∷ 0xAC ∷ 0xE1 ∷ 0x08 ∷ 0x40 ∷ [])
+    ∷ row (put part.Interrogation (accepted 1 1 3 2) (withMask true (5 * 2 ^ 60) (withUsers four (blank 9)))) 80
+    (0x25 ∷ 0x3E ∷ 0x80 ∷ 0x01 ∷ 0xF4 ∷ 0xA0 ∷ 0x00 ∷ 0x7D ∷ 0x95 ∷ 0xFC ∷ [])
     -- CANCEL; REJECT; REJECTED, without and with an option
     ∷ row (call 14 5) 25
     (0x25 ∷ 0xC0 ∷ 0x02 ∷ 0x80 ∷ [])
@@ -129,7 +146,7 @@ abbrev pub written : Row → Write
 written (row v n bytes) = laid (bytes ++ (0xAA ∷ [])) n
 
 pub rows-written : list.map writes rows ≡ list.map written rows
-unfolding withDigit setBit putBits binary spare both number flag every sum meaningOk meaningIn airOk shareOk shareIn sharesOk profileOk sample sampleMeanings sampleShare isNobody kindC extensionC addressC addressesIn allowedIn nobodies areNobody placesC rangeOk endsOk addressesC rangeC groupC noGroup oneGroup spanIn spanOf maskC maskedC resultC blank sameBools sameNumbers sameAddress sameAddresses sameGroup sameValue rowOf rowIn table elements elementOf widths widthOf partsC puts gets eachC optionsC putOptions getOptions firstParts bodyC isKnown isCarried headerC messageC validOf bitsOf padded layOf layIn writeValid writeOf
+unfolding withDigit setBit putBits binary spare both number flag every sum meaningOk meaningIn airOk shareOk shareIn sharesOk profileOk sample sampleMeanings sampleShare isNobody kindC extensionC addressC addressesIn allowedIn nobodies areNone placesC rangeOk endsOk addressesC rangeC groupC noGroup oneGroup spanIn spanOf maskC maskedC resultC areaPlacesC rises areaListC areasC noAreas whyNotC ifAcceptedC stateC noLists blank sameBools sameNumbers sameAddress sameAddresses sameGroup sameAreas sameLists sameValue rowOf rowIn table elements elementOf widths widthOf partsC puts gets eachC optionsC putOptions getOptions firstParts bodyC isKnown isCarried headerC messageC validOf bitsOf padded layOf layIn writeValid writeOf
 rows-written = refl
 
 -- ---- and read back
@@ -141,17 +158,17 @@ abbrev pub found : Row → Read Value
 found (row v n bytes) = got v n
 
 pub rows-read : list.map reads rows ≡ list.map found rows
-unfolding blank rowOf rowIn table elements elementOf widths widthOf partsC puts gets eachC optionsC putOptions getOptions firstParts bitAt fieldAt both number vecRead flag every sum meaningOk meaningIn airOk shareOk shareIn sharesOk profileOk sample sampleMeanings sampleShare kindC extensionC addressC addressesIn allowedIn nobodies placesC rangeOk endsOk addressesC rangeC groupC noGroup oneGroup spanIn spanOf maskC maskedC resultC bodyC isKnown isCarried headerC messageC wholeOf lengthOk readBits readOf
+unfolding areaPlacesC rises areaListC areasC noAreas whyNotC ifAcceptedC stateC noLists blank rowOf rowIn table elements elementOf widths widthOf partsC puts gets eachC optionsC putOptions getOptions firstParts bitAt fieldAt both number vecRead flag every sum meaningOk meaningIn airOk shareOk shareIn sharesOk profileOk sample sampleMeanings sampleShare kindC extensionC addressC addressesIn allowedIn nobodies placesC rangeOk endsOk addressesC rangeC groupC noGroup oneGroup spanIn spanOf maskC maskedC resultC bodyC isKnown isCarried headerC messageC wholeOf lengthOk readBits readOf
 rows-read = refl
 
 -- ---- one byte too few, and from another byte of the area on
 
 pub sizes-right : list.map (λ (l : List ℕ). writeOf sample (call 13 0) l 0) ((0xAA ∷ 0xAA ∷ []) ∷ (0xAA ∷ []) ∷ [] ∷ [])
     ≡ laid (0x25 ∷ 0xA0 ∷ []) 11 ∷ refused (refusal 14) ∷ refused (refusal 14) ∷ []
-unfolding withDigit setBit putBits binary spare both number flag every sum meaningOk meaningIn airOk shareOk shareIn sharesOk profileOk sample sampleMeanings sampleShare isNobody kindC extensionC addressC addressesIn allowedIn nobodies areNobody placesC rangeOk endsOk addressesC rangeC groupC noGroup oneGroup spanIn spanOf maskC maskedC resultC blank sameBools sameNumbers sameAddress sameAddresses sameGroup sameValue rowOf rowIn table elements elementOf widths widthOf partsC puts gets eachC optionsC putOptions getOptions firstParts bodyC isKnown isCarried headerC messageC validOf bitsOf padded layOf layIn writeValid writeOf
+unfolding withDigit setBit putBits binary spare both number flag every sum meaningOk meaningIn airOk shareOk shareIn sharesOk profileOk sample sampleMeanings sampleShare isNobody kindC extensionC addressC addressesIn allowedIn nobodies areNone placesC rangeOk endsOk addressesC rangeC groupC noGroup oneGroup spanIn spanOf maskC maskedC resultC areaPlacesC rises areaListC areasC noAreas whyNotC ifAcceptedC stateC noLists blank sameBools sameNumbers sameAddress sameAddresses sameGroup sameAreas sameLists sameValue rowOf rowIn table elements elementOf widths widthOf partsC puts gets eachC optionsC putOptions getOptions firstParts bodyC isKnown isCarried headerC messageC validOf bitsOf padded layOf layIn writeValid writeOf
 sizes-right = refl
 
 pub start-right : list.map (λ (b : ℕ). writeOf sample (call 13 0) (0xAA ∷ 0xAA ∷ 0xAA ∷ []) b) (0 ∷ 1 ∷ 2 ∷ [])
     ≡ laid (0x25 ∷ 0xA0 ∷ 0xAA ∷ []) 11 ∷ laid (0xAA ∷ 0x25 ∷ 0xA0 ∷ []) 11 ∷ refused (refusal 14) ∷ []
-unfolding withDigit setBit putBits binary spare both number flag every sum meaningOk meaningIn airOk shareOk shareIn sharesOk profileOk sample sampleMeanings sampleShare isNobody kindC extensionC addressC addressesIn allowedIn nobodies areNobody placesC rangeOk endsOk addressesC rangeC groupC noGroup oneGroup spanIn spanOf maskC maskedC resultC blank sameBools sameNumbers sameAddress sameAddresses sameGroup sameValue rowOf rowIn table elements elementOf widths widthOf partsC puts gets eachC optionsC putOptions getOptions firstParts bodyC isKnown isCarried headerC messageC validOf bitsOf padded layOf layIn writeValid writeOf
+unfolding withDigit setBit putBits binary spare both number flag every sum meaningOk meaningIn airOk shareOk shareIn sharesOk profileOk sample sampleMeanings sampleShare isNobody kindC extensionC addressC addressesIn allowedIn nobodies areNone placesC rangeOk endsOk addressesC rangeC groupC noGroup oneGroup spanIn spanOf maskC maskedC resultC areaPlacesC rises areaListC areasC noAreas whyNotC ifAcceptedC stateC noLists blank sameBools sameNumbers sameAddress sameAddresses sameGroup sameAreas sameLists sameValue rowOf rowIn table elements elementOf widths widthOf partsC puts gets eachC optionsC putOptions getOptions firstParts bodyC isKnown isCarried headerC messageC validOf bitsOf padded layOf layIn writeValid writeOf
 start-right = refl

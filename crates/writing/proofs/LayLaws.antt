@@ -16,7 +16,7 @@ use Rattle.writing.specs.declared.Written.{Written}
 use Rattle.writing.proofs.WroteLaws.{wrote-end}
 
 -- where the whole bytes lie in the area there is room for the bits
-pub lay-room : (l : List ℕ) (b : ℕ) (bs : List ℕ) → b < 2 ^ 16 → length bs ≤ 2048 → b + bytesFor (length bs) ≤ length l → Room l (8 * b) bs
+pub lay-room : (l : List ℕ) (b : ℕ) (bs : List ℕ) → b < 2 ^ 16 → length bs ≤ 4096 → b + bytesFor (length bs) ≤ length l → Room l (8 * b) bs
 lay-room l b bs h k m = record { inside = omega arith; most = omega arith }
 
 -- a position counts its spare bits as the message does that starts at a whole byte
@@ -38,7 +38,7 @@ lay-done l m o b q bs r w e =
     ∙ sym (put-append l (8 * b) bs (binary (spare (length bs)) 0))
 
 -- what is written from the first bit on ends where the bits do
-pub ends-at : {l m : List ℕ} {p : ℕ} {bs : List ℕ} → Wrote l m 0 p bs → length bs ≤ 2048 → p ≡ length bs
+pub ends-at : {l m : List ℕ} {p : ℕ} {bs : List ℕ} → Wrote l m 0 p bs → length bs ≤ 4096 → p ≡ length bs
 ends-at {bs = bs} w h = let small : 0 + length bs < 2 ^ 64 = omega arith in omega (arith, wrote-end w small)
 
 -- ---- a refusal

@@ -1,12 +1,12 @@
 -- How long a valid message is. Assumes nothing.
 use Prim.Native.Nat.{ℕ, suc, _+_, _*_, _-_, _/_, _^_, _≤_, min}
-use mathlib.Core.Path.{_≡_, refl, ap, subst}
+use mathlib.Core.Path.{_≡_, refl, sym, ap, _∙_, subst}
 use mathlib.Core.Bool.{Bool, true, false, not, cond}
 use mathlib.Core.List.{List, [], _∷_, _++_}
 use native.Mathlib.Omega.{arith}
 use lib.Dec.{eqb, leb}
 use lib.ListN.{length, length-append, length-take, take}
-use borrow.Author.Tests.{leb-true}
+use borrow.Author.Tests.{leb-true, eqb-true}
 use Rattle.bits.specs.Puts.{binary}
 use Rattle.bits.proofs.PutLaws.{length-binary}
 use Rattle.codec.specs.Codec.{Codec, both, number, pure, guard, choose, vecBits}
@@ -20,11 +20,12 @@ use Rattle.profile.specs.declared.Air.{Air}
 use Rattle.message.specs.Elements as element
 use Rattle.message.specs.Addresses.{isZero, kindC, extensionC, addressC}
 use Rattle.message.specs.Groups.{addressesBy, addressesIn, spanBy, spanIn, placesC, addressesC, rangeC, groupC, spanOf}
-use Rattle.message.specs.Acks.{maskC, maskedC, resultC}
+use Rattle.message.specs.Areas.{areaC, areaPlacesC, areaListC, areasC}
+use Rattle.message.specs.Acks.{maskC, maskedC, resultC, stateC}
 use Rattle.message.specs.Numbers as place
 use Rattle.message.specs.Numbers.{widths, widthOf}
 use Rattle.message.specs.Values.{blank, numberAt}
-use Rattle.message.specs.Rows.{noRow, users, masked, result, ackRow, table, rowIn, rowOf, Holds, partC, put, Tuple, partsC, puts, gets, Options, putOption, getOptions, someOf, noneOf, eachC, optionsC, firstParts, partsOf, optionsOf}
+use Rattle.message.specs.Rows.{noRow, users, masked, result, ofRestriction, ackRow, table, rowIn, rowOf, Holds, partC, put, get, Tuple, partsC, puts, gets, Options, putOption, getOptions, someOf, noneOf, eachC, optionsC, firstParts, partsOf, optionsOf}
 use Rattle.message.specs.Messages.{holdsJust, messageOf, bodyC, headerC, messageC}
 use Rattle.message.specs.declared.Part.{Part}
 use Rattle.message.specs.declared.Part.the-variants as part
@@ -33,9 +34,12 @@ use Rattle.message.proofs.TableLaws.{allRows, each-row}
 use Rattle.message.proofs.GroupLaws.{few-addresses, few-identities, range-allowed}
 use Rattle.message.specs.declared.Address.{Address}
 use Rattle.message.specs.declared.Group.{Group}
+use Rattle.message.specs.declared.Areas.{Areas}
+use Rattle.message.specs.declared.State.{State}
 use Rattle.message.specs.declared.Value.{Value}
 use Rattle.writing.specs.Writing.{bitsOf, bytesFor}
 use Rattle.validity.specs.Validity.{validOf}
+use Rattle.writing.proofs.PartLaws.{group-alike, state-bits}
 
 -- ---- what a valid message's body is
 
@@ -45,7 +49,7 @@ valid-body air v e = both-right _ _ (both-right true _ e)
 
 -- ---- how long the parts are
 
-address-most : (a : Address) → length (addressC .bits a) ≤ 50
+address-most : (a : Address) → length (addressC false .bits a) ≤ 50
 unfolding addressC kindC extensionC number
 address-most a = go (eqb (a .kind) 1)
   where
@@ -53,11 +57,11 @@ address-most a = go (eqb (a .kind) 1)
     go true = simp (length-append, length-binary) (omega arith)
     go false = simp (length-append, length-binary) (omega arith)
 
-vec-most : (xs : List Address) → length (vecBits addressC xs) ≤ 50 * length xs
+vec-most : (xs : List Address) → length (vecBits (addressC false) xs) ≤ 50 * length xs
 vec-most [] = omega arith
-vec-most (a ∷ xs) = omega (arith, address-most a, vec-most xs, length-append (addressC .bits a) (vecBits addressC xs))
+vec-most (a ∷ xs) = omega (arith, address-most a, vec-most xs, length-append (addressC false .bits a) (vecBits (addressC false) xs))
 
-places-most : (k : ℕ) (l : List Address) → length (placesC k .bits l) ≤ 50 * k
+places-most : (k : ℕ) (l : List Address) → length (placesC false k .bits l) ≤ 50 * k
 unfolding placesC
 places-most k l = omega (arith, vec-most (take k l), length-take k l)
 
@@ -65,16 +69,16 @@ module _ (air : Air) (none : Bool) (g : Group) where
   abbrev m : Meaning
   m = meaningIn (air .meanings) (g .range)
 
-  group-length : length (groupC air none .bits g) ≤ 4 + 50 * addressesIn m
+  group-length : length (groupC air none false .bits g) ≤ 4 + 50 * addressesIn m
   unfolding groupC rangeC addressesC number
-  group-length = omega (arith, length-append (binary 4 (g .range)) (placesC (addressesIn m) .bits (g .addresses)), length-binary 4 (g .range), places-most (addressesIn m) (g .addresses))
+  group-length = omega (arith, length-append (binary 4 (g .range)) (placesC false (addressesIn m) .bits (g .addresses)), length-binary 4 (g .range), places-most (addressesIn m) (g .addresses))
 
-  few-of : groupC air none .ok g ≡ true → addressesIn m ≤ 15
+  few-of : (external : Bool) → groupC air none external .ok g ≡ true → addressesIn m ≤ 15
   unfolding groupC
-  few-of v = few-addresses none m (range-allowed air none (g .range) (both-left _ _ (both-right true _ v)))
+  few-of external v = few-addresses none m (range-allowed air none (g .range) (both-left _ _ (both-right true _ v)))
 
-  group-most : groupC air none .ok g ≡ true → length (groupC air none .bits g) ≤ 754
-  group-most v = omega (arith, group-length, few-of v)
+  group-most : groupC air none false .ok g ≡ true → length (groupC air none false .bits g) ≤ 754
+  group-most v = omega (arith, group-length, few-of false v)
 
   -- a long list names few identities, and a range that names many has two addresses
   named-by : (k : Kind) (n : ℕ) (l : List Address) → addressesBy k n ≤ 15 → spanBy k n l ≤ 64 → 50 * addressesBy k n + spanBy k n l ≤ 765
@@ -83,10 +87,32 @@ module _ (air : Air) (none : Bool) (g : Group) where
   named-by kind.Listed n l h s = omega arith
   named-by kind.FirstLast n l h s = omega arith
 
-  group-span-most : groupC air none .ok g ≡ true → length (groupC air none .bits g) + spanOf air g ≤ 769
+  group-span-most : groupC air none false .ok g ≡ true → length (groupC air none false .bits g) + spanOf air g ≤ 769
   unfolding addressesIn spanOf spanIn
   group-span-most v =
-      omega (arith, group-length, named-by (m .kind) (m .count) (g .addresses) (few-of v) (few-identities air none g v))
+      omega (arith, group-length, named-by (m .kind) (m .count) (g .addresses) (few-of false v) (few-identities air none false g v))
+
+destinations-most : (air : Air) (g : Group) → groupC air true true .ok g ≡ true → length (groupC air true true .bits g) ≤ 754
+destinations-most air g v =
+    omega (arith, ap (λ (bs : List ℕ). length bs) (group-alike air g), group-length air true g, few-of air true g true v)
+
+area-vec-length : (xs : List ℕ) → length (vecBits areaC xs) ≡ 4 * length xs
+unfolding number
+area-vec-length [] = refl
+area-vec-length (a ∷ xs) = omega (arith, length-append (binary 4 a) (vecBits areaC xs), length-binary 4 a, area-vec-length xs)
+
+areas-most : (air : Air) (a : Areas) → areasC air .ok a ≡ true → length (areasC air .bits a) ≤ 64
+unfolding areasC areaListC areaPlacesC rangeC number
+areas-most air a v =
+    let k = addressesIn (meaningIn (air .meanings) (a .range)) in
+    omega (
+      arith,
+      length-append (binary 4 (a .range)) (vecBits areaC (take k (a .areas))),
+      length-binary 4 (a .range),
+      area-vec-length (take k (a .areas)),
+      length-take k (a .areas),
+      few-addresses true (meaningIn (air .meanings) (a .range)) (range-allowed air true (a .range) (both-left _ _ (both-right true _ v))),
+    )
 
 masked-most : (n : ℕ) (b : Bool) (k : ℕ) → length (maskedC n .bits (b, k)) ≤ 1 + n
 unfolding maskedC maskC flag number
@@ -101,6 +127,15 @@ result-most r w = go (eqb r 1)
     go true = omega (arith, length-append (binary 1 r) [], length-binary 1 r)
     go false = omega (arith, length-append (binary 1 r) (binary 7 w), length-binary 1 r, length-binary 7 w)
 
+state-most : (s : State) → length (stateC .bits s) ≤ 7
+state-most s = rw (state-bits s) (go (eqb (s .result) 1))
+  where
+    go : (b : Bool)
+        → length (binary 1 (s .result) ++ (cond b [] (binary 3 (s .reason)) ++ (cond b (binary 1 (s .activation)) [] ++ (cond b (binary 1 (s .interception)) []
+        ++ (cond b (binary 2 (s .called)) [] ++ cond b (binary 2 (s .calling)) []))))) ≤ 7
+    go true = simp (length-append, length-binary) (omega arith)
+    go false = simp (length-append, length-binary) (omega arith)
+
 -- ---- how long a row's parts are
 
 abbrev mostOf : Part → ℕ
@@ -112,6 +147,10 @@ mostOf part.Masked = 65
 mostOf part.Result = 8
 mostOf part.Dispatchers = 754
 mostOf part.Dispatcher = 50
+mostOf part.Interrogation = 7
+mostOf part.Sources = 754
+mostOf part.Destinations = 754
+mostOf part.Areas = 64
 
 part-most : (air : Air) (w : Value) (p : Part) (x : Holds p) → partC air w p .ok x ≡ true → length (partC air w p .bits x) ≤ mostOf p
 unfolding number
@@ -123,6 +162,10 @@ part-most air w part.Masked x e = omega (arith, masked-most (min (spanOf air (w 
 part-most air w part.Result x e = result-most (x .0) (x .1)
 part-most air w part.Dispatchers x e = group-most air true x e
 part-most air w part.Dispatcher x e = address-most x
+part-most air w part.Interrogation x e = state-most x
+part-most air w part.Sources x e = group-most air true x e
+part-most air w part.Destinations x e = destinations-most air x e
+part-most air w part.Areas x e = areas-most air x e
 
 abbrev mostIn : List Part → ℕ
 mostIn [] = 0
@@ -193,39 +236,9 @@ options-most air w (q ∷ qs) x e = go (someOf (q ∷ qs) x) (both-right (flag e
 abbrev mostOfRow : Row → ℕ
 mostOfRow r = mostIn (partsOf r) + mostUnder (optionsOf r)
 
-abbrev short : ℕ → Row → Bool
-short t r = leb (mostOfRow r) 1510
-
-all-short : allRows short table ≡ true
-unfolding table firstParts widthOf widths both
-all-short = refl
-
-none-short : (t : ℕ) → short t noRow ≡ true
-unfolding firstParts
-none-short t = refl
-
-few-in : (t : ℕ) → mostOfRow (rowOf t) ≤ 1510
-unfolding rowOf
-few-in t = leb-true (mostOfRow (rowIn table t)) 1510 (each-row short table t all-short (none-short t))
-
-body-most : (air : Air) (t : ℕ) (v : Value) → bodyC air t .ok v ≡ true → length (bodyC air t .bits v) ≤ 1510
-unfolding bodyC
-body-most air t v e =
-    let ps = partsOf (rowOf t) in
-    let qs = optionsOf (rowOf t) in
-    let w = puts ps (gets ps v) (blank t) in
-    let ok = both-right (holdsJust t ps qs v) _ e in
-    omega (
-      arith,
-      few-in t,
-      length-append (partsC air (blank t) ps .bits (gets ps v)) (optionsC air w qs .bits (getOptions 0 qs v)),
-      parts-most air (blank t) ps (gets ps v) (both-left _ _ ok),
-      options-most air w qs (getOptions 0 qs v) (both-right (partsC air (blank t) ps .ok (gets ps v)) _ ok),
-    )
-
 -- ---- a message that begins with users has good ones
 
-pub begins-users : (air : Air) (t : ℕ) (ps qs : List Part) (v : Value) → messageOf t (users ∷ ps) qs air .ok v ≡ true → groupC air false .ok (v .users) ≡ true
+pub begins-users : (air : Air) (t : ℕ) (ps qs : List Part) (v : Value) → messageOf t (users ∷ ps) qs air .ok v ≡ true → groupC air false false .ok (v .users) ≡ true
 unfolding partsC gets
 begins-users air t ps qs v e = both-left _ _ (both-left _ _ (both-right _ _ e))
 
@@ -243,7 +256,7 @@ ack-most : (air : Air) (t : ℕ) (v : Value) → ackC air t .ok v ≡ true → l
 unfolding partsC gets optionsC
 ack-most air t v e =
     let n = min (spanOf air (v .users)) 64 in
-    let us = groupC air false .bits (v .users) in
+    let us = groupC air false false .bits (v .users) in
     let ms = maskedC n .bits (v .masked, v .mask) in
     let rs = resultC .bits (numberAt place.result v, numberAt place.reason v) in
     omega (
@@ -257,9 +270,117 @@ ack-most air t v e =
       result-most (numberAt place.result v) (numberAt place.reason v),
     )
 
+-- ---- INTERROGATE ACK is the longest
+
+abbrev pub interrogateAckC : Air → ℕ → Codec Value
+interrogateAckC air t = messageOf t (users ∷ masked ∷ part.Interrogation ∷ []) ofRestriction air
+
+interrogate-ack-most : (air : Air) (t : ℕ) (v : Value) → interrogateAckC air t .ok v ≡ true → length (interrogateAckC air t .bits v) ≤ 3108
+unfolding partsC gets puts
+interrogate-ack-most air t v e =
+    let ps = users ∷ masked ∷ part.Interrogation ∷ [] in
+    let w = puts ps (gets ps v) (blank t) in
+    let ok = both-right (holdsJust t ps ofRestriction v) _ e in
+    let n = min (spanOf air (v .users)) 64 in
+    let us = groupC air false false .bits (v .users) in
+    let ms = maskedC n .bits (v .masked, v .mask) in
+    let ss = stateC .bits (get part.Interrogation v) in
+    let os = optionsC air w ofRestriction .bits (getOptions 0 ofRestriction v) in
+    omega (
+      arith,
+      length-append (us ++ (ms ++ (ss ++ []))) os,
+      length-append us (ms ++ (ss ++ [])),
+      length-append ms (ss ++ []),
+      length-append ss [],
+      group-span-most air false (v .users) (begins-users air t (masked ∷ part.Interrogation ∷ []) ofRestriction v e),
+      masked-most n (v .masked) (v .mask),
+      state-most (get part.Interrogation v),
+      options-most air w ofRestriction (getOptions 0 ofRestriction v) (both-right (partsC air (blank t) ps .ok (gets ps v)) _ ok),
+    )
+
+-- of one user, and with no group
+pub one-state-most : (air : Air) (t : ℕ) (v : Value) → addressesIn (meaningIn (air .meanings) (v .users .range)) ≤ 1 → spanOf air (v .users) ≤ 1
+    → someOf ofRestriction (getOptions 0 ofRestriction v) ≡ false → length (interrogateAckC air t .bits v) ≤ 64
+unfolding partsC gets puts optionsC flag number
+one-state-most air t v few one none =
+    let ps = users ∷ masked ∷ part.Interrogation ∷ [] in
+    let w = puts ps (gets ps v) (blank t) in
+    let n = min (spanOf air (v .users)) 64 in
+    let us = groupC air false false .bits (v .users) in
+    let ms = maskedC n .bits (v .masked, v .mask) in
+    let ss = stateC .bits (get part.Interrogation v) in
+    let x = getOptions 0 ofRestriction v in
+    let os = binary 1 (cond (someOf ofRestriction x) 1 0) ++ choose (someOf ofRestriction x) (guard 12 (someOf ofRestriction) (eachC air 0 w ofRestriction)) (pure (noneOf ofRestriction) (λ y. not (someOf ofRestriction y))) .bits x in
+    let shut : length os ≤ 1 = rw none (omega (arith, length-append (binary 1 0) [], length-binary 1 0)) in
+    omega (
+      arith,
+      length-append (us ++ (ms ++ (ss ++ []))) os,
+      length-append us (ms ++ (ss ++ [])),
+      length-append ms (ss ++ []),
+      length-append ss [],
+      group-length air false (v .users),
+      masked-most n (v .masked) (v .mask),
+      state-most (get part.Interrogation v),
+      shut,
+    )
+
+pub interrogate-ack-body : (air : Air) → bodyC air 9 ≡ interrogateAckC air 9
+unfolding bodyC rowOf rowIn table firstParts
+interrogate-ack-body air = refl
+
+-- any other row
+abbrev short : ℕ → Row → Bool
+short t r = cond (eqb t 9) true (leb (mostOfRow r) 1510)
+
+all-short : allRows short table ≡ true
+unfolding table firstParts widthOf widths both
+all-short = refl
+
+none-short : (t : ℕ) → short t noRow ≡ true
+unfolding firstParts
+none-short t = go (eqb t 9)
+  where
+    go : (b : Bool) → cond b true (leb (mostOfRow noRow) 1510) ≡ true
+    go true = refl
+    go false = refl
+
+few-in : (t : ℕ) → eqb t 9 ≡ false → mostOfRow (rowOf t) ≤ 1510
+unfolding rowOf
+few-in t e =
+    leb-true (mostOfRow (rowIn table t)) 1510
+    (ap (λ (b : Bool). cond b true (leb (mostOfRow (rowIn table t)) 1510)) (sym e) ∙ each-row short table t all-short (none-short t))
+
+row-most : (air : Air) (t : ℕ) (v : Value) → eqb t 9 ≡ false → bodyC air t .ok v ≡ true → length (bodyC air t .bits v) ≤ 1510
+unfolding bodyC
+row-most air t v other e =
+    let ps = partsOf (rowOf t) in
+    let qs = optionsOf (rowOf t) in
+    let w = puts ps (gets ps v) (blank t) in
+    let ok = both-right (holdsJust t ps qs v) _ e in
+    omega (
+      arith,
+      few-in t other,
+      length-append (partsC air (blank t) ps .bits (gets ps v)) (optionsC air w qs .bits (getOptions 0 qs v)),
+      parts-most air (blank t) ps (gets ps v) (both-left _ _ ok),
+      options-most air w qs (getOptions 0 qs v) (both-right (partsC air (blank t) ps .ok (gets ps v)) _ ok),
+    )
+
+body-most : (air : Air) (t : ℕ) (v : Value) → bodyC air t .ok v ≡ true → length (bodyC air t .bits v) ≤ 3108
+body-most air t v e = go (eqb t 9) refl
+  where
+    nine : t ≡ 9 → length (bodyC air t .bits v) ≤ 3108
+    nine d =
+        let b = ap (bodyC air) d ∙ interrogate-ack-body air in
+        let k = interrogate-ack-most air 9 v (subst (λ (c : Codec Value). c .ok v ≡ true) b e) in
+        omega (arith, k, ap (λ (c : Codec Value). length (c .bits v)) b)
+
+    go : (b : Bool) → eqb t 9 ≡ b → length (bodyC air t .bits v) ≤ 3108
+    go true d = nine (eqb-true t 9 d)
+    go false d = omega (arith, row-most air t v d e)
+
 -- ---- how long the messages are
 
-header-length : (air : Air) (v : Value) → length (bitsOf air v) ≡ 11 + length (bodyC air (v .pdu) .bits v)
+pub header-length : (air : Air) (v : Value) → length (bitsOf air v) ≡ 11 + length (bodyC air (v .pdu) .bits v)
 unfolding bitsOf messageC headerC number
 header-length air v = simp (length-append, length-binary) refl
 
@@ -267,8 +388,9 @@ header-length air v = simp (length-append, length-binary) refl
 pub message-some : (air : Air) (v : Value) → 11 ≤ length (bitsOf air v)
 message-some air v = omega (arith, header-length air v)
 
--- the longest is an ACTIVATE of 1,521 bits: fifteen users and fifteen dispatchers of kind 2; 2,048 are allowed
-pub message-most : (air : Air) (v : Value) → validOf air v ≡ true → length (bitsOf air v) ≤ 1521
+-- the longest is an INTERROGATE ACK of 3,119 bits: fifteen users with a mask, dispatchers, sources and destinations of kind 2, fifteen areas;
+-- 4,096 are allowed
+pub message-most : (air : Air) (v : Value) → validOf air v ≡ true → length (bitsOf air v) ≤ 3119
 message-most air v ok = omega (arith, header-length air v, body-most air (v .pdu) v (valid-body air v ok))
 
 -- the longest ACK has 789 bits, so 99 bytes: the desk's stand 100 bytes apart

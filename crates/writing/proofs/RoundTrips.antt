@@ -106,10 +106,10 @@ laid-read p v l k =
     let bs = bitsOf (p .air) v in
     let n = length bs in
     let some : 1 ≤ n = omega (arith, message-some (p .air) v) in
-    let most : n ≤ 2048 = omega (arith, message-most (p .air) v (k .valid)) in
+    let most : n ≤ 4096 = omega (arith, message-most (p .air) v (k .valid)) in
     let held : n ≤ 8 * length (layOf l 0 bs) = omega (arith, laid-length l 0 bs, k .room) in
     let st : Stands (bitAt (layOf l 0 bs)) 0 bs = laid-message l p v k in
-    rw (k .passes, le-leb 1 n some, le-leb n 2048 most, le-leb n (8 * length (layOf l 0 bs)) held) (stands-read (messageC (p .air)) (good-message (p .air)) (bitAt (layOf l 0 bs)) v (k .valid) st)
+    rw (k .passes, le-leb 1 n some, le-leb n 4096 most, le-leb n (8 * length (layOf l 0 bs)) held) (stands-read (messageC (p .air)) (good-message (p .air)) (bitAt (layOf l 0 bs)) v (k .valid) st)
 
 -- a valid value is written wherever there is room for it
 pub writes : (p : Profile) (v : Value) (l m : List ℕ) (w : Written) → Writes p v l m w → profileOk p ≡ true → validOf (p .air) v ≡ true
@@ -151,12 +151,12 @@ whole-got {A} C f n (got b p) a q e₀ = go (eqb p n) refl e₀
 
 read-was : (p : Profile) (l : List ℕ) (n : ℕ) (v : Value) (q : ℕ) → readOf p l n ≡ got v q → Was p l n v
 unfolding readOf readBits wholeOf lengthOk validOf bitsOf
-read-was p l n v q = go (profileOk p) refl (both (leb 1 n) (both (leb n 2048) (leb n (8 * length l)))) refl
+read-was p l n v q = go (profileOk p) refl (both (leb 1 n) (both (leb n 4096) (leb n (8 * length l)))) refl
   where
     C : Codec Value
     C = messageC (p .air)
 
-    go : (x : Bool) → profileOk p ≡ x → (y : Bool) → both (leb 1 n) (both (leb n 2048) (leb n (8 * length l))) ≡ y
+    go : (x : Bool) → profileOk p ≡ x → (y : Bool) → both (leb 1 n) (both (leb n 4096) (leb n (8 * length l))) ≡ y
         → cond x (cond y (whole C (bitAt l) n) (no (refusal 3))) (no (refusal 1)) ≡ got v q → Was p l n v
     go false ex y ey e = let z : _≡_ {A = ℕ} 0 1 = cc in absurd (omega arith)
     go true ex false ey e = let z : _≡_ {A = ℕ} 0 1 = cc in absurd (omega arith)

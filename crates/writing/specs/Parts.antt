@@ -1,7 +1,8 @@
 -- The bits of a part of a value, and of a row's parts and options. `w` is what those so far make of a blank value.
 use Prim.Native.Nat.{ℕ, zero, suc}
-use mathlib.Core.Bool.{Bool, true, false, _||_}
+use mathlib.Core.Bool.{Bool, true, false, cond, _||_}
 use mathlib.Core.List.{List, [], _∷_, _++_}
+use lib.Dec.{eqb}
 use lib.ListN.{length}
 use Rattle.bits.specs.Puts.{binary}
 use Rattle.profile.specs.declared.Air.{Air}
@@ -12,6 +13,13 @@ use Rattle.message.specs.declared.Part.{Part}
 
 unfoldable pub partBits : Air → Value → Part → Value → List ℕ
 partBits air w p v = partC air w p .bits (get p v)
+
+-- of an INTERROGATE ACK: the reason, where the result is not 1; a number that is there where it is
+abbrev pub whyNotBits : ℕ → ℕ → List ℕ
+whyNotBits r reason = cond (eqb r 1) [] (binary 3 reason)
+
+abbrev pub ifAcceptedBits : ℕ → ℕ → ℕ → List ℕ
+ifAcceptedBits r w n = cond (eqb r 1) (binary w n) []
 
 -- a bit, and these after it if it is 1
 abbrev pub behind : Bool → List ℕ → List ℕ

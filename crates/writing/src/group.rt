@@ -1,6 +1,6 @@
 // A range and its addresses.
 ghost use mathlib.Core.Path.{_≡_};
-ghost use mathlib.Core.Bool.{true};
+ghost use mathlib.Core.Bool.{true, false};
 ghost use Prim.Native.Nat.{min};
 ghost use Rattle.message.specs.Groups.{placesC, groupC};
 ghost use Rattle.writing.specs.Wrote.{Wrote};
@@ -10,9 +10,9 @@ use message::Address;
 use message::Group;
 use profile::Air;
 
-// Users and dispatchers are written alike.
+// All groups of addresses are written alike.
 pub(crate) fn write_group(air: Air, group: Group, out: &mut [u8], at: usize) -> usize
-    ensures { λ r. ⌜ Wrote (now (out .entry)) (now (out .exit)) at r (groupC air true .bits group) ⌝ }
+    ensures { λ r. ⌜ Wrote (now (out .entry)) (now (out .exit)) at r (groupC air true false .bits group) ⌝ }
 {
     let meanings = air.meanings;
     let list = group.addresses;
@@ -27,7 +27,7 @@ pub(crate) fn write_group(air: Air, group: Group, out: &mut [u8], at: usize) -> 
 
 // The first `count` addresses, the first first; a list has fifteen.
 fn write_places(list: [Address; 15], count: usize, out: &mut [u8], at: usize) -> usize
-    ensures { λ r. ⌜ Wrote (now (out .entry)) (now (out .exit)) at r (placesC count .bits list) ⌝ }
+    ensures { λ r. ⌜ Wrote (now (out .entry)) (now (out .exit)) at r (placesC false count .bits list) ⌝ }
 {
     let many = few(count);
     let mut next = at;
@@ -40,7 +40,7 @@ fn write_places(list: [Address; 15], count: usize, out: &mut [u8], at: usize) ->
     next
 }
 
-fn few(count: usize) -> usize
+pub(crate) fn few(count: usize) -> usize
     ensures { λ r. ⌜ r ≡ min count 15 ⌝ }
 {
     if count < 15 {

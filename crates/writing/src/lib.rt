@@ -1,7 +1,7 @@
 // Writing a message: from a value to bytes and a bit length, or to the refusal that document 01's order gives.
 //
 // `write` and `write_at` equal `writeOf` (specs/Writing) for every profile, value and area: the answer and every byte. The files go
-// from small to large: element, address, group, ack, part, body. Each function writes one codec's bits and answers the next
+// from small to large: element, address, group, area, ack, part, body. Each function writes one codec's bits and answers the next
 // position, whether the area holds them or not; so a first writing into no area gives the length, and 14 comes before any byte is
 // touched. The round trips with `read` are in proofs/RoundTrips.
 ghost use mathlib.Core.Path.{_≡_};
@@ -18,6 +18,7 @@ use profile::Profile;
 
 mod ack;
 mod address;
+mod area;
 mod body;
 mod element;
 mod group;

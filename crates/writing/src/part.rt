@@ -1,11 +1,12 @@
 // One part of a message. `made` is what the parts before it make of a blank value: a mask is as long as the users there say.
 ghost use mathlib.Core.Path.{_≡_};
 ghost use Prim.Native.Nat.{min};
-ghost use Rattle.message.specs.declared.Part.the-variants.{Number, Users, User, Masked, Result, Dispatchers, Dispatcher};
+ghost use Rattle.message.specs.declared.Part.the-variants.{Number, Users, User, Masked, Result, Dispatchers, Dispatcher, Interrogation, Sources, Destinations, Areas};
 ghost use Rattle.writing.specs.Parts.{partBits};
 ghost use Rattle.writing.specs.Wrote.{Wrote};
 use crate::ack;
 use crate::address;
+use crate::area;
 use crate::element;
 use crate::group;
 use message::Part;
@@ -31,6 +32,10 @@ pub(crate) fn write_part(
         Part::Result => result_part(air, made, v, out, at),
         Part::Dispatchers => dispatchers_part(air, made, v, out, at),
         Part::Dispatcher => dispatcher_part(air, made, v, out, at),
+        Part::Interrogation => state_part(air, made, v, out, at),
+        Part::Sources => sources_part(air, made, v, out, at),
+        Part::Destinations => destinations_part(air, made, v, out, at),
+        Part::Areas => areas_part(air, made, v, out, at),
     }
 }
 
@@ -95,4 +100,34 @@ fn dispatcher_part(air: Air, made: Value, v: Value, out: &mut [u8], at: usize) -
 {
     let dispatchers = v.dispatchers;
     address::write_address(message::address_at(dispatchers, 0), out, at)
+}
+
+fn state_part(air: Air, made: Value, v: Value, out: &mut [u8], at: usize) -> usize
+    ensures { λ r. ⌜ Wrote (now (out .entry)) (now (out .exit)) at r (partBits air made Interrogation v) ⌝ }
+{
+    ack::write_state(message::state_in(v), out, at)
+}
+
+fn sources_part(air: Air, made: Value, v: Value, out: &mut [u8], at: usize) -> usize
+    ensures { λ r. ⌜ Wrote (now (out .entry)) (now (out .exit)) at r (partBits air made Sources v) ⌝ }
+{
+    let lists = v.lists;
+    let sources = lists.sources;
+    group::write_group(air, sources, out, at)
+}
+
+fn destinations_part(air: Air, made: Value, v: Value, out: &mut [u8], at: usize) -> usize
+    ensures { λ r. ⌜ Wrote (now (out .entry)) (now (out .exit)) at r (partBits air made Destinations v) ⌝ }
+{
+    let lists = v.lists;
+    let destinations = lists.destinations;
+    group::write_group(air, destinations, out, at)
+}
+
+fn areas_part(air: Air, made: Value, v: Value, out: &mut [u8], at: usize) -> usize
+    ensures { λ r. ⌜ Wrote (now (out .entry)) (now (out .exit)) at r (partBits air made Areas v) ⌝ }
+{
+    let lists = v.lists;
+    let areas = lists.areas;
+    area::write_areas(air, areas, out, at)
 }

@@ -10,11 +10,15 @@ no-group-requires c κs = search needs
 no-group-requires-2 : tie.Need-no-group-requires-2
 no-group-requires-2 c κs = search needs
 
+no-lists-requires : tie.Need-no-lists-requires
+no-lists-requires c κs = search needs
+
 returns : tie.Need-returns
 unfolding blank
 returns c =
-    let p1 = c .before in
-    rw (c .no-group2 .ensures, p1 .no-group .ensures)
+    let p1 = c .before .before in
+    let p2 = c .before in
+    rw (c .no-lists .ensures, p2 .no-group2 .ensures, p1 .no-group .ensures)
 
 pub blank-spec : {M : Type 1} → statement M
-blank-spec = tie.close (tie.spec no-group-requires no-group-requires-2 returns)
+blank-spec = tie.close (tie.spec no-group-requires no-group-requires-2 no-lists-requires returns)

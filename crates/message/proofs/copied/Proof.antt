@@ -51,6 +51,30 @@ enum-told-6 c = search needs
 dispatcher-requires : tie.Need-dispatcher-requires
 dispatcher-requires c κs = search needs
 
+enum-told-7 : tie.Need-enum-told-7
+enum-told-7 c = search needs
+
+state-requires : tie.Need-state-requires
+state-requires c κs = search needs
+
+enum-told-8 : tie.Need-enum-told-8
+enum-told-8 c = search needs
+
+sources-requires : tie.Need-sources-requires
+sources-requires c κs = search needs
+
+enum-told-9 : tie.Need-enum-told-9
+enum-told-9 c = search needs
+
+destinations-requires : tie.Need-destinations-requires
+destinations-requires c κs = search needs
+
+enum-told-10 : tie.Need-enum-told-10
+enum-told-10 c = search needs
+
+areas-requires : tie.Need-areas-requires
+areas-requires c κs = search needs
+
 returns : tie.Need-returns
 returns c =
     let p1 = c .before in
@@ -87,6 +111,26 @@ returns-8 c =
     let p1 = c .before in
     rw (p1 .enum-told6 .given .1) (c .dispatcher .ensures)
 
+returns-9 : tie.Need-returns-9
+returns-9 c =
+    let p1 = c .before in
+    rw (p1 .enum-told7 .given .1) (c .state .ensures)
+
+returns-10 : tie.Need-returns-10
+returns-10 c =
+    let p1 = c .before in
+    rw (p1 .enum-told8 .given .1) (c .sources .ensures)
+
+returns-11 : tie.Need-returns-11
+returns-11 c =
+    let p1 = c .before in
+    rw (p1 .enum-told9 .given .1) (c .destinations .ensures)
+
+returns-12 : tie.Need-returns-12
+returns-12 c =
+    let p1 = c .before in
+    rw (p1 .enum-told10 .given .1) (c .areas .ensures)
+
 pub copied-spec : {M : Type 1} → statement M
 copied-spec =
     tie.close
@@ -107,6 +151,14 @@ copied-spec =
     dispatchers-requires
     enum-told-6
     dispatcher-requires
+    enum-told-7
+    state-requires
+    enum-told-8
+    sources-requires
+    enum-told-9
+    destinations-requires
+    enum-told-10
+    areas-requires
     returns
     returns-2
     returns-3
@@ -114,4 +166,8 @@ copied-spec =
     returns-5
     returns-6
     returns-7
-    returns-8)
+    returns-8
+    returns-9
+    returns-10
+    returns-11
+    returns-12)

@@ -5,24 +5,25 @@ use lib.ListN.{length}
 use borrow.Author.Needs.{needs}
 use Rattle.bits.specs.Fields.{bitAt}
 use Rattle.codec.specs.Codec.{vecRead}
-use Rattle.message.specs.Addresses.{addressC}
-use Rattle.message.specs.Groups.{nobodies, placesC}
+use Rattle.message.specs.Addresses.{nobody, isNobody, addressC}
+use Rattle.message.specs.Groups.{placesC}
 use Rattle.reading.proofs.ReadLaws.{fill, start, turn, turn-stop, turns-end}
 use Rattle.reading.specs.Answers.{addressOf, placesOf}
 use Rattle.reading.proofs.group.read_places.Statement.{statement}
 use Rattle.reading.proofs.group.read_places.Tie as tie
 
 abbrev Inv-loop : tie.InvT-loop
-Inv-loop count buf bits at list₀ next₀ i₀ list next i =
+Inv-loop external count buf bits at list₀ next₀ i₀ list next i =
     (i ≤ count)
-    × ((length list ≡ 15) × (placesOf (placesC count .read (bitAt buf) bits at) ≡ fill list i (vecRead addressC (count - i) (bitAt buf) bits next)))
+    × ((length list ≡ 15)
+    × (placesOf (placesC external count .read (bitAt buf) bits at) ≡ fill placesOf (addressC external) list i (vecRead (addressC external) (count - i) (bitAt buf) bits next)))
 
 abbrev μ-loop : tie.MeasureT-loop
-μ-loop count buf bits at list₀ next₀ i₀ list next i = count - i
+μ-loop external count buf bits at list₀ next₀ i₀ list next i = count - i
 
 loop-holds : tie.Need-loop-holds Inv-loop μ-loop
-unfolding nobodies
-loop-holds c = (search needs, (search needs, start _ _ _ _))
+unfolding placesC
+loop-holds c = (search needs, (search needs, start placesOf (addressC _) _ _ _ _ nobody isNobody))
 
 read-address-requires : tie.Need-read-address-requires Inv-loop μ-loop
 read-address-requires c κs = search needs
@@ -38,7 +39,7 @@ returns c =
     let k = c .before in
     let l = k .before .before .before .before .before in
     rw (c .no-places .ensures)
-    (sym (l .loop .inv .1 .1 ∙ turn-stop _ _ _ _ _ _ (search needs) _ (sym (k .before .before .before .read-address .ensures) ∙ ap addressOf (k .before .s .given .1))))
+    (sym (l .loop .inv .1 .1 ∙ turn-stop placesOf _ _ _ _ _ _ _ (search needs) _ (sym (k .before .before .before .read-address .ensures) ∙ ap addressOf (k .before .s .given .1))))
 
 enum-known-a : tie.Need-enum-known-a Inv-loop μ-loop
 enum-known-a c = search needs
@@ -61,7 +62,7 @@ loop-again c =
       search needs,
       (
         search needs,
-        t .before .before .loop .inv .1 .1 ∙ turn _ _ _ _ _ _ (search needs) _ _ (sym (t .read-address .ensures) ∙ ap addressOf (c .before .a .given .1)),
+        t .before .before .loop .inv .1 .1 ∙ turn placesOf _ _ _ _ _ _ _ (search needs) _ _ (sym (t .read-address .ensures) ∙ ap addressOf (c .before .a .given .1)),
       ),
     )
 
@@ -69,7 +70,8 @@ no-stop-requires : tie.Need-no-stop-requires Inv-loop μ-loop
 no-stop-requires c κs = search needs
 
 returns-2 : tie.Need-returns-2 Inv-loop μ-loop
-returns-2 c = rw (c .no-stop .ensures) (sym (c .before .before .loop .inv .1 .1 ∙ turns-end _ _ _ _ _ _ (search needs)))
+unfolding placesOf
+returns-2 c = rw (c .no-stop .ensures) (sym (c .before .before .loop .inv .1 .1 ∙ turns-end placesOf _ _ _ _ _ _ _ (search needs)))
 
 pub read-places-spec : {M : Type 1} → statement M
 read-places-spec =

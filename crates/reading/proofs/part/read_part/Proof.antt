@@ -52,6 +52,30 @@ enum-told-6 c = search needs
 dispatcher-part-requires : tie.Need-dispatcher-part-requires
 dispatcher-part-requires c κs = search needs
 
+enum-told-7 : tie.Need-enum-told-7
+enum-told-7 c = search needs
+
+state-part-requires : tie.Need-state-part-requires
+state-part-requires c κs = search needs
+
+enum-told-8 : tie.Need-enum-told-8
+enum-told-8 c = search needs
+
+sources-part-requires : tie.Need-sources-part-requires
+sources-part-requires c κs = search needs
+
+enum-told-9 : tie.Need-enum-told-9
+enum-told-9 c = search needs
+
+destinations-part-requires : tie.Need-destinations-part-requires
+destinations-part-requires c κs = search needs
+
+enum-told-10 : tie.Need-enum-told-10
+enum-told-10 c = search needs
+
+areas-part-requires : tie.Need-areas-part-requires
+areas-part-requires c κs = search needs
+
 returns : tie.Need-returns
 returns c = rw (c .carried .ensures, c .before .enum-told .given .1, nothing-read _ _ _ _ _)
 
@@ -86,6 +110,26 @@ returns-8 c =
     let p1 = c .before in
     rw (p1 .enum-told6 .given .1) (c .dispatcher-part .ensures)
 
+returns-9 : tie.Need-returns-9
+returns-9 c =
+    let p1 = c .before in
+    rw (p1 .enum-told7 .given .1) (c .state-part .ensures)
+
+returns-10 : tie.Need-returns-10
+returns-10 c =
+    let p1 = c .before in
+    rw (p1 .enum-told8 .given .1) (c .sources-part .ensures)
+
+returns-11 : tie.Need-returns-11
+returns-11 c =
+    let p1 = c .before in
+    rw (p1 .enum-told9 .given .1) (c .destinations-part .ensures)
+
+returns-12 : tie.Need-returns-12
+returns-12 c =
+    let p1 = c .before in
+    rw (p1 .enum-told10 .given .1) (c .areas-part .ensures)
+
 pub read-part-spec : {M : Type 1} → statement M
 read-part-spec =
     tie.close
@@ -106,6 +150,14 @@ read-part-spec =
     dispatchers-part-requires
     enum-told-6
     dispatcher-part-requires
+    enum-told-7
+    state-part-requires
+    enum-told-8
+    sources-part-requires
+    enum-told-9
+    destinations-part-requires
+    enum-told-10
+    areas-part-requires
     returns
     returns-2
     returns-3
@@ -113,4 +165,8 @@ read-part-spec =
     returns-5
     returns-6
     returns-7
-    returns-8)
+    returns-8
+    returns-9
+    returns-10
+    returns-11
+    returns-12)

@@ -4,13 +4,14 @@ use mathlib.Core.Path.{_≡_, refl, sym, _∙_}
 use native.Mathlib.Omega.{arith}
 use lib.ListN.{length, drop}
 use borrow.Author.Needs.{needs}
-use Rattle.message.specs.Groups.{areNobody}
+use Rattle.message.specs.Addresses.{nobody, isNobody}
+use Rattle.message.specs.Groups.{areNone}
 use Rattle.validity.proofs.ValidLaws.{rest-more, rest-not, rest-end}
 use Rattle.validity.proofs.group.rest_zero.Statement.{statement}
 use Rattle.validity.proofs.group.rest_zero.Tie as tie
 
 abbrev Inv-loop : tie.InvT-loop
-Inv-loop count list i₀ i = (i ≤ 15) × ((length list ≡ 15) × (areNobody (15 - count) (drop count list) ≡ areNobody (15 - i) (drop i list)))
+Inv-loop count list i₀ i = (i ≤ 15) × ((length list ≡ 15) × (areNone isNobody (15 - count) (drop count list) ≡ areNone isNobody (15 - i) (drop i list)))
 
 abbrev μ-loop : tie.MeasureT-loop
 μ-loop count list i₀ i = 15 - i
@@ -38,20 +39,20 @@ loop-again c =
     let k = c .before in
     let l = k .before .before .before in
     let s = l .before in
-    (search needs, (search needs, l .loop .inv .1 .1 ∙ rest-more (s .args .t1) (l .loop .i) (omega arith) (omega arith) (sym (k .is-nobody .ensures) ∙ c .if1 .taken)))
+    (search needs, (search needs, l .loop .inv .1 .1 ∙ rest-more nobody isNobody (s .args .t1) (l .loop .i) (omega arith) (omega arith) (sym (k .is-nobody .ensures) ∙ c .if1 .taken)))
 
 returns : tie.Need-returns Inv-loop μ-loop
 returns c =
     let k = c .before in
     let l = k .before .before .before in
     let s = l .before in
-    sym (l .loop .inv .1 .1 ∙ rest-not (s .args .t1) (l .loop .i) (omega arith) (omega arith) (sym (k .is-nobody .ensures) ∙ c .if1 .left))
+    sym (l .loop .inv .1 .1 ∙ rest-not nobody isNobody (s .args .t1) (l .loop .i) (omega arith) (omega arith) (sym (k .is-nobody .ensures) ∙ c .if1 .left))
 
 returns-2 : tie.Need-returns-2 Inv-loop μ-loop
 returns-2 c =
     let l = c .before in
     let s = l .before in
-    sym (l .loop .inv .1 .1 ∙ rest-end (s .args .t1) (l .loop .i) (omega arith) (omega arith))
+    sym (l .loop .inv .1 .1 ∙ rest-end nobody isNobody (s .args .t1) (l .loop .i) (omega arith) (omega arith))
 
 pub rest-zero-spec : {M : Type 1} → statement M
 rest-zero-spec =

@@ -49,6 +49,30 @@ enum-told-6 c = search needs
 dispatcher-ok-requires : tie.Need-dispatcher-ok-requires
 dispatcher-ok-requires c κs = search needs
 
+enum-told-7 : tie.Need-enum-told-7
+enum-told-7 c = search needs
+
+state-ok-requires : tie.Need-state-ok-requires
+state-ok-requires c κs = search needs
+
+enum-told-8 : tie.Need-enum-told-8
+enum-told-8 c = search needs
+
+sources-ok-requires : tie.Need-sources-ok-requires
+sources-ok-requires c κs = search needs
+
+enum-told-9 : tie.Need-enum-told-9
+enum-told-9 c = search needs
+
+destinations-ok-requires : tie.Need-destinations-ok-requires
+destinations-ok-requires c κs = search needs
+
+enum-told-10 : tie.Need-enum-told-10
+enum-told-10 c = search needs
+
+areas-ok-requires : tie.Need-areas-ok-requires
+areas-ok-requires c κs = search needs
+
 returns : tie.Need-returns
 returns c = rw (c .enum-told .given .1) (nothing-ok _ _ _)
 
@@ -83,6 +107,26 @@ returns-8 c =
     let p1 = c .before in
     rw (p1 .enum-told6 .given .1) (c .dispatcher-ok .ensures)
 
+returns-9 : tie.Need-returns-9
+returns-9 c =
+    let p1 = c .before in
+    rw (p1 .enum-told7 .given .1) (c .state-ok .ensures)
+
+returns-10 : tie.Need-returns-10
+returns-10 c =
+    let p1 = c .before in
+    rw (p1 .enum-told8 .given .1) (c .sources-ok .ensures)
+
+returns-11 : tie.Need-returns-11
+returns-11 c =
+    let p1 = c .before in
+    rw (p1 .enum-told9 .given .1) (c .destinations-ok .ensures)
+
+returns-12 : tie.Need-returns-12
+returns-12 c =
+    let p1 = c .before in
+    rw (p1 .enum-told10 .given .1) (c .areas-ok .ensures)
+
 pub part-ok-spec : {M : Type 1} → statement M
 part-ok-spec =
     tie.close
@@ -102,6 +146,14 @@ part-ok-spec =
     dispatchers-ok-requires
     enum-told-6
     dispatcher-ok-requires
+    enum-told-7
+    state-ok-requires
+    enum-told-8
+    sources-ok-requires
+    enum-told-9
+    destinations-ok-requires
+    enum-told-10
+    areas-ok-requires
     returns
     returns-2
     returns-3
@@ -109,4 +161,8 @@ part-ok-spec =
     returns-5
     returns-6
     returns-7
-    returns-8)
+    returns-8
+    returns-9
+    returns-10
+    returns-11
+    returns-12)

@@ -36,7 +36,7 @@ returns : tie.Need-returns Inv-loop μ-loop
 returns c =
     let l = c .before .before in
     let a = l .before .args in
-    sym (l .loop .inv .1 .1 .1 ∙ numbers-not (a .t1) (a .t2) (search needs) (search needs) (l .loop .i) (search needs) (c .if1 .taken))
+    sym (l .loop .inv .1 .1 .1 ∙ numbers-not 12 (a .t1) (a .t2) (search needs) (search needs) (l .loop .i) (search needs) (c .if1 .taken))
 
 loop-less : tie.Need-loop-less Inv-loop μ-loop
 loop-less c = search needs
@@ -45,13 +45,13 @@ loop-again : tie.Need-loop-again Inv-loop μ-loop
 loop-again c =
     let l = c .before .before in
     let a = l .before .args in
-    (search needs, (search needs, (search needs, l .loop .inv .1 .1 .1 ∙ numbers-more (a .t1) (a .t2) (search needs) (search needs) (l .loop .i) (search needs) (c .if1 .left))))
+    (search needs, (search needs, (search needs, l .loop .inv .1 .1 .1 ∙ numbers-more 12 (a .t1) (a .t2) (search needs) (search needs) (l .loop .i) (search needs) (c .if1 .left))))
 
 returns-2 : tie.Need-returns-2 Inv-loop μ-loop
 returns-2 c =
     let l = c .before in
     let a = l .before .args in
-    sym (l .loop .inv .1 .1 .1 ∙ numbers-end (a .t1) (a .t2) (search needs) (search needs) (l .loop .i) (search needs))
+    sym (l .loop .inv .1 .1 .1 ∙ numbers-end 12 (a .t1) (a .t2) (search needs) (search needs) (l .loop .i) (search needs))
 
 pub same-numbers-spec : {M : Type 1} → statement M
 same-numbers-spec =

@@ -22,28 +22,44 @@ same-bools-requires c κs = search needs
 same-group-requires : tie.Need-same-group-requires
 same-group-requires c κs = search needs
 
+same-lists-requires : tie.Need-same-lists-requires
+same-lists-requires c κs = search needs
+
 returns-2 : tie.Need-returns-2
 unfolding both
 returns-2 c =
-    let p1 = c .before .before .before .before .before .before .before .before .before .before .before in
-    let p2 = c .before .before .before .before .before .before .before .before .before .before in
-    let p3 = c .before .before .before .before .before .before .before in
-    let p4 = c .before .before .before .before in
-    let p5 = c .before .before .before in
-    rw (sym (p1 .same-bool .ensures) ∙ p2 .if1 .taken, eq-eqb _ _ (p3 .if2 .left), sym (p4 .same-bools .ensures) ∙ p5 .if3 .taken) (c .same-group .ensures)
+    let p1 = c .before .before .before .before .before .before .before .before .before .before .before .before .before .before .before in
+    let p2 = c .before .before .before .before .before .before .before .before .before .before .before .before .before .before in
+    let p3 = c .before .before .before .before .before .before .before .before .before .before .before in
+    let p4 = c .before .before .before .before .before .before .before .before in
+    let p5 = c .before .before .before .before .before .before .before in
+    let p6 = c .before .before .before .before in
+    let p7 = c .before .before .before in
+    rw (sym (p1 .same-bool .ensures) ∙ p2 .if1 .taken, eq-eqb _ _ (p3 .if2 .left), sym (p4 .same-bools .ensures) ∙ p5 .if3 .taken, sym (p6 .same-group .ensures) ∙ p7 .if4 .taken) (c .same-lists .ensures)
 
 returns-3 : tie.Need-returns-3
 unfolding both
 returns-3 c =
+    let p1 = c .before .before .before .before .before .before .before .before .before .before .before .before in
+    let p2 = c .before .before .before .before .before .before .before .before .before .before .before in
+    let p3 = c .before .before .before .before .before .before .before .before in
+    let p4 = c .before .before .before .before .before in
+    let p5 = c .before .before .before .before in
+    let p6 = c .before in
+    rw (sym (p1 .same-bool .ensures) ∙ p2 .if1 .taken, eq-eqb _ _ (p3 .if2 .left), sym (p4 .same-bools .ensures) ∙ p5 .if3 .taken, sym (p6 .same-group .ensures) ∙ c .if4 .left)
+
+returns-4 : tie.Need-returns-4
+unfolding both
+returns-4 c =
     let p1 = c .before .before .before .before .before .before .before .before in
     let p2 = c .before .before .before .before .before .before .before in
     let p3 = c .before .before .before .before in
     let p4 = c .before in
     rw (sym (p1 .same-bool .ensures) ∙ p2 .if1 .taken, eq-eqb _ _ (p3 .if2 .left), sym (p4 .same-bools .ensures) ∙ c .if3 .left)
 
-returns-4 : tie.Need-returns-4
+returns-5 : tie.Need-returns-5
 unfolding both
-returns-4 c =
+returns-5 c =
     let p1 = c .before in
     rw (sym (p1 .same-bool .ensures) ∙ c .if1 .left)
 
@@ -55,6 +71,8 @@ same-rest-spec =
     returns
     same-bools-requires
     same-group-requires
+    same-lists-requires
     returns-2
     returns-3
-    returns-4)
+    returns-4
+    returns-5)

@@ -49,6 +49,30 @@ enum-told-6 c = search needs
 dispatcher-part-requires : tie.Need-dispatcher-part-requires
 dispatcher-part-requires c κs = search needs
 
+enum-told-7 : tie.Need-enum-told-7
+enum-told-7 c = search needs
+
+state-part-requires : tie.Need-state-part-requires
+state-part-requires c κs = search needs
+
+enum-told-8 : tie.Need-enum-told-8
+enum-told-8 c = search needs
+
+sources-part-requires : tie.Need-sources-part-requires
+sources-part-requires c κs = search needs
+
+enum-told-9 : tie.Need-enum-told-9
+enum-told-9 c = search needs
+
+destinations-part-requires : tie.Need-destinations-part-requires
+destinations-part-requires c κs = search needs
+
+enum-told-10 : tie.Need-enum-told-10
+enum-told-10 c = search needs
+
+areas-part-requires : tie.Need-areas-part-requires
+areas-part-requires c κs = search needs
+
 returns : tie.Need-returns
 returns c = rw (c .enum-told .given .1) (wrote-nothing _ _ _ _ _ (search needs))
 
@@ -109,6 +133,42 @@ returns-8 c =
     let p2 = c .before .before in
     rw (p1 .enum-told6 .given .1) (p2 .dispatcher-part .ensures)
 
+same-length-8 : tie.Need-same-length-8
+same-length-8 c = search needs
+
+returns-9 : tie.Need-returns-9
+returns-9 c =
+    let p1 = c .before .before .before .before in
+    let p2 = c .before .before in
+    rw (p1 .enum-told7 .given .1) (p2 .state-part .ensures)
+
+same-length-9 : tie.Need-same-length-9
+same-length-9 c = search needs
+
+returns-10 : tie.Need-returns-10
+returns-10 c =
+    let p1 = c .before .before .before .before in
+    let p2 = c .before .before in
+    rw (p1 .enum-told8 .given .1) (p2 .sources-part .ensures)
+
+same-length-10 : tie.Need-same-length-10
+same-length-10 c = search needs
+
+returns-11 : tie.Need-returns-11
+returns-11 c =
+    let p1 = c .before .before .before .before in
+    let p2 = c .before .before in
+    rw (p1 .enum-told9 .given .1) (p2 .destinations-part .ensures)
+
+same-length-11 : tie.Need-same-length-11
+same-length-11 c = search needs
+
+returns-12 : tie.Need-returns-12
+returns-12 c =
+    let p1 = c .before .before .before .before in
+    let p2 = c .before .before in
+    rw (p1 .enum-told10 .given .1) (p2 .areas-part .ensures)
+
 pub write-part-spec : {M : Type 1} → statement M
 write-part-spec =
     tie.close
@@ -128,6 +188,14 @@ write-part-spec =
     dispatchers-part-requires
     enum-told-6
     dispatcher-part-requires
+    enum-told-7
+    state-part-requires
+    enum-told-8
+    sources-part-requires
+    enum-told-9
+    destinations-part-requires
+    enum-told-10
+    areas-part-requires
     returns
     same-length
     returns-2
@@ -142,4 +210,12 @@ write-part-spec =
     same-length-6
     returns-7
     same-length-7
-    returns-8)
+    returns-8
+    same-length-8
+    returns-9
+    same-length-9
+    returns-10
+    same-length-10
+    returns-11
+    same-length-11
+    returns-12)
