@@ -1,13 +1,13 @@
 -- Which answers each call can give, and that the step's answer is the one that the call's order gives. Assumes nothing.
 use Prim.Native.Nat.{ℕ}
 use mathlib.Core.Path.{_≡_, refl, sym, ap, _∙_}
-use mathlib.Core.Bool.{Bool, true, false, not, cond}
+use mathlib.Core.Bool.{Bool, true, false, not, cond, _&&_, _||_}
 use mathlib.Core.List.{List, [], _∷_}
 use mathlib.Core.Logic.{_⊎_, inl, inr}
 use native.Mathlib.Omega.{arith}
 use lib.Dec.{eqb, leb, ltb}
 use lib.ListN.{length, take}
-use borrow.Author.Tests.{eqb-true, le-leb, leb-true}
+use borrow.Author.Tests.{eqb-true, le-leb, lt-leb, leb-true}
 use Rattle.codec.specs.Codec.{Read, got, no, both}
 use Rattle.codec.specs.Stops.{refusal, published}
 use Rattle.codec.specs.declared.Stop.{Stop}
@@ -25,7 +25,7 @@ use Rattle.records.specs.declared.Party.{Party}
 use Rattle.records.specs.declared.Record.{Record}
 use Rattle.desk.specs.Desks.{deskOk}
 use Rattle.desk.specs.Grounds.{waits, waitsHere}
-use Rattle.desk.specs.Orders.{unless, postsOf, placesOf, namesDispatchers, markingAnswer, interrogateAnswer, endAnswer, moveAnswer, acceptAnswer, decideAnswer, sentAnswer, readAnswer, messageAnswer, identifierOk, setUpOk, admitAnswer, partyAnswer, setUpAnswer, rejectAnswer, postAt, cancelAnswer, eventAnswer, answerOf}
+use Rattle.desk.specs.Orders.{unless, postsOf, placesOf, namesDispatchers, markingAnswer, hasOne, interrogateAnswer, endAnswer, moveAnswer, acceptAnswer, decideAnswer, sentAnswer, readAnswer, messageAnswer, identifierOk, setUpOk, admitAnswer, partyAnswer, setUpAnswer, rejectAnswer, postAt, cancelAnswer, eventAnswer, answerOf}
 use Rattle.desk.specs.Steps.{Spoken, askedOf, spokenOf, plainStep, acksStep, isAcks, stepBy, postOf, stepOf}
 use Rattle.desk.specs.declared.Answer.{Answer}
 use Rattle.desk.specs.declared.Answer.the-variants as answer
@@ -73,7 +73,7 @@ Marking v = (v .pdu ≡ 2) ⊎ (v .pdu ≡ 4)
 module _ (d : Desk) (rows : List Record) (n room post : ℕ) (v : Value) (P : Answer → Type 0) where
   -- what holds of each type's answer holds of the answer
   pub by-type : ((given : Bool) → Marking v → P (markingAnswer d rows n room given))
-      → P (interrogateAnswer d rows n post v)
+      → (v .pdu ≡ 8 → P (interrogateAnswer d rows n room post v))
       → P (decideAnswer d room post (identifierIn v) (acceptAnswer d (placeOf (placesOf d) (identifierIn v) .place)))
       → P (decideAnswer d room post (identifierIn v) answer.Diverted)
       → (v .pdu ≡ 17 → P (decideAnswer d room post (identifierIn v) answer.Rejected))
@@ -81,7 +81,7 @@ module _ (d : Desk) (rows : List Record) (n room post : ℕ) (v : Value) (P : An
       → P (sentAnswer d rows n room post v)
   unfolding sentAnswer
   by-type marking interrogate accept divert reject other =
-      arm 2 (λ e. marking (namesDispatchers (d .profile .air) v) (inl e)) (arm 4 (λ e. marking false (inr e)) (arm 8 (λ _. interrogate) (arm 12 (λ _. accept) (arm 15 (λ _. divert) (arm 17 reject other)))))
+      arm 2 (λ e. marking (namesDispatchers (d .profile .air) v) (inl e)) (arm 4 (λ e. marking false (inr e)) (arm 8 interrogate (arm 12 (λ _. accept) (arm 15 (λ _. divert) (arm 17 reject other)))))
     where
       arm : (t : ℕ) {x y : Answer} → (v .pdu ≡ t → P x) → P y → P (cond (eqb (v .pdu) t) x y)
       arm t {x} {y} p q = go (eqb (v .pdu) t) refl
@@ -94,22 +94,37 @@ module _ (d : Desk) (rows : List Record) (n room post : ℕ) (v : Value) (P : An
 
 -- the table's numbers past 1, which comes before every call's own order
 unfoldable pub pastOne : ℕ → Bool
-pastOne c = both (leb 2 c) (leb c 22)
+pastOne c = both (leb 2 c) (leb c 22) || both (leb 26 c) (leb c 27)
 
 pub past-published : (c : ℕ) → pastOne c ≡ true → published c ≡ true
 unfolding pastOne published
-past-published c e =
-    let low = leb-true 2 c (both-left _ _ e) in
-    let high = leb-true c 22 (both-right (leb 2 c) _ e) in
-    rw (le-leb 1 c (omega arith), le-leb c 24 (omega arith))
+past-published c e = go (both (leb 2 c) (leb c 22)) refl e
+  where
+    go : (b : Bool) → both (leb 2 c) (leb c 22) ≡ b → b || both (leb 26 c) (leb c 27) ≡ true → (leb 1 c && leb c 24) || (leb 26 c && leb c 27) ≡ true
+    go true t _ =
+        let low = leb-true 2 c (both-left _ _ t) in
+        let high = leb-true c 22 (both-right (leb 2 c) _ t) in
+        rw (le-leb 1 c (omega arith), le-leb c 24 (omega arith))
+    go false _ z =
+        let low = leb-true 26 c (both-left _ _ z) in
+        let high = leb-true c 27 (both-right (leb 26 c) _ z) in
+        rw (le-leb 1 c (omega arith), lt-leb c 24 (omega arith), le-leb 26 c low, le-leb c 27 high)
+
+twenty-seven : both (leb 2 27) (leb 27 22) || both (leb 26 27) (leb 27 27) ≡ true
+unfolding both
+twenty-seven = refl
 
 reading-past : (c : ℕ) → isReading c ≡ true → pastOne c ≡ true
 unfolding isReading pastOne
-reading-past c e =
-    let b = both-left (both (leb 3 c) (leb c 13)) _ e in
-    let low = leb-true 3 c (both-left _ _ b) in
-    let high = leb-true c 13 (both-right (leb 3 c) _ b) in
-    both-true _ _ (le-leb 2 c (omega arith)) (le-leb c 22 (omega arith))
+reading-past c e = go (both (both (leb 3 c) (leb c 13)) (not (eqb c 8))) refl e
+  where
+    go : (b : Bool) → both (both (leb 3 c) (leb c 13)) (not (eqb c 8)) ≡ b → b || eqb c 27 ≡ true → both (leb 2 c) (leb c 22) || both (leb 26 c) (leb c 27) ≡ true
+    go true t _ =
+        let b = both-left (both (leb 3 c) (leb c 13)) _ t in
+        let low = leb-true 3 c (both-left _ _ b) in
+        let high = leb-true c 13 (both-right (leb 3 c) _ b) in
+        rw (both-true _ _ (le-leb 2 c (omega arith)) (le-leb c 22 (omega arith)))
+    go false _ z = rw (eqb-true c 27 z) twenty-seven
 
 module _ (ok : Answer → Bool) (refused : (s : Stop) → pastOne (s .number) ≡ true → ok (answer.Refused s) ≡ true) where
   unless-ok : (b : Bool) (c : ℕ) (a : Answer) → pastOne c ≡ true → ok a ≡ true → ok (unless b c a) ≡ true
@@ -170,7 +185,7 @@ module _ (ok : Answer → Bool) (refused : (s : Stop) → pastOne (s .number) �
           (λ given _.
           unless-ok (ltb room 300) 14 _ refl
           (unless-ok (not (recordsOk rows n (postsOf d))) 15 _ refl (unless-ok given 21 answer.Acks refl acks)))
-          (unless-ok (not (recordsOk rows n (postsOf d))) 15 _ refl (state _))
+          (λ _. unless-ok (ltb room 300) 14 _ refl (unless-ok (not (recordsOk rows n (postsOf d))) 15 _ refl (unless-ok (not (hasOne (d .profile .air))) 26 _ refl (state _))))
           (decide-ok room post (identifierIn v) _ (accept-ok _ proceed moved))
           (decide-ok room post (identifierIn v) answer.Diverted diverted)
           (λ _. decide-ok room post (identifierIn v) answer.Rejected rejected)

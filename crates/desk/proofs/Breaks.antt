@@ -69,7 +69,7 @@ module _ (d : Desk) (rows : List Record) (n : ℕ) (l : List ℕ) (room : ℕ) w
   type-others post v =
       others-cond (eqb (v .pdu) 2) _ _ (plain-refusal 14 refl, (plain-refusal 15 refl, (plain-refusal 21 refl, tt)))
       (others-cond (eqb (v .pdu) 4) _ _ (plain-refusal 14 refl, (plain-refusal 15 refl, tt))
-      (others-cond (eqb (v .pdu) 8) _ _ (plain-refusal 15 refl, tt)
+      (others-cond (eqb (v .pdu) 8) _ _ (plain-refusal 14 refl, (plain-refusal 15 refl, (plain-refusal 26 refl, tt)))
       (others-cond (eqb (v .pdu) 12) _ _
       (plain-refusal 14 refl, (plain-refusal 19 refl, (plain-refusal 20 refl, others-cond (placeIn (placesOf d) (placeOf (placesOf d) (identifierIn v) .place) .more) _ _ (plain-refusal 18 refl, tt) tt)))
       (others-cond (eqb (v .pdu) 15) _ _ (plain-refusal 14 refl, (plain-refusal 19 refl, (plain-refusal 20 refl, tt)))

@@ -17,9 +17,10 @@ use Rattle.profile.specs.Sample.{sample, sampleMeanings, sampleShare}
 use Rattle.message.specs.Elements as element
 use Rattle.message.specs.Addresses.{kindC, extensionC, addressC}
 use Rattle.message.specs.Groups.{addressesIn, allowedIn, nobodies, placesC, rangeOk, endsOk, addressesC, rangeC, groupC, noGroup, oneGroup, spanIn, spanOf}
-use Rattle.message.specs.Acks.{maskC, maskedC, resultC}
+use Rattle.message.specs.Areas.{areaPlacesC, rises, areaListC, areasC, noAreas}
+use Rattle.message.specs.Acks.{maskC, maskedC, resultC, whyNotC, ifAcceptedC, stateC}
 use Rattle.message.specs.Numbers.{elements, elementOf, widths, widthOf}
-use Rattle.message.specs.Values.{blank}
+use Rattle.message.specs.Values.{blank, noLists}
 use Rattle.message.specs.Rows as row
 use Rattle.message.specs.Rows.{table, rowIn, partsC, puts, gets, eachC, optionsC, putOptions, getOptions, firstParts}
 use Rattle.message.specs.Messages.{bodyC, isKnown, isCarried, headerC, messageC}
@@ -200,5 +201,5 @@ cases =
     ∷ []
 
 pub cases-right : list.map gives cases ≡ list.map wants cases
-unfolding bitAt fieldAt withDigit binary setBit putBits spare both number vecRead flag every sum meaningOk meaningIn airOk shareOk shareIn sharesOk profileOk sample sampleMeanings sampleShare kindC extensionC addressC addressesIn allowedIn nobodies placesC rangeOk endsOk addressesC rangeC groupC noGroup oneGroup spanIn spanOf maskC maskedC resultC elements elementOf widths widthOf blank ackV table rowIn row.rowOf partsC puts gets eachC optionsC putOptions getOptions firstParts bodyC isKnown isCarried headerC messageC wholeOf lengthOk readBits readOf bitsOf padded layOf placeIn noPlaces waitsAt heldOf usedOf freeOf owedOf owedAll owedOthers loadOf admitsOf secondOk callOk apart aloneAt underCeiling placesOk lowestFrom hasCall placeOf lowestFree takeOf clearOf moveOf identityOf later identityIn identityAt countOf each identitiesOf rowOf is recordFrom recordOf recordOk allOk recordsOk stateOf restricts partyOf restrictedOf isRestricted postFor secondOf outcomeOf outcomesOf has maskOf someOf sortedOf acceptedOf unmarked nobodyMarked noMarks withMark markAll marksOf layFrom layAll noLaid laidFrom laidOf resultOf reasonOf severalIn ackOf acksOf deskOk namesDispatchers markingAnswer endAnswer moveAnswer acceptAnswer decideAnswer sentAnswer messageAnswer partyOk setUpOk admitAnswer setUpAnswer rejectAnswer cancelAnswer answerOf ackFor setsMark deskAfter plainStep plainArea acksFor acksStep acksArea stepBy areaBy stepOf areaAfter
+unfolding bitAt fieldAt withDigit binary setBit putBits spare both number vecRead flag every sum meaningOk meaningIn airOk shareOk shareIn sharesOk profileOk sample sampleMeanings sampleShare kindC extensionC addressC addressesIn allowedIn nobodies placesC rangeOk endsOk addressesC rangeC groupC noGroup oneGroup spanIn spanOf maskC maskedC resultC elements elementOf widths widthOf areaPlacesC rises areaListC areasC noAreas whyNotC ifAcceptedC stateC noLists blank ackV table rowIn row.rowOf partsC puts gets eachC optionsC putOptions getOptions firstParts bodyC isKnown isCarried headerC messageC wholeOf lengthOk readBits readOf bitsOf padded layOf placeIn noPlaces waitsAt heldOf usedOf freeOf owedOf owedAll owedOthers loadOf admitsOf secondOk callOk apart aloneAt underCeiling placesOk lowestFrom hasCall placeOf lowestFree takeOf clearOf moveOf identityOf later identityIn identityAt countOf each identitiesOf rowOf is recordFrom recordOf recordOk allOk recordsOk stateOf restricts partyOf restrictedOf isRestricted postFor secondOf outcomeOf outcomesOf has maskOf someOf sortedOf acceptedOf unmarked nobodyMarked noMarks withMark markAll marksOf layFrom layAll noLaid laidFrom laidOf resultOf reasonOf severalIn ackOf acksOf deskOk namesDispatchers markingAnswer endAnswer moveAnswer acceptAnswer decideAnswer sentAnswer messageAnswer partyOk setUpOk admitAnswer setUpAnswer rejectAnswer cancelAnswer answerOf ackFor setsMark deskAfter plainStep plainArea acksFor acksStep acksArea stepBy areaBy stepOf areaAfter
 cases-right = refl

@@ -67,7 +67,7 @@ waits-first d identifier e = place-of-exactly (placesOf d) identifier _ (spot-fo
 
 -- an answer that ends a call frees its place
 ended-is : (d : Desk) (s : Spoken) (place : ℕ) (a : Answer) (x : Laid) → effectBy s a ≡ ends (s .identifier) → place ≡ placeOf (placesOf d) (s .identifier) .place
-    → x ≡ laidOf (d .profile .air) (messagesBy (placesOf d) s a) → endedStep d place a x ≡ plainStep d s a
+    → x ≡ laidOf (d .profile .air) (messagesBy d s a) → endedStep d place a x ≡ plainStep d s a
 unfolding endedStep plainStep deskAfter
 ended-is d s place a x e h z = rw (e, h, z) refl
 
@@ -149,12 +149,12 @@ module _ (d : Desk) (post identifier : ℕ) (s : Spot) (z : s ≡ placeOf (place
 
 pub decided : (d : Desk) (s : Spoken) (place : ℕ) (a b : Answer) (x : Laid) (r : Stepped) (l m : List ℕ) → b ≡ a → effectBy s a ≡ ends (s .identifier)
     → place ≡ placeOf (placesOf d) (s .identifier) .place
-    → (x ≡ laidOf (d .profile .air) (messagesBy (placesOf d) s a)) × (m ≡ layAll (d .profile .air) l (messagesBy (placesOf d) s a)) → r ≡ endedStep d place a x
+    → (x ≡ laidOf (d .profile .air) (messagesBy d s a)) × (m ≡ layAll (d .profile .air) l (messagesBy d s a)) → r ≡ endedStep d place a x
     → (r ≡ plainStep d s b) × (m ≡ plainArea d s l b)
 unfolding plainArea
 decided d s place a b x r l m q e h z w = (
   w ∙ ended-is d s place a x e h (z .0) ∙ ap (λ (y : Answer). plainStep d s y) (sym q),
-  z .1 ∙ ap (λ (y : Answer). layAll (d .profile .air) l (messagesBy (placesOf d) s y)) (sym q),
+  z .1 ∙ ap (λ (y : Answer). layAll (d .profile .air) l (messagesBy d s y)) (sym q),
 )
 
 -- ---- an ACCEPT by the post where the call waits: it proceeds, or moves

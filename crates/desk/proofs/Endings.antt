@@ -14,7 +14,7 @@ use Rattle.records.specs.Records.{recordsOk}
 use Rattle.records.specs.declared.Record.{Record}
 use Rattle.desk.specs.Desks.{deskOk}
 use Rattle.desk.specs.Grounds.{waits}
-use Rattle.desk.specs.Orders.{unless, postsOf, markingAnswer, interrogateAnswer, endAnswer, decideAnswer, sentAnswer, readAnswer, messageAnswer, identifierOk, rejectAnswer, cancelAnswer, eventAnswer, answerOf}
+use Rattle.desk.specs.Orders.{unless, postsOf, markingAnswer, hasOne, interrogateAnswer, endAnswer, decideAnswer, sentAnswer, readAnswer, messageAnswer, identifierOk, rejectAnswer, cancelAnswer, eventAnswer, answerOf}
 use Rattle.desk.specs.Steps.{valueBy, identifierOf, stepOf}
 use Rattle.desk.specs.declared.Answer.{Answer}
 use Rattle.desk.specs.declared.Answer.the-variants as answer
@@ -66,7 +66,7 @@ module _ (d : Desk) where
     sent-not v w =
         by-type d rows n room post v (λ a. isEnding a ≡ false)
         (λ given _. unless-not (ltb room 300) 14 _ (unless-not (not (recordsOk rows n (postsOf d))) 15 _ (unless-not given 21 answer.Acks refl)))
-        (unless-not (not (recordsOk rows n (postsOf d))) 15 _ refl)
+        (λ _. unless-not (ltb room 300) 14 _ (unless-not (not (recordsOk rows n (postsOf d))) 15 _ (unless-not (not (hasOne (d .profile .air))) 26 _ refl)))
         (decide-not room post (identifierIn v) _ w)
         (decide-not room post (identifierIn v) answer.Diverted w)
         (λ _. decide-not room post (identifierIn v) answer.Rejected w)

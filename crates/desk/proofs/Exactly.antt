@@ -33,7 +33,7 @@ use Rattle.validity.specs.Validity.{validOf}
 use Rattle.desk.specs.Desks.{deskOk}
 use Rattle.desk.specs.Grounds.{notSent, waits, waitsHere, noPlaceFor, noPlaceThere, typeOrder, messageOrder, setUpOrder, rejectOrder, cancelOrder, orderOf}
 use Rattle.desk.specs.Numbers.{numberOf, stopOf}
-use Rattle.desk.specs.Orders.{unless, postsOf, placesOf, namesDispatchers, markingAnswer, interrogateAnswer, endAnswer, moveAnswer, acceptAnswer, decideAnswer, sentAnswer, readAnswer, messageAnswer, identifierOk, setUpOk, admitAnswer, partyAnswer, setUpAnswer, rejectAnswer, postAt, cancelAnswer, answerOf}
+use Rattle.desk.specs.Orders.{unless, postsOf, placesOf, namesDispatchers, markingAnswer, hasOne, interrogateAnswer, endAnswer, moveAnswer, acceptAnswer, decideAnswer, sentAnswer, readAnswer, messageAnswer, identifierOk, setUpOk, admitAnswer, partyAnswer, setUpAnswer, rejectAnswer, postAt, cancelAnswer, answerOf}
 use Rattle.desk.specs.declared.Answer.{Answer}
 use Rattle.desk.specs.declared.Answer.the-variants as answer
 use Rattle.desk.specs.declared.Desk.{Desk}
@@ -147,9 +147,10 @@ module _ (d : Desk) (rows : List Record) (n : ℕ) where
     unfolding markingAnswer
     unnamed-first = before (ltb room 300) 14 _ _ (last (not (recordsOk rows n (postsOf d))) 15 answer.Acks refl)
 
-    interrogate-first : stopOf (interrogateAnswer d rows n post v) ≡ firstOf ((refusal 15, not (recordsOk rows n (postsOf d))) ∷ [])
+    interrogate-first : stopOf (interrogateAnswer d rows n room post v)
+        ≡ firstOf ((refusal 14, ltb room 300) ∷ (refusal 15, not (recordsOk rows n (postsOf d))) ∷ (refusal 26, not (hasOne (d .profile .air))) ∷ [])
     unfolding interrogateAnswer
-    interrogate-first = last (not (recordsOk rows n (postsOf d))) 15 _ refl
+    interrogate-first = before (ltb room 300) 14 _ _ (before (not (recordsOk rows n (postsOf d))) 15 _ _ (last (not (hasOne (d .profile .air))) 26 _ refl))
 
     decide-first : (a : Answer) (rest : List Ground) → stopOf a ≡ firstOf rest
         → stopOf (decideAnswer d room post (identifierIn v) a)
@@ -161,7 +162,7 @@ module _ (d : Desk) (rows : List Record) (n : ℕ) where
     abbrev place : ℕ
     place = placeOf (placesOf d) (identifierIn v) .place
 
-    -- the types that are carried are the six that posts send and the eight that they don't
+    -- the types that are carried are the six that posts send and the nine that they don't
     sent-first : isCarried (v .pdu) ≡ true → stopOf (sentAnswer d rows n room post v) ≡ firstOf (notSent v ∷ typeOrder d rows n room post v)
     unfolding sentAnswer firstOf table
     sent-first h =
@@ -180,12 +181,15 @@ module _ (d : Desk) (rows : List Record) (n : ℕ) where
                     (
                       refl,
                       (
-                        decide-first (acceptAnswer d place) (noPlaceThere d place) (accept-first place),
+                        refl,
                         (
-                          refl,
+                          decide-first (acceptAnswer d place) (noPlaceThere d place) (accept-first place),
                           (
                             refl,
-                            (decide-first answer.Diverted [] refl, (refl, (decide-first answer.Rejected [] refl, (refl, tt)))),
+                            (
+                              refl,
+                              (decide-first answer.Diverted [] refl, (refl, (decide-first answer.Rejected [] refl, (refl, tt)))),
+                            ),
                           ),
                         ),
                       ),
@@ -200,13 +204,13 @@ module _ (d : Desk) (rows : List Record) (n : ℕ) where
       where
         By : ℕ → Type 0
         By t =
-            stopOf (cond (eqb t 2) (markingAnswer d rows n room (namesDispatchers (d .profile .air) v)) (cond (eqb t 4) (markingAnswer d rows n room false) (cond (eqb t 8) (interrogateAnswer d rows n post v)
+            stopOf (cond (eqb t 2) (markingAnswer d rows n room (namesDispatchers (d .profile .air) v)) (cond (eqb t 4) (markingAnswer d rows n room false) (cond (eqb t 8) (interrogateAnswer d rows n room post v)
             (cond (eqb t 12) (decideAnswer d room post (identifierIn v) (acceptAnswer d place)) (cond (eqb t 15) (decideAnswer d room post (identifierIn v) answer.Diverted)
             (cond (eqb t 17) (decideAnswer d room post (identifierIn v) answer.Rejected) (answer.Refused (refusal 8))))))))
-            ≡ firstOf ((refusal 8, eqb t 3 || (eqb t 5 || (eqb t 10 || (eqb t 11 || (eqb t 13 || (eqb t 14 || (eqb t 16 || eqb t 18)))))))
+            ≡ firstOf ((refusal 8, eqb t 3 || (eqb t 5 || (eqb t 9 || (eqb t 10 || (eqb t 11 || (eqb t 13 || (eqb t 14 || (eqb t 16 || eqb t 18))))))))
             ∷ cond (eqb t 2) ((refusal 14, ltb room 300) ∷ (refusal 15, not (recordsOk rows n (postsOf d))) ∷ (refusal 21, namesDispatchers (d .profile .air) v) ∷ [])
             (cond (eqb t 4) ((refusal 14, ltb room 300) ∷ (refusal 15, not (recordsOk rows n (postsOf d))) ∷ [])
-            (cond (eqb t 8) ((refusal 15, not (recordsOk rows n (postsOf d))) ∷ [])
+            (cond (eqb t 8) ((refusal 14, ltb room 300) ∷ (refusal 15, not (recordsOk rows n (postsOf d))) ∷ (refusal 26, not (hasOne (d .profile .air))) ∷ [])
             (cond (eqb t 12) ((refusal 14, ltb room 300) ∷ (refusal 19, not (waits d (identifierIn v))) ∷ (refusal 20, not (waitsHere d post (identifierIn v))) ∷ noPlaceThere d place)
             (cond (eqb t 15) ((refusal 14, ltb room 300) ∷ (refusal 19, not (waits d (identifierIn v))) ∷ (refusal 20, not (waitsHere d post (identifierIn v))) ∷ [])
             (cond (eqb t 17) ((refusal 14, ltb room 300) ∷ (refusal 19, not (waits d (identifierIn v))) ∷ (refusal 20, not (waitsHere d post (identifierIn v))) ∷ []) []))))))

@@ -128,10 +128,10 @@ unfolding readOf readBits wholeOf lengthOk both validOf bitsOf
 standing-read p v a passes ok st held =
     let n = length (bitsOf (p .air) v) in
     let some : 1 ≤ n = omega (arith, message-some (p .air) v) in
-    let most : n ≤ 2048 = omega (arith, message-most (p .air) v ok) in
+    let most : n ≤ 4096 = omega (arith, message-most (p .air) v ok) in
     let z : 0 + n ≡ n = omega arith in
     let r : messageC (p .air) .read (bitAt a) n 0 ≡ got v n = good-message (p .air) .forward (bitAt a) n 0 v ok st (omega arith) ∙ ap (λ (q : ℕ). got v q) z in
-    rw (passes, le-leb 1 n some, le-leb n 2048 most, le-leb n (8 * length a) held, r, eq-eqb n n refl) refl
+    rw (passes, le-leb 1 n some, le-leb n 4096 most, le-leb n (8 * length a) held, r, eq-eqb n n refl) refl
 
 module _ (p : Profile) (passes : profileOk p ≡ true) where
   -- a message that was laid is read, whatever was done beyond its 100 bytes

@@ -80,7 +80,7 @@ event-ack p l (event.Reject post identifier) = asked-ack noValue
 event-ack p l (event.Cancel identifier) = asked-ack noValue
 
 -- of good users, in a valid message
-pub marking-users : (air : Air) (v : Value) → validOf air v ≡ true → Marking v → groupC air false .ok (v .users) ≡ true
+pub marking-users : (air : Air) (v : Value) → validOf air v ≡ true → Marking v → groupC air false false .ok (v .users) ≡ true
 unfolding bodyC rowOf rowIn table firstParts
 marking-users air v ok m =
     ⊎-elim (λ e. begins-users air 2 [] (dispatchers ∷ []) v (body 2 e)) (λ e. begins-users air 4 [] [] v (body 4 e)) m
@@ -89,14 +89,14 @@ marking-users air v ok m =
     body t e = subst (λ (u : ℕ). bodyC air u .ok v ≡ true) e (valid-body air v ok)
 
 -- what is taken out of such a message
-pub asked-good : (air : Air) (v : Value) (x : Asked) → x ≡ askedIn v → groupC air false .ok (v .users) ≡ true
-    → (rowOf (x .ack) ≡ ackRow) × (groupC air false .ok (x .users) ≡ true)
-asked-good air v x e ok = (ap (λ (y : Asked). rowOf (y .ack)) e ∙ asked-ack v, subst (λ (y : Asked). groupC air false .ok (y .users) ≡ true) (sym e) ok)
+pub asked-good : (air : Air) (v : Value) (x : Asked) → x ≡ askedIn v → groupC air false false .ok (v .users) ≡ true
+    → (rowOf (x .ack) ≡ ackRow) × (groupC air false false .ok (x .users) ≡ true)
+asked-good air v x e ok = (ap (λ (y : Asked). rowOf (y .ack)) e ∙ asked-ack v, subst (λ (y : Asked). groupC air false false .ok (y .users) ≡ true) (sym e) ok)
 
 -- ---- the ACKs
 
 -- of users that were read, the masks of their outcomes fit
-pub request : (d : Desk) (rows : List Record) (post : ℕ) (asked : Asked) → rowOf (asked .ack) ≡ ackRow → groupC (d .profile .air) false .ok (asked .users) ≡ true
+pub request : (d : Desk) (rows : List Record) (post : ℕ) (asked : Asked) → rowOf (asked .ack) ≡ ackRow → groupC (d .profile .air) false false .ok (asked .users) ≡ true
     → Request (d .profile) (asked .ack) (asked .users) (sortedOf (outcomesOf (d .profile .air) (asked .users) rows post))
 unfolding sortedOf
 request d rows post asked ack ok =
@@ -109,7 +109,7 @@ request d rows post asked ack ok =
     users = asked .users
 
     few : spanOf air users ≤ 64
-    few = few-identities air false users ok
+    few = few-identities air false false users ok
 
     masks : (class : ℕ) → class < 3 → maskC (spanOf air users) .ok (maskAt (sortedOf (outcomesOf air users rows post)) class) ≡ true
     masks zero h = mask-carried air users rows post 0 few
@@ -117,7 +117,7 @@ request d rows post asked ack ok =
     masks (suc (suc zero)) h = mask-carried air users rows post 2 few
     masks (suc (suc (suc k))) h = absurd (omega arith)
 
-pub acks-are : (d : Desk) (rows : List Record) (post : ℕ) (asked : Asked) → profileOk (d .profile) ≡ true → rowOf (asked .ack) ≡ ackRow → groupC (d .profile .air) false .ok (asked .users) ≡ true
+pub acks-are : (d : Desk) (rows : List Record) (post : ℕ) (asked : Asked) → profileOk (d .profile) ≡ true → rowOf (asked .ack) ≡ ackRow → groupC (d .profile .air) false false .ok (asked .users) ≡ true
     → (s : Sorted) (x : Laid) (l m : List ℕ) (marks : Marks) → 300 ≤ length l
     → s ≡ sortedOf (outcomesOf (d .profile .air) (asked .users) rows post)
     → (x ≡ allLaid (d .profile) noLaid l (acksOf (d .profile .air) (asked .ack) (asked .users) s)) × (m ≡ allArea (d .profile) noLaid l (acksOf (d .profile .air) (asked .ack) (asked .users) s))

@@ -17,7 +17,7 @@ use Rattle.records.specs.Records.{recordsOk}
 use Rattle.records.specs.declared.Record.{Record}
 use Rattle.desk.specs.Desks.{deskOk}
 use Rattle.desk.specs.Grounds.{waits, waitsHere}
-use Rattle.desk.specs.Orders.{unless, postsOf, placesOf, markingAnswer, interrogateAnswer, endAnswer, moveAnswer, acceptAnswer, decideAnswer, sentAnswer, readAnswer, messageAnswer, answerOf}
+use Rattle.desk.specs.Orders.{unless, postsOf, placesOf, markingAnswer, hasOne, interrogateAnswer, endAnswer, moveAnswer, acceptAnswer, decideAnswer, sentAnswer, readAnswer, messageAnswer, answerOf}
 use Rattle.desk.specs.Steps.{valueBy, postOf, identifierOf, stepOf}
 use Rattle.desk.specs.declared.Answer.{Answer}
 use Rattle.desk.specs.declared.Answer.the-variants as answer
@@ -120,7 +120,7 @@ module _ (to : ℕ) where
       sent-moved v =
           by-type d rows n room post v (λ a. a ≡ answer.Moved to → MovedCall d (identifierIn v) post to)
           (λ given _ z. not-both (ap isMoved (past given 21 _ (past (not (recordsOk rows n (postsOf d))) 15 _ (past (ltb room 300) 14 _ z .1) .1) .1)))
-          (λ z. not-both (ap isMoved (past (not (recordsOk rows n (postsOf d))) 15 _ z .1)))
+          (λ _ z. not-both (ap isMoved (past (not (hasOne (d .profile .air))) 26 _ (past (not (recordsOk rows n (postsOf d))) 15 _ (past (ltb room 300) 14 _ z .1) .1) .1)))
           (decide-moved room post (identifierIn v))
           (λ z. not-both (sym (decide-never room post (identifierIn v) answer.Diverted refl) ∙ ap isMoved z))
           (λ _ z. not-both (sym (decide-never room post (identifierIn v) answer.Rejected refl) ∙ ap isMoved z))

@@ -14,6 +14,7 @@ use Rattle.codec.specs.Codec.{Read, got, no}
 use Rattle.codec.proofs.Good.{both-left, both-right, not-both}
 use Rattle.profile.specs.Rules.{profileOk}
 use Rattle.profile.specs.declared.Profile.{Profile}
+use Rattle.message.specs.Addresses.{addressC}
 use Rattle.message.specs.Groups.{groupC}
 use Rattle.message.specs.Rows.{ackRow, rowOf}
 use Rattle.message.specs.Values.{identifierIn}
@@ -35,7 +36,7 @@ use Rattle.sending.proofs.SentLaws.{Sends, AllSend}
 use Rattle.sending.proofs.AckLaws.{acks-send, acks-few, intercepted-sends, accepted-sends, diverted-sends}
 use Rattle.desk.specs.Desks.{deskOk}
 use Rattle.desk.specs.Grounds.{waits, waitsHere}
-use Rattle.desk.specs.Orders.{unless, postsOf, placesOf, markingAnswer, interrogateAnswer, endAnswer, moveAnswer, acceptAnswer, decideAnswer, sentAnswer, readAnswer, messageAnswer, identifierOk, setUpOk, admitAnswer, partyAnswer, setUpAnswer, rejectAnswer, postAt, cancelAnswer, eventAnswer, answerOf}
+use Rattle.desk.specs.Orders.{unless, postsOf, placesOf, markingAnswer, hasOne, interrogateAnswer, endAnswer, moveAnswer, acceptAnswer, decideAnswer, sentAnswer, readAnswer, messageAnswer, identifierOk, setUpOk, admitAnswer, partyAnswer, setUpAnswer, rejectAnswer, postAt, cancelAnswer, eventAnswer, answerOf}
 use Rattle.desk.specs.Steps.{Spoken, named, askedIn, saidIn, valueBy, askedOf, spokenOf, messagesBy, plainStep, plainArea, acksFor, acksStep, acksArea, isAcks, stepBy, areaBy, postOf, stepOf, areaAfter}
 use Rattle.desk.specs.Outputs.{messagesFor, sentBy, Unfilled, ReadBack}
 use Rattle.desk.specs.declared.Answer.{Answer}
@@ -48,7 +49,7 @@ use Rattle.desk.proofs.MarkingLaws.{asked-ack, marking-users, request}
 use Rattle.desk.proofs.AnswerLaws.{by-type}
 use Rattle.desk.proofs.EndLaws.{waits-first}
 use Rattle.desk.proofs.Moves.{not-false}
-use Rattle.desk.proofs.NoticeLaws.{request-sends, rejected-sends, cancel-sends, reject-cause}
+use Rattle.desk.proofs.NoticeLaws.{request-sends, rejected-sends, cancel-sends, reject-cause, asked-user, state-sends}
 use Rattle.desk.proofs.SetUpLaws.{setup-identifier, setup-cause}
 use Rattle.desk.proofs.LaidLaws.{laid-count, unfilled-stay, all-length, all-read}
 
@@ -62,7 +63,7 @@ module _ (d : Desk) (rows : List Record) (n : ℕ) (l area : List ℕ) (e : Even
       a : Answer
       a = answerOf d rows n l (length area) e
 
-      go : (b : Bool) → cond b (acksStep d (take n rows) (postOf e) (askedOf (d .profile) l e)) (plainStep d (spokenOf (d .profile) (take n rows) l e) a) .laid ≡ laidOf (d .profile .air) (cond b (acksFor d (take n rows) (postOf e) (askedOf (d .profile) l e)) (messagesBy (placesOf d) (spokenOf (d .profile) (take n rows) l e) a))
+      go : (b : Bool) → cond b (acksStep d (take n rows) (postOf e) (askedOf (d .profile) l e)) (plainStep d (spokenOf (d .profile) (take n rows) l e) a) .laid ≡ laidOf (d .profile .air) (cond b (acksFor d (take n rows) (postOf e) (askedOf (d .profile) l e)) (messagesBy d (spokenOf (d .profile) (take n rows) l e) a))
       go true = refl
       go false = refl
 
@@ -73,7 +74,7 @@ module _ (d : Desk) (rows : List Record) (n : ℕ) (l area : List ℕ) (e : Even
       a : Answer
       a = answerOf d rows n l (length area) e
 
-      go : (b : Bool) → cond b (acksArea d (take n rows) (postOf e) (askedOf (d .profile) l e) area) (plainArea d (spokenOf (d .profile) (take n rows) l e) area a) ≡ layAll (d .profile .air) area (cond b (acksFor d (take n rows) (postOf e) (askedOf (d .profile) l e)) (messagesBy (placesOf d) (spokenOf (d .profile) (take n rows) l e) a))
+      go : (b : Bool) → cond b (acksArea d (take n rows) (postOf e) (askedOf (d .profile) l e) area) (plainArea d (spokenOf (d .profile) (take n rows) l e) area a) ≡ layAll (d .profile .air) area (cond b (acksFor d (take n rows) (postOf e) (askedOf (d .profile) l e)) (messagesBy d (spokenOf (d .profile) (take n rows) l e) a))
       go true = refl
       go false = refl
 
@@ -142,17 +143,27 @@ module _ (d : Desk) (rows : List Record) (post : ℕ) (asked : Asked) (spoken : 
     rejected-fits : 300 ≤ room → spoken .cause < 2 ^ 5 → Fit answer.Rejected
     rejected-fits h k = one-fits (d .profile) room h _ (rejected-sends (d .profile) sound (spoken .cause) k)
 
+    state-fits : 300 ≤ room → hasOne (d .profile .air) ≡ true → addressC false .ok (spoken .user) ≡ true → (k : ℕ) → Fit (answer.State k)
+    state-fits h has good k = one-fits (d .profile) room h _ (state-sends (d .profile) sound (ltb-true _ _ has) (spoken .user) good k)
+
+    interrogate-fits : (all : List Record) (n at : ℕ) (v : Value) → addressC false .ok (spoken .user) ≡ true → Fit (interrogateAnswer d all n room at v)
+    unfolding interrogateAnswer
+    interrogate-fits all n at v good =
+        unless-fits (ltb room 300) 14 _
+        (λ e. plain-fits (not (recordsOk all n (postsOf d))) 15 _
+        (unless-fits (not (hasOne (d .profile .air))) 26 _ (λ w. state-fits (room-is room e) (not-false _ w) good _)))
+
     admitted-fits : 300 ≤ room → spoken .identifier < 2 ^ 14 → spoken .cause < 2 ^ 5 → (at to : ℕ) → Fit (answer.Admitted at to)
     admitted-fits h i k at to =
         record { few = omega arith; sends = (intercepted-sends (d .profile) sound, (request-sends (d .profile) sound (spoken .identifier) (spoken .cause) i k, tt)); room-for = λ z. h }
 
-    acks-fits : 300 ≤ room → rowOf (asked .ack) ≡ ackRow → groupC (d .profile .air) false .ok (asked .users) ≡ true → Fit answer.Acks
+    acks-fits : 300 ≤ room → rowOf (asked .ack) ≡ ackRow → groupC (d .profile .air) false false .ok (asked .users) ≡ true → Fit answer.Acks
     unfolding acksFor
     acks-fits h ack good =
         let r = request d rows post asked ack good in
         record { few = acks-few (d .profile) sound _ _ _ r; sends = acks-send (d .profile) sound _ _ _ r; room-for = λ z. h }
 
-    marking-fits : (all : List Record) (n : ℕ) (given : Bool) → rowOf (asked .ack) ≡ ackRow → groupC (d .profile .air) false .ok (asked .users) ≡ true
+    marking-fits : (all : List Record) (n : ℕ) (given : Bool) → rowOf (asked .ack) ≡ ackRow → groupC (d .profile .air) false false .ok (asked .users) ≡ true
         → Fit (markingAnswer d all n room given)
     unfolding markingAnswer
     marking-fits all n given ack good =
@@ -195,11 +206,10 @@ module _ (d : Desk) (rows : List Record) (post : ℕ) (asked : Asked) (spoken : 
 -- a message that was read, by its type
 module _ (d : Desk) (rows : List Record) (n : ℕ) (room post : ℕ) (ok : deskOk d ≡ true) where
   sent-fits : (v : Value) → validOf (d .profile .air) v ≡ true → Fit d (take n rows) post (askedIn v) (saidIn v) room (sentAnswer d rows n room post v)
-  unfolding interrogateAnswer
   sent-fits v good =
       by-type d rows n room post v Fitting
       (λ given z. marking-fits d (take n rows) post (askedIn v) (saidIn v) room ok rows n given (asked-ack v) (marking-users (d .profile .air) v good z))
-      (plain-fits d (take n rows) post (askedIn v) (saidIn v) room (not (recordsOk rows n (postsOf d))) 15 _ (nothing-fits (d .profile) room))
+      (λ z. interrogate-fits d (take n rows) post (askedIn v) (saidIn v) room ok rows n post v (asked-user (d .profile .air) v good z))
       (decide-fits d (take n rows) post (askedIn v) (saidIn v) room post (identifierIn v) _ (accept-fits d (take n rows) post (askedIn v) (saidIn v) room ok))
       (decide-fits d (take n rows) post (askedIn v) (saidIn v) room post (identifierIn v) answer.Diverted (λ h w. diverted-fits d (take n rows) post (askedIn v) (saidIn v) room ok h))
       (λ z. decide-fits d (take n rows) post (askedIn v) (saidIn v) room post (identifierIn v) answer.Rejected

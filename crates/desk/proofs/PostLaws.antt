@@ -10,9 +10,10 @@ use Rattle.codec.specs.declared.Stop.{Stop}
 use lib.ListN.{take}
 use Rattle.codec.specs.Codec.{Read, got, no}
 use Rattle.codec.proofs.Good.{both-left, not-both}
-use Rattle.profile.specs.Rules.{profileOk}
+use Rattle.profile.specs.Rules.{profileOk, listOfOne}
 use Rattle.message.specs.Groups.{firstOf}
 use Rattle.message.specs.Reading.{readOf}
+use Rattle.message.specs.declared.Address.{Address}
 use Rattle.message.specs.declared.Value.{Value}
 use Rattle.reading.specs.Answers.{readingOf}
 use Rattle.reading.specs.declared.Reading.{Reading}
@@ -20,19 +21,18 @@ use Rattle.records.specs.Identities.{identityOf}
 use Rattle.records.specs.Records.{recordsOk, stateOf, restrictedOf}
 use Rattle.records.specs.declared.Identity.{Identity}
 use Rattle.records.specs.declared.Party.{Party}
-use Rattle.sending.specs.Sending.{layFrom, layAll}
 use Rattle.records.specs.declared.Record.{Record}
 use Rattle.places.specs.Held.{placeIn, admitsOf}
 use Rattle.places.specs.Spots.{placeOf}
 use Rattle.desk.specs.Desks.{deskOk}
-use Rattle.desk.specs.Orders.{postsOf, placesOf, unless, interrogateAnswer, endAnswer, decideAnswer, sentAnswer, readAnswer, messageAnswer, identifierOk, setUpOk, admitAnswer, partyAnswer, setUpAnswer, rejectAnswer, cancelAnswer}
-use Rattle.desk.specs.Steps.{Spoken, askedIn, saidIn, valueBy, isAcks, plainStep, plainArea, acksStep, acksArea, stepBy, areaBy, keeps}
+use Rattle.desk.specs.Orders.{postsOf, placesOf, unless, hasOne, interrogateAnswer, endAnswer, decideAnswer, sentAnswer, readAnswer, messageAnswer, identifierOk, setUpOk, admitAnswer, partyAnswer, setUpAnswer, rejectAnswer, cancelAnswer}
+use Rattle.desk.specs.Steps.{Spoken, spokenBy, askedIn, saidIn, valueBy, isAcks, plainStep, plainArea, acksStep, acksArea, stepBy, areaBy, keeps}
 use Rattle.desk.specs.declared.Answer.{Answer}
 use Rattle.desk.specs.declared.Answer.the-variants as answer
 use Rattle.desk.specs.declared.Desk.{Desk}
 use Rattle.desk.specs.declared.marking.Asked.{Asked}
 use Rattle.desk.specs.declared.Stepped.{Stepped}
-use Rattle.desk.proofs.KeepLaws.{refused-plain, state-plain}
+use Rattle.desk.proofs.KeepLaws.{refused-plain}
 
 module _ (d : Desk) (rows : List Record) (post : ℕ) (asked : Asked) (spoken : Spoken) (area m : List ℕ) (a : Answer) (r : Stepped) where
   pub plain-by : isAcks a ≡ false → (r ≡ plainStep d spoken a) × (m ≡ plainArea d spoken area a) → (r ≡ stepBy d rows post asked spoken a) × (m ≡ areaBy d rows post asked spoken area a)
@@ -66,32 +66,78 @@ decide-plain d room post identifier a e =
 
 -- ---- INTERROGATE
 
-module _ (d : Desk) (rows : List Record) (n post : ℕ) (v : Value) where
-  pub interrogate-15 : recordsOk rows n (postsOf d) ≡ false → interrogateAnswer d rows n post v ≡ answer.Refused (refusal 15)
+module _ (d : Desk) (rows : List Record) (n room post : ℕ) (v : Value) where
+  pub interrogate-14 : room < 300 → interrogateAnswer d rows n room post v ≡ answer.Refused (refusal 14)
   unfolding interrogateAnswer
-  interrogate-15 e = rw e refl
+  interrogate-14 h = rw (lt-ltb room 300 h) refl
 
-  interrogate-state : (k : ℕ) → recordsOk rows n (postsOf d) ≡ true → k ≡ stateOf (take n rows) post (identityOf (d .profile .air) (firstOf (v .users)))
-      → interrogateAnswer d rows n post v ≡ answer.State k
+  module _ (h : 300 ≤ room) where
+    pub interrogate-15 : recordsOk rows n (postsOf d) ≡ false → interrogateAnswer d rows n room post v ≡ answer.Refused (refusal 15)
+    unfolding interrogateAnswer
+    interrogate-15 e = rw (le-ltb room 300 h, e) refl
+
+    module _ (e : recordsOk rows n (postsOf d) ≡ true) (r : ℕ) (q : r ≡ listOfOne (d .profile .air .meanings)) where
+      pub interrogate-26 : 16 ≤ r → interrogateAnswer d rows n room post v ≡ answer.Refused (refusal 26)
+      unfolding interrogateAnswer
+      interrogate-26 m = rw (le-ltb room 300 h, e, ap (λ (x : ℕ). ltb x 16) (sym q) ∙ le-ltb r 16 m) refl
+
+      pub interrogate-state : (k : ℕ) → r < 16 → k ≡ stateOf (take n rows) post (identityOf (d .profile .air) (firstOf (v .users)))
+          → interrogateAnswer d rows n room post v ≡ answer.State k
+      unfolding interrogateAnswer
+      interrogate-state k m z = rw (le-ltb room 300 h, e, ap (λ (x : ℕ). ltb x 16) (sym q) ∙ lt-ltb r 16 m, z) refl
+
+  pub interrogate-plain : isAcks (interrogateAnswer d rows n room post v) ≡ false
   unfolding interrogateAnswer
-  interrogate-state k e z = rw (e, z) refl
+  interrogate-plain =
+      unless-plain (ltb room 300) 14 _ (unless-plain (not (recordsOk rows n (postsOf d))) 15 _ (unless-plain (not (hasOne (d .profile .air))) 26 _ refl))
 
-  pub interrogated : (spoken : Spoken) (k : ℕ) → recordsOk rows n (postsOf d) ≡ true → k ≡ stateOf (take n rows) post (identityOf (d .profile .air) (firstOf (v .users)))
-      → keeps d (answer.State k) ≡ plainStep d spoken (interrogateAnswer d rows n post v)
-  interrogated spoken k e z = state-plain d spoken [] (interrogateAnswer d rows n post v) k (interrogate-state k e z) .0
+-- ---- no answer but a state speaks of the user that was asked for
 
-  pub interrogate-plain : isAcks (interrogateAnswer d rows n post v) ≡ false
-  unfolding interrogateAnswer
-  interrogate-plain = unless-plain (not (recordsOk rows n (postsOf d))) 15 _ refl
+abbrev isState : Answer → Bool
+isState (answer.Refused s) = false
+isState answer.Acks = false
+isState (answer.State k) = true
+isState answer.Free = false
+isState (answer.Admitted post place) = false
+isState answer.Proceed = false
+isState answer.Diverted = false
+isState answer.Rejected = false
+isState (answer.Cancelled post) = false
+isState (answer.Moved post) = false
 
-  -- it uses no output area
-  pub interrogate-area : (spoken : Spoken) (area : List ℕ) → area ≡ plainArea d spoken area (interrogateAnswer d rows n post v)
-  unfolding interrogateAnswer plainArea layAll layFrom
-  interrogate-area spoken area = go (not (recordsOk rows n (postsOf d)))
-    where
-      go : (b : Bool) → area ≡ plainArea d spoken area (unless b 15 (answer.State (stateOf (take n rows) post (identityOf (d .profile .air) (firstOf (v .users))))))
-      go true = refl
-      go false = refl
+module _ (d : Desk) (identifier cause : ℕ) (u w : Address) (area : List ℕ) where
+  user-unsaid : (a : Answer) → isState a ≡ false
+      → (plainStep d (spokenBy identifier cause u) a ≡ plainStep d (spokenBy identifier cause w) a) × (plainArea d (spokenBy identifier cause u) area a ≡ plainArea d (spokenBy identifier cause w) area a)
+  unfolding plainStep plainArea
+  user-unsaid (answer.Refused s) e = (refl, refl)
+  user-unsaid answer.Acks e = (refl, refl)
+  user-unsaid (answer.State k) e = not-both (sym e)
+  user-unsaid answer.Free e = (refl, refl)
+  user-unsaid (answer.Admitted post place) e = (refl, refl)
+  user-unsaid answer.Proceed e = (refl, refl)
+  user-unsaid answer.Diverted e = (refl, refl)
+  user-unsaid answer.Rejected e = (refl, refl)
+  user-unsaid (answer.Cancelled post) e = (refl, refl)
+  user-unsaid (answer.Moved post) e = (refl, refl)
+
+  unless-told : (b : Bool) (c : ℕ) (a : Answer) → isState a ≡ false → isState (unless b c a) ≡ false
+  unless-told true c a e = refl
+  unless-told false c a e = e
+
+  decide-told : (room post : ℕ) → isState (decideAnswer d room post identifier answer.Rejected) ≡ false
+  unfolding decideAnswer endAnswer
+  decide-told room post =
+      unless-told (ltb room 300) 14 _
+      (unless-told (not (placeOf (placesOf d) identifier .found)) 19 _
+      (unless-told (not (eqb (placeIn (placesOf d) (placeOf (placesOf d) identifier .place) .post) post)) 20 answer.Rejected refl))
+
+  -- a REJECT is answered as the plain reject is, whatever else it says
+  pub rejected-said : (room post : ℕ) (m : List ℕ) (r : Stepped)
+      → (r ≡ plainStep d (spokenBy identifier cause u) (decideAnswer d room post identifier answer.Rejected)) × (m ≡ plainArea d (spokenBy identifier cause u) area (decideAnswer d room post identifier answer.Rejected))
+      → (r ≡ plainStep d (spokenBy identifier cause w) (decideAnswer d room post identifier answer.Rejected)) × (m ≡ plainArea d (spokenBy identifier cause w) area (decideAnswer d room post identifier answer.Rejected))
+  rejected-said room post m r z =
+      let q = user-unsaid (decideAnswer d room post identifier answer.Rejected) (decide-told room post) in
+      (z .0 ∙ q .0, z .1 ∙ q .1)
 
 -- ---- 2, reading, and then by the type
 

@@ -51,7 +51,7 @@ module _ (d : Desk) (rows : List Record) (n room post : ℕ) where
   sent-sound v =
       by-type d rows n room post v (λ a. isAcks a ≡ true → recordsOk rows n (postsOf d) ≡ true)
       (λ given _ z. not-false _ (past (not (recordsOk rows n (postsOf d))) 15 _ (past (ltb room 300) 14 _ z .1) .0))
-      (λ z. not-both (sym (interrogate-plain d rows n post v) ∙ z))
+      (λ _ z. not-both (sym (interrogate-plain d rows n room post v) ∙ z))
       (λ z. not-both (sym (decide-plain d room post _ _ (accept-plain d _)) ∙ z))
       (λ z. not-both (sym (decide-plain d room post _ answer.Diverted refl) ∙ z))
       (λ _ z. not-both (sym (decide-plain d room post _ answer.Rejected refl) ∙ z))

@@ -17,7 +17,7 @@ use Rattle.records.specs.declared.Identity.{Identity}
 use Rattle.records.specs.declared.Party.{Party}
 use Rattle.records.specs.declared.Record.{Record}
 use Rattle.desk.specs.Desks.{deskOk}
-use Rattle.desk.specs.Orders.{postsOf, placesOf, namesDispatchers, identifierOk, setUpOk}
+use Rattle.desk.specs.Orders.{postsOf, placesOf, namesDispatchers, hasOne, identifierOk, setUpOk}
 use Rattle.desk.specs.declared.Desk.{Desk}
 use Rattle.desk.specs.declared.Event.{Event}
 use Rattle.desk.specs.declared.Event.the-variants as event
@@ -28,10 +28,10 @@ use Rattle.desk.specs.declared.Event.the-variants as event
 abbrev pub noSuchPost : Desk → ℕ → Ground
 noSuchPost d post = (refusal 2, not (ltb post (postsOf d)))
 
--- a type that posts don't send: 3, 10, 13, 16; of document 02, (i) 5, (iv) 11, 14, 18
+-- a type that posts don't send: 3, 10, 13, 16; of document 02, (i) 5, (iv) 11, 14, 18, (viii) 9
 abbrev pub notSent : Value → Ground
 notSent v =
-    (refusal 8, eqb (v .pdu) 3 || (eqb (v .pdu) 5 || (eqb (v .pdu) 10 || (eqb (v .pdu) 11 || (eqb (v .pdu) 13 || (eqb (v .pdu) 14 || (eqb (v .pdu) 16 || eqb (v .pdu) 18)))))))
+    (refusal 8, eqb (v .pdu) 3 || (eqb (v .pdu) 5 || (eqb (v .pdu) 9 || (eqb (v .pdu) 10 || (eqb (v .pdu) 11 || (eqb (v .pdu) 13 || (eqb (v .pdu) 14 || (eqb (v .pdu) 16 || eqb (v .pdu) 18))))))))
 
 -- output shorter than 300 bytes
 abbrev pub shortArea : ℕ → Ground
@@ -40,6 +40,10 @@ shortArea room = (refusal 14, ltb room 300)
 -- over 128 records, or one in use with a post not below the number of posts, or an SSI or extension over 24 bits
 abbrev pub badRecords : Desk → List Record → ℕ → Ground
 badRecords d rows n = (refusal 15, not (recordsOk rows n (postsOf d)))
+
+-- no range value of the profile means a list of one
+abbrev pub noListOfOne : Desk → Ground
+noListOfOne d = (refusal 26, not (hasOne (d .profile .air)))
 
 -- identifier over 14 bits
 abbrev pub wideIdentifier : ℕ → Ground
@@ -88,12 +92,13 @@ dispatchersGiven d v = (refusal 21, namesDispatchers (d .profile .air) v)
 
 -- ---- the orders, call by call
 
--- after the type: ACTIVATE 14, 15, 21; DEACTIVATE 14, 15; INTERROGATE 15; ACCEPT 14, 19, 20, and 18 for a move; DIVERT and REJECT 14, 19, 20
+-- after the type: ACTIVATE 14, 15, 21; DEACTIVATE 14, 15; INTERROGATE 14, 15, 26; ACCEPT 14, 19, 20, and 18 for a move; DIVERT and REJECT 14,
+-- 19, 20
 abbrev pub typeOrder : Desk → List Record → ℕ → ℕ → ℕ → Value → List Ground
 typeOrder d rows n room post v =
     cond (eqb (v .pdu) 2) (shortArea room ∷ badRecords d rows n ∷ dispatchersGiven d v ∷ [])
     (cond (eqb (v .pdu) 4) (shortArea room ∷ badRecords d rows n ∷ [])
-    (cond (eqb (v .pdu) 8) (badRecords d rows n ∷ [])
+    (cond (eqb (v .pdu) 8) (shortArea room ∷ badRecords d rows n ∷ noListOfOne d ∷ [])
     (cond (eqb (v .pdu) 12)
     (shortArea room ∷ notWaiting d (identifierIn v) ∷ waitsElsewhere d post (identifierIn v) ∷ noPlaceThere d (placeOf (placesOf d) (identifierIn v) .place))
     (cond (eqb (v .pdu) 15) (shortArea room ∷ notWaiting d (identifierIn v) ∷ waitsElsewhere d post (identifierIn v) ∷ [])

@@ -7,7 +7,7 @@ use lib.Dec.{eqb, ltb}
 use lib.ListN.{take}
 use Rattle.codec.specs.Stops.{refusal, noStop}
 use Rattle.codec.specs.Codec.{Read, got, no, both}
-use Rattle.profile.specs.Rules.{meaningIn}
+use Rattle.profile.specs.Rules.{meaningIn, listOfOne}
 use Rattle.profile.specs.declared.Kind.{Kind}
 use Rattle.profile.specs.declared.Kind.the-variants as kind
 use Rattle.profile.specs.declared.Air.{Air}
@@ -58,10 +58,16 @@ unfoldable pub markingAnswer : Desk → List Record → ℕ → ℕ → Bool →
 markingAnswer d rows n room given =
     unless (ltb room 300) 14 (unless (not (recordsOk rows n (postsOf d))) 15 (unless given 21 answer.Acks))
 
--- INTERROGATE: 15; it uses neither 14 nor the output area
-unfoldable pub interrogateAnswer : Desk → List Record → ℕ → ℕ → Value → Answer
-interrogateAnswer d rows n post v =
-    unless (not (recordsOk rows n (postsOf d))) 15 (answer.State (stateOf (take n rows) post (identityOf (d .profile .air) (firstOf (v .users)))))
+-- the profile has a range value that means a list of one
+abbrev pub hasOne : Air → Bool
+hasOne air = ltb (listOfOne (air .meanings)) 16
+
+-- INTERROGATE: 14, 15, and 26 where no range value means a list of one
+unfoldable pub interrogateAnswer : Desk → List Record → ℕ → ℕ → ℕ → Value → Answer
+interrogateAnswer d rows n room post v =
+    unless (ltb room 300) 14
+    (unless (not (recordsOk rows n (postsOf d))) 15
+    (unless (not (hasOne (d .profile .air))) 26 (answer.State (stateOf (take n rows) post (identityOf (d .profile .air) (firstOf (v .users)))))))
 
 -- the end of a call that waits at the post: 19, 20
 unfoldable pub endAnswer : Desk → ℕ → ℕ → Answer → Answer
@@ -87,7 +93,7 @@ unfoldable pub sentAnswer : Desk → List Record → ℕ → ℕ → ℕ → Val
 sentAnswer d rows n room post v =
     cond (eqb (v .pdu) 2) (markingAnswer d rows n room (namesDispatchers (d .profile .air) v))
     (cond (eqb (v .pdu) 4) (markingAnswer d rows n room false)
-    (cond (eqb (v .pdu) 8) (interrogateAnswer d rows n post v)
+    (cond (eqb (v .pdu) 8) (interrogateAnswer d rows n room post v)
     (cond (eqb (v .pdu) 12) (decideAnswer d room post (identifierIn v) (acceptAnswer d (placeOf (placesOf d) (identifierIn v) .place)))
     (cond (eqb (v .pdu) 15) (decideAnswer d room post (identifierIn v) answer.Diverted)
     (cond (eqb (v .pdu) 17) (decideAnswer d room post (identifierIn v) answer.Rejected) (answer.Refused (refusal 8)))))))

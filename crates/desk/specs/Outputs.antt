@@ -13,7 +13,7 @@ use Rattle.message.specs.declared.Value.{Value}
 use Rattle.writing.specs.Writing.{bytesFor}
 use Rattle.records.specs.declared.Record.{Record}
 use Rattle.sending.specs.declared.Laid.{Laid}
-use Rattle.desk.specs.Orders.{placesOf, answerOf}
+use Rattle.desk.specs.Orders.{answerOf}
 use Rattle.desk.specs.Steps.{Spoken, askedOf, spokenOf, messagesBy, acksFor, isAcks, postOf}
 use Rattle.desk.specs.declared.Answer.{Answer}
 use Rattle.desk.specs.declared.Desk.{Desk}
@@ -22,7 +22,7 @@ use Rattle.desk.specs.declared.marking.Asked.{Asked}
 
 -- what goes with an answer: the ACKs, or what any other answer sends
 abbrev pub messagesFor : Desk → List Record → ℕ → Asked → Spoken → Answer → List Value
-messagesFor d rows post asked s a = cond (isAcks a) (acksFor d rows post asked) (messagesBy (placesOf d) s a)
+messagesFor d rows post asked s a = cond (isAcks a) (acksFor d rows post asked) (messagesBy d s a)
 
 -- what a call sends, where the output area has so many bytes
 unfoldable pub sentBy : Desk → List Record → ℕ → List ℕ → ℕ → Event → List Value

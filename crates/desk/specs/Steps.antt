@@ -7,9 +7,12 @@ use lib.ListN.{take, length}
 use Rattle.codec.specs.Codec.{Read, got, no}
 use Rattle.codec.specs.Stops.{refusal}
 use Rattle.profile.specs.declared.Profile.{Profile}
+use Rattle.message.specs.Addresses.{nobody}
+use Rattle.message.specs.Groups.{firstOf}
 use Rattle.message.specs.Numbers as place
 use Rattle.message.specs.Values.{noValue, identifierIn, numberAt}
 use Rattle.message.specs.Reading.{readOf}
+use Rattle.message.specs.declared.Address.{Address}
 use Rattle.message.specs.declared.Value.{Value}
 use Rattle.places.specs.Held.{placeIn, admitsOf}
 use Rattle.places.specs.Spots.{placeOf, lowestFree, takeOf, clearOf, movedOn, moveOf}
@@ -24,7 +27,7 @@ use Rattle.records.specs.declared.Record.{Record}
 use Rattle.sending.specs.Sending.{layAll, noLaid, laidOf}
 use Rattle.sending.specs.declared.Laid.{Laid}
 use Rattle.sending.specs.Acks.{acksOf}
-use Rattle.desk.specs.Notices.{intercepted, accepted, diverted, requestOf, rejectedWith, cancelOf}
+use Rattle.desk.specs.Notices.{intercepted, accepted, diverted, requestOf, rejectedWith, cancelOf, stateAck}
 use Rattle.desk.specs.Orders.{placesOf, answerOf}
 use Rattle.desk.specs.declared.Answer.{Answer}
 use Rattle.desk.specs.declared.Answer.the-variants as answer
@@ -73,22 +76,23 @@ identifierOf p l (event.SetUp caller called identifier cause) = identifier
 identifierOf p l (event.Reject post identifier) = identifier
 identifierOf p l (event.Cancel identifier) = identifier
 
--- what is said of the call that an event speaks of: its identifier; of a call being set up the post that is asked second and the
--- interception cause, of a REJECT the rejection cause
+-- what an event says: of a call its identifier, of one being set up the post that is asked second and the interception cause, of a REJECT
+-- the rejection cause; of an INTERROGATE the user that it asks for
 pub record Spoken : Type 0 where
   pub identifier : ℕ
   pub second : Party
   pub cause : ℕ
+  pub user : Address
 
-abbrev pub spokenBy : ℕ → ℕ → Spoken
-spokenBy identifier cause = record { identifier = identifier; second = noParty; cause = cause }
+abbrev pub spokenBy : ℕ → ℕ → Address → Spoken
+spokenBy identifier cause user = record { identifier = identifier; second = noParty; cause = cause; user = user }
 
 abbrev pub named : ℕ → Spoken
-named identifier = spokenBy identifier 0
+named identifier = spokenBy identifier 0 nobody
 
--- what a message says of a call
+-- what a message says
 abbrev pub saidIn : Value → Spoken
-saidIn v = spokenBy (identifierIn v) (numberAt place.cause v)
+saidIn v = spokenBy (identifierIn v) (numberAt place.cause v) (firstOf (v .users))
 
 abbrev pub secondFor : List Record → Event → Party
 secondFor rows (event.Message post bits) = noParty
@@ -102,8 +106,14 @@ causeFor p l (event.SetUp caller called identifier cause) = cause
 causeFor p l (event.Reject post identifier) = 0
 causeFor p l (event.Cancel identifier) = 0
 
+abbrev pub userFor : Profile → List ℕ → Event → Address
+userFor p l (event.Message post bits) = firstOf (valueBy (readOf p l bits) .users)
+userFor p l (event.SetUp caller called identifier cause) = nobody
+userFor p l (event.Reject post identifier) = nobody
+userFor p l (event.Cancel identifier) = nobody
+
 abbrev pub spokenOf : Profile → List Record → List ℕ → Event → Spoken
-spokenOf p rows l e = record { identifier = identifierOf p l e; second = secondFor rows e; cause = causeFor p l e }
+spokenOf p rows l e = record { identifier = identifierOf p l e; second = secondFor rows e; cause = causeFor p l e; user = userFor p l e }
 
 -- the call that begins to wait at a post
 abbrev pub callFor : Spoken → ℕ → Call
@@ -138,24 +148,24 @@ deskAfter d x = record { profile = d .profile; places = record { place = placesA
 -- ---- every answer but ACKs
 
 -- the messages that go with it: an admitted call's INTERCEPTED and REQUEST, a moved one's REQUEST, as its place has it; REJECTED with the
--- cause that was said; CANCEL
-abbrev pub messagesBy : List Place → Spoken → Answer → List Value
-messagesBy places s (answer.Refused t) = []
-messagesBy places s answer.Acks = []
-messagesBy places s (answer.State k) = []
-messagesBy places s answer.Free = []
-messagesBy places s (answer.Admitted post place) = intercepted ∷ requestOf (callFor s post) ∷ []
-messagesBy places s answer.Proceed = accepted ∷ []
-messagesBy places s answer.Diverted = diverted ∷ []
-messagesBy places s answer.Rejected = rejectedWith (s .cause) ∷ []
-messagesBy places s (answer.Cancelled post) = cancelOf (s .identifier) ∷ []
-messagesBy places s (answer.Moved post) = requestOf (movedOn (placeIn places (placeOf places (s .identifier) .place))) ∷ []
+-- cause that was said; CANCEL; a state's INTERROGATE ACK
+abbrev pub messagesBy : Desk → Spoken → Answer → List Value
+messagesBy d s (answer.Refused t) = []
+messagesBy d s answer.Acks = []
+messagesBy d s (answer.State k) = stateAck (d .profile .air) (s .user) k ∷ []
+messagesBy d s answer.Free = []
+messagesBy d s (answer.Admitted post place) = intercepted ∷ requestOf (callFor s post) ∷ []
+messagesBy d s answer.Proceed = accepted ∷ []
+messagesBy d s answer.Diverted = diverted ∷ []
+messagesBy d s answer.Rejected = rejectedWith (s .cause) ∷ []
+messagesBy d s (answer.Cancelled post) = cancelOf (s .identifier) ∷ []
+messagesBy d s (answer.Moved post) = requestOf (movedOn (placeIn (placesOf d) (placeOf (placesOf d) (s .identifier) .place))) ∷ []
 
 unfoldable pub plainStep : Desk → Spoken → Answer → Stepped
-plainStep d s a = record { answer = a; laid = laidOf (d .profile .air) (messagesBy (placesOf d) s a); desk = deskAfter d (effectBy s a); marks = noMarks }
+plainStep d s a = record { answer = a; laid = laidOf (d .profile .air) (messagesBy d s a); desk = deskAfter d (effectBy s a); marks = noMarks }
 
 unfoldable pub plainArea : Desk → Spoken → List ℕ → Answer → List ℕ
-plainArea d s area a = layAll (d .profile .air) area (messagesBy (placesOf d) s a)
+plainArea d s area a = layAll (d .profile .air) area (messagesBy d s a)
 
 -- ---- a request to change marks that is carried out: its ACKs, and the marks of the accepted ones
 

@@ -6,6 +6,7 @@ ghost use lib.ListN.{length};
 ghost use Rattle.profile.specs.Rules.{profileOk};
 ghost use Prim.Native.Nat.{_≤_, _<_, _^_};
 ghost use Rattle.places.specs.Spots.{placeOf};
+ghost use Rattle.message.specs.Addresses.{nobody};
 ghost use Rattle.message.specs.Values.{identifierIn};
 ghost use Rattle.places.specs.Held.{placeIn};
 ghost use Rattle.desk.specs.Desks.{deskOk};
@@ -127,8 +128,8 @@ pub(crate) fn reject(desk: Desk, post: u64, identifier: u32, out: &mut [u8]) -> 
 // By a reject or by REJECT, with this cause.
 pub(crate) fn rejected(desk: Desk, post: u8, identifier: u32, cause: u32, out: &mut [u8]) -> Stepped
     requires { ⌜ (profileOk (desk .profile) ≡ true) × (cause < 2 ^ 5) ⌝ }
-    ensures { λ r. ⌜ (r ≡ plainStep desk (spokenBy identifier cause) (decideAnswer desk (length (now (out .entry))) post identifier answer.Rejected))
-        × (now (out .exit) ≡ plainArea desk (spokenBy identifier cause) (now (out .entry)) (decideAnswer desk (length (now (out .entry))) post identifier answer.Rejected)) ⌝ }
+    ensures { λ r. ⌜ (r ≡ plainStep desk (spokenBy identifier cause nobody) (decideAnswer desk (length (now (out .entry))) post identifier answer.Rejected))
+        × (now (out .exit) ≡ plainArea desk (spokenBy identifier cause nobody) (now (out .entry)) (decideAnswer desk (length (now (out .entry))) post identifier answer.Rejected)) ⌝ }
 {
     if out.len() < 300 {
         return kept::refused(desk, codec::refuse(14));

@@ -36,7 +36,7 @@ pub(crate) fn change(
     given: bool,
     out: &mut [u8],
 ) -> Stepped
-    requires { ⌜ (profileOk (desk .profile) ≡ true) × (groupC (desk .profile .air) false .ok (value .users) ≡ true) ⌝ }
+    requires { ⌜ (profileOk (desk .profile) ≡ true) × (groupC (desk .profile .air) false false .ok (value .users) ≡ true) ⌝ }
     ensures { λ r. ⌜ (r ≡ stepBy desk (take count rows) post (askedIn value) (saidIn value) (markingAnswer desk rows count (length (now (out .entry))) given))
         × (now (out .exit) ≡ areaBy desk (take count rows) post (askedIn value) (saidIn value) (now (out .entry)) (markingAnswer desk rows count (length (now (out .entry))) given)) ⌝ }
 {
@@ -82,7 +82,7 @@ fn acks(
     asked: Asked,
     out: &mut [u8],
 ) -> Stepped
-    requires { ⌜ (profileOk (desk .profile) ≡ true) × ((rowOf (asked .ack) ≡ ackRow) × ((groupC (desk .profile .air) false .ok (asked .users) ≡ true) × (300 ≤ length (now out)))) ⌝ }
+    requires { ⌜ (profileOk (desk .profile) ≡ true) × ((rowOf (asked .ack) ≡ ackRow) × ((groupC (desk .profile .air) false false .ok (asked .users) ≡ true) × (300 ≤ length (now out)))) ⌝ }
     ensures { λ r. ⌜ (r ≡ acksStep desk (take count rows) post asked)
         × (now (out .exit) ≡ acksArea desk (take count rows) post asked (now (out .entry))) ⌝ }
 {

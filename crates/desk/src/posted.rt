@@ -1,18 +1,22 @@
 // A post's message.
 ghost use mathlib.Core.Path.{_≡_};
-ghost use mathlib.Core.Bool.{true};
+ghost use mathlib.Core.Bool.{true, false};
 ghost use lib.ListN.{length, take};
+ghost use Rattle.profile.specs.Rules.{profileOk};
+ghost use Rattle.message.specs.Addresses.{addressC};
+ghost use Rattle.message.specs.Groups.{firstOf};
 ghost use Rattle.message.specs.Reading.{readOf};
 ghost use Rattle.validity.specs.Validity.{validOf};
 ghost use Rattle.desk.specs.Desks.{deskOk};
 ghost use Rattle.desk.specs.Orders.{interrogateAnswer, sentAnswer, messageAnswer};
-ghost use Rattle.desk.specs.Steps.{valueBy, askedIn, saidIn, plainStep, stepBy, areaBy};
+ghost use Rattle.desk.specs.Steps.{valueBy, askedIn, saidIn, plainStep, plainArea, stepBy, areaBy};
 use crate::Answer;
 use crate::Desk;
 use crate::Stepped;
 use crate::ending;
 use crate::kept;
 use crate::marking;
+use crate::notice;
 use message::Value;
 use records::Record;
 
@@ -67,7 +71,7 @@ fn sent(
         return marking::change(desk, rows, count, post, value, false, out);
     }
     if pdu == 8 {
-        return interrogate(desk, rows, count, post, value);
+        return interrogate(desk, rows, count, post, value, out);
     }
     if pdu == 12 {
         return ending::accept(desk, post, value, out);
@@ -87,18 +91,43 @@ fn sent(
     kept::refused(desk, codec::refuse(8))
 }
 
-fn interrogate(desk: Desk, rows: [Record; 128], count: usize, post: u8, value: Value) -> Stepped
-    ensures { λ r. ⌜ r ≡ plainStep desk (saidIn value) (interrogateAnswer desk rows count post value) ⌝ }
+// 14, 15, 26, or the state of the user that it asks for, also as INTERROGATE ACK.
+fn interrogate(
+    desk: Desk,
+    rows: [Record; 128],
+    count: usize,
+    post: u8,
+    value: Value,
+    out: &mut [u8],
+) -> Stepped
+    requires { ⌜ (profileOk (desk .profile) ≡ true) × (addressC false .ok (firstOf (value .users)) ≡ true) ⌝ }
+    ensures { λ r. ⌜ (r ≡ plainStep desk (saidIn value) (interrogateAnswer desk rows count (length (now (out .entry))) post value))
+        × (now (out .exit) ≡ plainArea desk (saidIn value) (now (out .entry)) (interrogateAnswer desk rows count (length (now (out .entry))) post value)) ⌝ }
 {
     let profile = desk.profile;
     let air = profile.air;
     let shares = profile.shares;
+    let meanings = air.meanings;
     let users = value.users;
-    if records::records_ok(rows, count, shares.posts) {} else {
+    let user = message::address_at(users, 0);
+    let sound = records::records_ok(rows, count, shares.posts);
+    let one = profile::list_of_one(meanings);
+    let state = records::state_of(air, rows, count, post, user);
+    if out.len() < 300 {
+        return kept::refused(desk, codec::refuse(14));
+    }
+    if sound {} else {
         return kept::refused(desk, codec::refuse(15));
     }
-    kept::keeps(
-        desk,
-        Answer::State(records::state_of(air, rows, count, post, message::address_at(users, 0))),
-    )
+    if one >= 16 {
+        return kept::refused(desk, codec::refuse(26));
+    }
+    let ack = notice::state_ack(air, user, state);
+    let laid = sending::send(profile, sending::no_laid(), ack, out);
+    Stepped {
+        answer: Answer::State(state),
+        laid: laid,
+        desk: desk,
+        marks: records::no_marks(),
+    }
 }

@@ -4,6 +4,7 @@ ghost use mathlib.Core.Bool.{true};
 ghost use Prim.Native.Nat.{_<_, _≤_, _^_};
 ghost use lib.ListN.{length, take};
 ghost use Rattle.profile.specs.Rules.{profileOk};
+ghost use Rattle.message.specs.Addresses.{nobody};
 ghost use Rattle.records.specs.Records.{secondOf};
 ghost use Rattle.desk.specs.Orders.{partyOk, setUpOk, admitAnswer, setUpAnswer};
 ghost use Rattle.desk.specs.Steps.{plainStep, plainArea};
@@ -28,8 +29,8 @@ pub(crate) fn set_up(
     cause: u32,
 ) -> Stepped
     requires { ⌜ profileOk (desk .profile) ≡ true ⌝ }
-    ensures { λ r. ⌜ (r ≡ plainStep desk (record { identifier = identifier; second = secondOf (take count rows) caller called; cause = cause }) (setUpAnswer desk rows count (length (now (out .entry))) caller called identifier cause))
-        × (now (out .exit) ≡ plainArea desk (record { identifier = identifier; second = secondOf (take count rows) caller called; cause = cause }) (now (out .entry)) (setUpAnswer desk rows count (length (now (out .entry))) caller called identifier cause)) ⌝ }
+    ensures { λ r. ⌜ (r ≡ plainStep desk (record { identifier = identifier; second = secondOf (take count rows) caller called; cause = cause; user = nobody }) (setUpAnswer desk rows count (length (now (out .entry))) caller called identifier cause))
+        × (now (out .exit) ≡ plainArea desk (record { identifier = identifier; second = secondOf (take count rows) caller called; cause = cause; user = nobody }) (now (out .entry)) (setUpAnswer desk rows count (length (now (out .entry))) caller called identifier cause)) ⌝ }
 {
     let profile = desk.profile;
     let shares = profile.shares;
@@ -68,8 +69,8 @@ fn admit(
     out: &mut [u8],
 ) -> Stepped
     requires { ⌜ (profileOk (desk .profile) ≡ true) × ((identifier < 2 ^ 14) × ((cause < 2 ^ 5) × (300 ≤ length (now out)))) ⌝ }
-    ensures { λ r. ⌜ (r ≡ plainStep desk (record { identifier = identifier; second = second; cause = cause }) (admitAnswer desk post))
-        × (now (out .exit) ≡ plainArea desk (record { identifier = identifier; second = second; cause = cause }) (now (out .entry)) (admitAnswer desk post)) ⌝ }
+    ensures { λ r. ⌜ (r ≡ plainStep desk (record { identifier = identifier; second = second; cause = cause; user = nobody }) (admitAnswer desk post))
+        × (now (out .exit) ≡ plainArea desk (record { identifier = identifier; second = second; cause = cause; user = nobody }) (now (out .entry)) (admitAnswer desk post)) ⌝ }
 {
     let profile = desk.profile;
     let shares = profile.shares;

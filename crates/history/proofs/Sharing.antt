@@ -2,11 +2,11 @@
 -- by the shares that the history has in force (document 02, vi). Assumes nothing.
 use Prim.Native.Nat.{ℕ, _<_, _≤_}
 use mathlib.Core.Path.{_≡_, refl, sym, ap, _∙_, subst}
-use mathlib.Core.Bool.{Bool, true, false, not}
+use mathlib.Core.Bool.{Bool, true, false, not, _||_}
 use mathlib.Core.List.{List}
 use mathlib.Core.Logic.{_⊎_}
 use native.Mathlib.Omega.{arith}
-use lib.Dec.{eqb, ltb}
+use lib.Dec.{eqb, leb, ltb}
 use lib.ListN.{length}
 use borrow.Author.Tests.{ne-eqb, leb-true}
 use Rattle.codec.specs.Codec.{both, noneOf}
@@ -46,7 +46,11 @@ notOne a = not (eqb (numberOf a) 1)
 
 past-not-one : (c : ℕ) → pastOne c ≡ true → not (eqb c 1) ≡ true
 unfolding pastOne
-past-not-one c e = let low = leb-true 2 c (both-left _ _ e) in rw (ne-eqb c 1 (λ k. absurd (omega (arith, k)))) refl
+past-not-one c e = go (both (leb 2 c) (leb c 22)) refl e
+  where
+    go : (b : Bool) → both (leb 2 c) (leb c 22) ≡ b → b || both (leb 26 c) (leb c 27) ≡ true → not (eqb c 1) ≡ true
+    go true t _ = let low = leb-true 2 c (both-left _ _ t) in rw (ne-eqb c 1 (λ k. absurd (omega (arith, k)))) refl
+    go false _ z = let low = leb-true 26 c (both-left _ _ z) in rw (ne-eqb c 1 (λ k. absurd (omega (arith, k)))) refl
 
 can-not-one : (e : Event) → Can notOne e
 can-not-one (event.Message post bits) = (refl, ((λ k. refl), (refl, (refl, (refl, λ k. refl)))))

@@ -60,10 +60,10 @@ abbrev pub air : Air
 air = sample .air
 
 abbrev pub equal : Air
-equal = record { ss = 9; home = 0; meanings = sampleMeanings; unknown = 1; other = 1 }
+equal = record { ss = 9; home = 0; meanings = sampleMeanings; unknown = 1; other = 1; unrecorded = 1; elsewhere = 2 }
 
 abbrev pub five : Air
-five = record { ss = 9; home = 5; meanings = sampleMeanings; unknown = 1; other = 2 }
+five = record { ss = 9; home = 5; meanings = sampleMeanings; unknown = 1; other = 2; unrecorded = 1; elsewhere = 2 }
 
 -- ---- addresses and groups
 

@@ -14,8 +14,9 @@ use Rattle.profile.specs.Rules.{airOk, profileOk}
 use Rattle.profile.specs.declared.Profile.{Profile}
 use Rattle.message.specs.Numbers.{elements, elementOf, widths, widthOf}
 use Rattle.message.specs.Groups.{groupC, spanOf, noGroup, nobodies}
+use Rattle.message.specs.Areas.{noAreas}
 use Rattle.message.specs.Acks.{maskC, maskedC, resultC}
-use Rattle.message.specs.Values.{blank, sameBools, sameNumbers, sameAddress, sameAddresses, sameGroup, sameValue}
+use Rattle.message.specs.Values.{noLists, blank, sameBools, sameNumbers, sameAddress, sameAddresses, sameGroup, sameAreas, sameLists, sameValue}
 use Rattle.message.specs.Rows.{ackRow, table, rowIn, rowOf, partsC, puts, gets, putOptions, getOptions, eachC, optionsC, firstParts, partsOf, optionsOf}
 use Rattle.message.specs.Messages.{holdsJust, bodyC, isCarried, headerC, messageC}
 use Rattle.message.proofs.GroupLaws.{few-identities}
@@ -45,6 +46,14 @@ module _ (p : Profile) (passes : profileOk p ≡ true) where
   unknown-most : p .air .unknown ≤ 127
   unfolding airOk
   unknown-most = leb-true _ _ (both-left _ _ (both-right _ _ (both-right _ _ air-ok)))
+
+  pub unrecorded-most : p .air .unrecorded ≤ 7
+  unfolding airOk
+  unrecorded-most = leb-true _ _ (both-left _ _ (both-right _ _ (both-right _ _ (both-right _ _ (both-right _ _ air-ok)))))
+
+  pub elsewhere-most : p .air .elsewhere ≤ 7
+  unfolding airOk
+  elsewhere-most = leb-true _ _ (both-left _ _ (both-right _ _ (both-right _ _ (both-right _ _ (both-right _ _ (both-right _ _ air-ok))))))
 
   other-most : p .air .other ≤ 127
   unfolding airOk
@@ -83,11 +92,11 @@ unfolding ackV firstParts gets puts getOptions putOptions blank
 ack-holds t users b m r w = value-self (ackV t users b m r w)
 
 module _ (p : Profile) (passes : profileOk p ≡ true) (t : ℕ) (is : rowOf t ≡ ackRow) where
-  ack-valid : (users : Group) → groupC (p .air) false .ok users ≡ true → (b : Bool) (m : ℕ) → maskC (spanOf (p .air) users) .ok m ≡ true
+  ack-valid : (users : Group) → groupC (p .air) false false .ok users ≡ true → (b : Bool) (m : ℕ) → maskC (spanOf (p .air) users) .ok m ≡ true
       → (class : ℕ) → validOf (p .air) (ackV t users b (cond b m 0) (resultOf class) (reasonOf (p .air) class)) ≡ true
   unfolding validOf messageC ackV firstParts gets getOptions partsC optionsC blank
   ack-valid users g b m e class =
-      let few : min (spanOf (p .air) users) 64 ≡ spanOf (p .air) users = omega (arith, few-identities (p .air) false users g) in
+      let few : min (spanOf (p .air) users) 64 ≡ spanOf (p .air) users = omega (arith, few-identities (p .air) false false users g) in
       let v = ackV t users b (cond b m 0) (resultOf class) (reasonOf (p .air) class) in
       both-true true _ refl
       (both-true _ _ (carried-ok (p .air .ss) t (omega (arith, ss-most p passes)) (ack-carried t is))
@@ -102,7 +111,7 @@ module _ (p : Profile) (passes : profileOk p ≡ true) (t : ℕ) (is : rowOf t �
 -- the type of an ACK, a group that was read, and masks of its identities
 pub record Request (p : Profile) (t : ℕ) (users : Group) (s : Sorted) : Type 0 where
   pub ack : rowOf t ≡ ackRow
-  pub valid : groupC (p .air) false .ok users ≡ true
+  pub valid : groupC (p .air) false false .ok users ≡ true
   pub masks : (class : ℕ) → class < 3 → maskC (spanOf (p .air) users) .ok (maskAt s class) ≡ true
 
 module _ (p : Profile) (passes : profileOk p ≡ true) (t : ℕ) (users : Group) (s : Sorted) (r : Request p t users s) where
@@ -149,13 +158,13 @@ value-sends p passes v carried body short =
 
 module _ (p : Profile) (passes : profileOk p ≡ true) where
   pub intercepted-sends : Sends p (blank 10)
-  unfolding isCarried rowOf rowIn table both bodyC firstParts gets puts getOptions putOptions partsC optionsC eachC elements elementOf widths widthOf sameValue sameNumbers sameBools sameGroup sameAddresses sameAddress blank noGroup nobodies flag number bitsOf messageC headerC
+  unfolding isCarried rowOf rowIn table both bodyC firstParts gets puts getOptions putOptions partsC optionsC eachC elements elementOf widths widthOf sameValue sameNumbers sameBools sameGroup sameAddresses sameAddress sameAreas sameLists blank noLists noAreas noGroup nobodies flag number bitsOf messageC headerC
   intercepted-sends = value-sends p passes (blank 10) refl refl (simp (length-append, length-binary) (omega arith))
 
   pub accepted-sends : Sends p (blank 13)
-  unfolding isCarried rowOf rowIn table both bodyC firstParts gets puts getOptions putOptions partsC optionsC sameValue sameNumbers sameBools sameGroup sameAddresses sameAddress blank noGroup nobodies number bitsOf messageC headerC
+  unfolding isCarried rowOf rowIn table both bodyC firstParts gets puts getOptions putOptions partsC optionsC sameValue sameNumbers sameBools sameGroup sameAddresses sameAddress sameAreas sameLists blank noLists noAreas noGroup nobodies number bitsOf messageC headerC
   accepted-sends = value-sends p passes (blank 13) refl refl (simp (length-append, length-binary) (omega arith))
 
   pub diverted-sends : Sends p (blank 16)
-  unfolding isCarried rowOf rowIn table both bodyC firstParts gets puts getOptions putOptions partsC optionsC eachC elements elementOf widths widthOf sameValue sameNumbers sameBools sameGroup sameAddresses sameAddress blank noGroup nobodies flag number bitsOf messageC headerC
+  unfolding isCarried rowOf rowIn table both bodyC firstParts gets puts getOptions putOptions partsC optionsC eachC elements elementOf widths widthOf sameValue sameNumbers sameBools sameGroup sameAddresses sameAddress sameAreas sameLists blank noLists noAreas noGroup nobodies flag number bitsOf messageC headerC
   diverted-sends = value-sends p passes (blank 16) refl refl (simp (length-append, length-binary) (omega arith))

@@ -6,8 +6,8 @@ use borrow.Author.Needs.{needs}
 use borrow.Author.Tests.{eq-eqb, ne-eqb}
 use Rattle.desk.proofs.EndLaws.{accept-plain}
 use Rattle.desk.proofs.MarkingLaws.{marking-users}
-use Rattle.desk.proofs.NoticeLaws.{reject-cause}
-use Rattle.desk.proofs.PostLaws.{plain-by, refused-by, decide-plain, interrogate-plain, interrogate-area, desk-profile}
+use Rattle.desk.proofs.NoticeLaws.{reject-cause, asked-user}
+use Rattle.desk.proofs.PostLaws.{plain-by, refused-by, decide-plain, interrogate-plain, rejected-said, desk-profile}
 use Rattle.desk.specs.Orders.{sentAnswer}
 use Rattle.desk.proofs.posted.sent.Statement.{statement}
 use Rattle.desk.proofs.posted.sent.Tie as tie
@@ -40,19 +40,24 @@ unfolding sentAnswer
 returns-2 c = rw (ne-eqb _ _ (c .before .before .before .before .before .if1 .left), eq-eqb _ _ (c .before .before .before .before .if2 .taken)) (c .before .before .change2 .ensures)
 
 interrogate-requires : tie.Need-interrogate-requires
-interrogate-requires c κs = search needs
+interrogate-requires c κs =
+    let a = c .before .before .before .before .before in
+    (desk-profile _ (a .pre .0), asked-user _ _ (a .pre .1) (c .before .if3 .taken))
+
+same-length-3 : tie.Need-same-length-3
+same-length-3 c = search needs
 
 returns-3 : tie.Need-returns-3
 unfolding sentAnswer
 returns-3 c =
-    rw (ne-eqb _ _ (c .before .before .before .if1 .left), ne-eqb _ _ (c .before .before .if2 .left), eq-eqb _ _ (c .before .if3 .taken))
-    (plain-by _ _ _ _ _ _ _ _ _ (interrogate-plain _ _ _ _ _) (c .interrogate .ensures, interrogate-area _ _ _ _ _ _ _))
+    rw (ne-eqb _ _ (c .before .before .before .before .before .before .if1 .left), ne-eqb _ _ (c .before .before .before .before .before .if2 .left), eq-eqb _ _ (c .before .before .before .before .if3 .taken))
+    (plain-by _ _ _ _ _ _ _ _ _ (interrogate-plain _ _ _ _ _ _) (c .before .before .interrogate .ensures))
 
 accept-requires : tie.Need-accept-requires
 accept-requires c κs = c .before .before .before .before .before .before .pre .0
 
-same-length-3 : tie.Need-same-length-3
-same-length-3 c = search needs
+same-length-4 : tie.Need-same-length-4
+same-length-4 c = search needs
 
 returns-4 : tie.Need-returns-4
 unfolding sentAnswer
@@ -63,8 +68,8 @@ returns-4 c =
 divert-requires : tie.Need-divert-requires
 divert-requires c κs = desk-profile _ (c .before .before .before .before .before .before .before .pre .0)
 
-same-length-4 : tie.Need-same-length-4
-same-length-4 c = search needs
+same-length-5 : tie.Need-same-length-5
+same-length-5 c = search needs
 
 returns-5 : tie.Need-returns-5
 unfolding sentAnswer
@@ -83,14 +88,15 @@ rejected-requires c κs =
     let a = c .before .before .before .before .before .before .before .before .before .before in
     (desk-profile _ (a .pre .0), subst (λ (x : ℕ). x < 2 ^ 5) (sym (c .before .number-at2 .ensures)) (reject-cause _ _ (a .pre .1) (c .before .before .before .if6 .taken)))
 
-same-length-5 : tie.Need-same-length-5
-same-length-5 c = search needs
+same-length-6 : tie.Need-same-length-6
+same-length-6 c = search needs
 
 returns-6 : tie.Need-returns-6
 unfolding sentAnswer
 returns-6 c =
     rw (ne-eqb _ _ (c .before .before .before .before .before .before .before .before .before .before .before .if1 .left), ne-eqb _ _ (c .before .before .before .before .before .before .before .before .before .before .if2 .left), ne-eqb _ _ (c .before .before .before .before .before .before .before .before .before .if3 .left), ne-eqb _ _ (c .before .before .before .before .before .before .before .before .if4 .left), ne-eqb _ _ (c .before .before .before .before .before .before .before .if5 .left), eq-eqb _ _ (c .before .before .before .before .before .before .if6 .taken))
-    (plain-by _ _ _ _ _ _ _ _ _ (decide-plain _ _ _ _ _ refl) (rw (c .before .before .before .before .before .number-at .ensures, c .before .before .before .before .number-at2 .ensures) at (c .before .before .rejected .ensures)))
+    (plain-by _ _ _ _ _ _ _ _ _ (decide-plain _ _ _ _ _ refl)
+    (rejected-said _ _ _ _ _ _ _ _ _ _ (rw (c .before .before .before .before .before .number-at .ensures, c .before .before .before .before .number-at2 .ensures) at (c .before .before .rejected .ensures))))
 
 refuse-requires : tie.Need-refuse-requires
 refuse-requires c κs = search needs
@@ -116,17 +122,18 @@ sent-spec =
     same-length-2
     returns-2
     interrogate-requires
+    same-length-3
     returns-3
     accept-requires
-    same-length-3
+    same-length-4
     returns-4
     divert-requires
-    same-length-4
+    same-length-5
     returns-5
     number-at-requires
     number-at-requires-2
     rejected-requires
-    same-length-5
+    same-length-6
     returns-6
     refuse-requires
     refused-requires
