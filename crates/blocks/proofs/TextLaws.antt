@@ -16,60 +16,60 @@ use Rattle.blocks.specs.declared.Text.{Text}
 
 module _ (xs piece : List ℕ) where
   abbrev n : ℕ
-  n = min (640 - length (take 640 xs)) (length piece)
+  n = min (1152 - length (take 1152 xs)) (length piece)
 
-  full : 640 ≤ length xs → take 640 xs ++ take n piece ≡ take 640 (xs ++ piece)
+  full : 1152 ≤ length xs → take 1152 xs ++ take n piece ≡ take 1152 (xs ++ piece)
   full h =
-      let l : length (take 640 xs) ≡ 640 = length-take-le 640 xs h in
+      let l : length (take 1152 xs) ≡ 1152 = length-take-le 1152 xs h in
       let z : n ≡ 0 = omega arith in
-      rw (z, append-nil) (sym (take-append-le 640 xs piece h))
+      rw (z, append-nil) (sym (take-append-le 1152 xs piece h))
 
-  part : length xs < 640 → take 640 xs ++ take n piece ≡ take 640 (xs ++ piece)
+  part : length xs < 1152 → take 1152 xs ++ take n piece ≡ take 1152 (xs ++ piece)
   part h =
-      let all : take 640 xs ≡ xs = take-all 640 xs (omega arith) in
-      let l : length (take 640 xs) ≡ length xs = ap (λ (ys : List ℕ). length ys) all in
-      let whole : length xs + (640 - length xs) ≡ 640 = omega arith in
+      let all : take 1152 xs ≡ xs = take-all 1152 xs (omega arith) in
+      let l : length (take 1152 xs) ≡ length xs = ap (λ (ys : List ℕ). length ys) all in
+      let whole : length xs + (1152 - length xs) ≡ 1152 = omega arith in
       ap (λ (ys : List ℕ). ys ++ take n piece) all
       ∙ ap (λ (ys : List ℕ). xs ++ ys) (few l)
-      ∙ sym (ap (λ (m : ℕ). take m (xs ++ piece)) (sym whole) ∙ take-append-add xs piece (640 - length xs))
+      ∙ sym (ap (λ (m : ℕ). take m (xs ++ piece)) (sym whole) ∙ take-append-add xs piece (1152 - length xs))
     where
-      few : length (take 640 xs) ≡ length xs → take n piece ≡ take (640 - length xs) piece
+      few : length (take 1152 xs) ≡ length xs → take n piece ≡ take (1152 - length xs) piece
       few l =
           ⊎-elim
-          (λ h. let e : n ≡ length piece = omega arith in rw (e, take-length) (sym (take-all (640 - length xs) piece (omega arith))))
-          (λ h. let e : n ≡ 640 - length xs = omega arith in rw e)
-          (lt-or (length piece) (640 - length xs))
+          (λ h. let e : n ≡ length piece = omega arith in rw (e, take-length) (sym (take-all (1152 - length xs) piece (omega arith))))
+          (λ h. let e : n ≡ 1152 - length xs = omega arith in rw e)
+          (lt-or (length piece) (1152 - length xs))
 
-  now-kept : take 640 xs ++ take n piece ≡ take 640 (xs ++ piece)
-  now-kept = ⊎-elim (λ h. part h) (λ h. full h) (lt-or (length xs) 640)
+  now-kept : take 1152 xs ++ take n piece ≡ take 1152 (xs ++ piece)
+  now-kept = ⊎-elim (λ h. part h) (λ h. full h) (lt-or (length xs) 1152)
 
-  now-long : length (take 640 xs) + n ≡ length (take 640 (xs ++ piece))
+  now-long : length (take 1152 xs) + n ≡ length (take 1152 (xs ++ piece))
   now-long =
       let m : length (take n piece) ≡ n = length-take-le n piece (omega arith) in
-      ap (λ (k : ℕ). length (take 640 xs) + k) (sym m) ∙ sym (length-append (take 640 xs) (take n piece)) ∙ ap (λ (ys : List ℕ). length ys) now-kept
+      ap (λ (k : ℕ). length (take 1152 xs) + k) (sym m) ∙ sym (length-append (take 1152 xs) (take n piece)) ∙ ap (λ (ys : List ℕ). length ys) now-kept
 
   pub keep-text : keepOf (textOf xs) piece ≡ textOf (xs ++ piece)
   unfolding keepOf roomFor textOf
   keep-text =
-      let bytes : sets (sets noRoom 0 (take 640 xs)) (length (take 640 xs)) (take n piece) ≡ sets noRoom 0 (take 640 (xs ++ piece)) =
+      let bytes : sets (sets noRoom 0 (take 1152 xs)) (length (take 1152 xs)) (take n piece) ≡ sets noRoom 0 (take 1152 (xs ++ piece)) =
       joined ∙ ap (λ (ys : List ℕ). sets noRoom 0 ys) now-kept in
       both-parts now-long bytes
     where
-      joined : sets (sets noRoom 0 (take 640 xs)) (length (take 640 xs)) (take n piece) ≡ sets noRoom 0 (take 640 xs ++ take n piece)
-      joined = ap (λ (k : ℕ). sets (sets noRoom 0 (take 640 xs)) k (take n piece)) (sym (zero-add (length (take 640 xs)))) ∙ sym (sets-join noRoom 0 (take 640 xs) (take n piece))
+      joined : sets (sets noRoom 0 (take 1152 xs)) (length (take 1152 xs)) (take n piece) ≡ sets noRoom 0 (take 1152 xs ++ take n piece)
+      joined = ap (λ (k : ℕ). sets (sets noRoom 0 (take 1152 xs)) k (take n piece)) (sym (zero-add (length (take 1152 xs)))) ∙ sym (sets-join noRoom 0 (take 1152 xs) (take n piece))
 
       both-parts : {a b : ℕ} {p q : List ℕ} → a ≡ b → p ≡ q → _≡_ {A = Text} (record { len = a; bytes = p }) (record { len = b; bytes = q })
       both-parts e f = cc
 
 -- ---- what is kept of some bytes
 
-front : (xs : List ℕ) → length xs ≤ 640 → take (length xs) (sets noRoom 0 xs) ≡ xs
+front : (xs : List ℕ) → length xs ≤ 1152 → take (length xs) (sets noRoom 0 xs) ≡ xs
 unfolding noRoom
-front xs h = rw (sets-eq xs noRoom 0 (omega (arith, length-replicate {A = ℕ} 640 0))) (take-at xs _ (length xs) refl)
+front xs h = rw (sets-eq xs noRoom 0 (omega (arith, length-replicate {A = ℕ} 1152 0))) (take-at xs _ (length xs) refl)
 
-pub kept-first : (p : List ℕ) → take (textOf p .len) (textOf p .bytes) ≡ take 640 p
+pub kept-first : (p : List ℕ) → take (textOf p .len) (textOf p .bytes) ≡ take 1152 p
 unfolding textOf
-kept-first p = front (take 640 p) (omega (arith, length-take 640 p))
+kept-first p = front (take 1152 p) (omega (arith, length-take 1152 p))
 
 -- ---- what is written after a text
 

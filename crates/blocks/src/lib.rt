@@ -2,7 +2,7 @@
 //
 // Each function takes every input. `line_end` equals `lineEnd`; `put` leaves `putText` and answers where it ends, so what does not fit is
 // not put and every byte is decided (specs/Blocks). The bounds beside them follow, and are said for those who go on from there. `keep` puts
-// one more piece after a text, of which the first 640 bytes are kept (specs/Texts, proofs/TextLaws).
+// one more piece after a text, of which the first 1,152 bytes are kept (specs/Texts, proofs/TextLaws).
 ghost use mathlib.Core.Path.{_≡_};
 ghost use Prim.Native.Nat.{_+_, _-_, _≤_, min};
 ghost use lib.ListN.{length, take};
@@ -12,7 +12,7 @@ ghost use Rattle.blocks.specs.Texts.{noText, keepOf};
 // The first `len` of the bytes; the others are zero.
 pub struct Text {
     pub len: usize,
-    pub bytes: [u8; 640],
+    pub bytes: [u8; 1152],
 }
 
 // Where the line ends that goes on at an index: at the next LF, or at the block's end; from there on it ends where it is.
@@ -58,7 +58,7 @@ pub fn nothing_kept() -> Text
 {
     Text {
         len: 0,
-        bytes: [0; 640],
+        bytes: [0; 1152],
     }
 }
 
@@ -68,7 +68,7 @@ pub fn keep(kept: Text, piece: &[u8]) -> Text
 {
     let start = kept.len;
     let mut bytes = kept.bytes;
-    let n = room_for(640, start, piece.len());
+    let n = room_for(1152, start, piece.len());
     let mut i: usize = 0;
     while i < n {
         bytes[start + i] = piece[i];

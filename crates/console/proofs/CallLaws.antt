@@ -82,29 +82,29 @@ module _ (profile message : List ℕ) (n : ℕ) (l : List ℕ) where
   unfolding cadReadStop cadReadOf
   read-number s e = ap (λ (t : Stop). t .number) e ∙ number-of (cadRead profile message n (length l))
 
-  plain-low : (c : ℕ) → refusal c .at ≤ 2048
+  plain-low : (c : ℕ) → refusal c .at ≤ 4096
   unfolding refusal
   plain-low c = omega arith
 
-  none-low : noStop .at ≤ 2048
+  none-low : noStop .at ≤ 4096
   unfolding noStop
   none-low = omega arith
 
-  room-low : (x : Read Value) → ((s : Stop) → x ≡ no s → s .at ≤ 2048) → readStop (roomFor (length l) x) .at ≤ 2048
+  room-low : (x : Read Value) → ((s : Stop) → x ≡ no s → s .at ≤ 4096) → readStop (roomFor (length l) x) .at ≤ 4096
   unfolding roomFor readStop
   room-low (no s) h = h s refl
   room-low (got v q) h = go (leb valueSize (length l))
     where
-      go : (b : Bool) → readStop (cond b (got v q) (no (refusal 14))) .at ≤ 2048
+      go : (b : Bool) → readStop (cond b (got v q) (no (refusal 14))) .at ≤ 4096
       go true = none-low
       go false = plain-low 14
 
   -- a position is at most 2,048, so it crosses whole
-  pub position-low : (s : Stop) → s ≡ cadReadStop profile message n l → s .at ≤ 2048
+  pub position-low : (s : Stop) → s ≡ cadReadStop profile message n l → s .at ≤ 4096
   unfolding cadReadStop cadRead readStop
-  position-low s e = subst (λ (t : Stop). t .at ≤ 2048) (sym e) (go (passes profile))
+  position-low s e = subst (λ (t : Stop). t .at ≤ 4096) (sym e) (go (passes profile))
     where
-      go : (b : Bool) → readStop (cond b (roomFor (length l) (readOf (profileFrom profile) message n)) (no (refusal 1))) .at ≤ 2048
+      go : (b : Bool) → readStop (cond b (roomFor (length l) (readOf (profileFrom profile) message n)) (no (refusal 1))) .at ≤ 4096
       go true = room-low (readOf (profileFrom profile) message n) (position-most (profileFrom profile) message n)
       go false = plain-low 1
 

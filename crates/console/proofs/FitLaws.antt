@@ -1,7 +1,7 @@
 -- A valid value's numbers fit the bytes of the layout, and each of its groups has fifteen places. Assumes nothing.
 use Prim.Native.Nat.{ℕ, zero, suc, _+_, _-_, _*_, _/_, _^_, _≤_, _<_, min}
 use mathlib.Core.Path.{_≡_, refl, sym, ap, _∙_, subst}
-use mathlib.Core.Bool.{Bool, true, false, not}
+use mathlib.Core.Bool.{Bool, true, false, not, cond}
 use mathlib.Core.List.{List, [], _∷_, _++_}
 use native.Mathlib.Nat.{lt-of-lt-of-le}
 use native.Mathlib.Omega.{arith}
@@ -18,9 +18,10 @@ use Rattle.message.specs.Elements as element
 use Rattle.message.specs.Numbers as place
 use Rattle.message.specs.Numbers.{widths, widthOf}
 use Rattle.message.specs.Addresses.{nobody, isZero, isNobody, kindC, extensionC, addressC}
-use Rattle.message.specs.Groups.{addressesIn, nobodies, areNobody, placesC, addressesC, rangeC, groupC, noGroup, withAddress, spanOf}
-use Rattle.message.specs.Acks.{maskC, maskedC, resultC}
-use Rattle.message.specs.Values.{blank, withNumber, withGiven}
+use Rattle.message.specs.Groups.{addressesIn, nobodies, areNone, placesC, addressesC, rangeC, groupC, noGroup, withAddress, spanOf}
+use Rattle.message.specs.Areas.{areaC, areaPlacesC, areaListC, areasC, noAreas}
+use Rattle.message.specs.Acks.{maskC, maskedC, resultC, stateC}
+use Rattle.message.specs.Values.{noLists, blank, withNumber, withGiven, withLists}
 use Rattle.message.specs.Rows.{table, rowOf, Holds, partC, put, Tuple, partsC, puts, gets, Options, putOption, putOptions, getOptions, someOf, noneOf, eachC, optionsC, firstParts, partsOf, optionsOf}
 use Rattle.message.specs.Messages.{fill, taken, bodyC}
 use Rattle.message.proofs.AddressLaws.{zero-is, is-nobody}
@@ -30,12 +31,16 @@ use Rattle.message.proofs.RowLaws.{option-absent, options-absent, none-only}
 use Rattle.message.proofs.TableLaws.{each-row}
 use Rattle.message.specs.declared.Address.{Address}
 use Rattle.message.specs.declared.Group.{Group}
+use Rattle.message.specs.declared.Areas.{Areas}
+use Rattle.message.specs.declared.Lists.{Lists}
+use Rattle.message.specs.declared.State.{State}
 use Rattle.message.specs.declared.Part.{Part}
 use Rattle.message.specs.declared.Part.the-variants as part
 use Rattle.message.specs.declared.Row.{Row}
 use Rattle.message.specs.declared.Value.{Value}
 use Rattle.validity.specs.Validity.{validOf}
-use Rattle.validity.proofs.ValidLaws.{masked-there, masked-none}
+use Rattle.validity.specs.Parts.{acceptedOk, notAcceptedOk}
+use Rattle.validity.proofs.ValidLaws.{masked-there, masked-none, state-by}
 use Rattle.writing.proofs.LengthLaws.{valid-body}
 use Rattle.console.proofs.RowLaws.{All, none, more}
 
@@ -49,7 +54,7 @@ pub record Group-fits (g : Group) : Type 0 where
 
 -- how many bytes the layout has for each of a value's numbers; one without bytes is 0
 unfoldable pub sizes : List ℕ
-sizes = 2 ∷ 1 ∷ 1 ∷ 1 ∷ 3 ∷ 1 ∷ 1 ∷ 1 ∷ 1 ∷ 0 ∷ 0 ∷ 0 ∷ []
+sizes = 2 ∷ 1 ∷ 1 ∷ 1 ∷ 3 ∷ 1 ∷ 1 ∷ 1 ∷ 1 ∷ 1 ∷ 1 ∷ 0 ∷ []
 
 unfoldable pub sizeOf : ℕ → ℕ
 sizeOf k = getD sizes k 0
@@ -58,12 +63,18 @@ pub record Numbers-fit (l : List ℕ) : Type 0 where
   pub long : length l ≡ 12
   pub each : (k : ℕ) → getD l k 0 < 2 ^ (8 * sizeOf k)
 
+pub record Lists-fit (x : Lists) : Type 0 where
+  pub sources : Group-fits (x .sources)
+  pub destinations : Group-fits (x .destinations)
+  pub areas : length (x .areas .areas) ≡ 15
+
 pub record Value-fits (v : Value) : Type 0 where
   pub numbers : Numbers-fit (v .numbers)
   pub users : Group-fits (v .users)
   pub mask : v .mask < 2 ^ 64
   pub given : length (v .given) ≡ 7
   pub dispatchers : Group-fits (v .dispatchers)
+  pub lists : Lists-fit (v .lists)
 
 -- ---- addresses
 
@@ -73,10 +84,10 @@ nobody-fits = record { ssi = omega arith; extension = omega arith }
 zero-fits : (a : Address) → isNobody a ≡ true → Address-fits a
 zero-fits a e = subst (λ (x : Address). Address-fits x) (sym (is-nobody a e)) nobody-fits
 
-address-fits : (a : Address) → addressC .ok a ≡ true → Address-fits a
+address-fits : (external : Bool) (a : Address) → addressC external .ok a ≡ true → Address-fits a
 unfolding addressC extensionC number
-address-fits a e =
-    let s = both-right (kindC .ok (a .kind)) _ (both-right true _ e) in
+address-fits external a e =
+    let s = both-right (kindC external .ok (a .kind)) _ (both-right true _ e) in
     record {
       ssi = ltb-true _ _ (both-left _ _ s);
       extension = go (eqb (a .kind) 1) (both-right (ltb (a .ssi) (2 ^ 24)) _ s);
@@ -93,16 +104,16 @@ record Run (n : ℕ) (l : List Address) : Type 0 where
   long : length l ≡ n
   each : All Address-fits l
 
-ok-run : (n : ℕ) (l : List Address) → vecOk addressC n l ≡ true → Run n l
-ok-run zero [] e = record { long = refl; each = none }
-ok-run zero (a ∷ l) e = not-both e
-ok-run (suc n) [] e = not-both e
-ok-run (suc n) (a ∷ l) e =
-    let r = ok-run n l (both-right (addressC .ok a) _ e) in
-    record { long = ap suc (r .long); each = more (address-fits a (both-left _ _ e)) (r .each) }
+ok-run : (external : Bool) (n : ℕ) (l : List Address) → vecOk (addressC external) n l ≡ true → Run n l
+ok-run external zero [] e = record { long = refl; each = none }
+ok-run external zero (a ∷ l) e = not-both e
+ok-run external (suc n) [] e = not-both e
+ok-run external (suc n) (a ∷ l) e =
+    let r = ok-run external n l (both-right (addressC external .ok a) _ e) in
+    record { long = ap suc (r .long); each = more (address-fits external a (both-left _ _ e)) (r .each) }
 
-zero-run : (n : ℕ) (l : List Address) → areNobody n l ≡ true → Run n l
-unfolding areNobody
+zero-run : (n : ℕ) (l : List Address) → areNone isNobody n l ≡ true → Run n l
+unfolding areNone
 zero-run zero [] e = record { long = refl; each = none }
 zero-run zero (a ∷ l) e = not-both e
 zero-run (suc n) [] e = not-both e
@@ -114,10 +125,10 @@ all-join : (xs ys : List Address) → All Address-fits xs → All Address-fits y
 all-join [] ys none q = q
 all-join (x ∷ xs) ys (more p ps) q = more p (all-join xs ys ps q)
 
-places-fit : (k : ℕ) (l : List Address) → k ≤ 15 → placesC k .ok l ≡ true → Run 15 l
+places-fit : (external : Bool) (k : ℕ) (l : List Address) → k ≤ 15 → placesC external k .ok l ≡ true → Run 15 l
 unfolding placesC
-places-fit k l h e =
-    let p = ok-run k (take k l) (both-right (areNobody (15 - k) (drop k l)) _ e) in
+places-fit external k l h e =
+    let p = ok-run external k (take k l) (both-right (areNone isNobody (15 - k) (drop k l)) _ e) in
     let q = zero-run (15 - k) (drop k l) (both-left _ _ e) in
     let w : Run 15 (take k l ++ drop k l) =
     record {
@@ -129,13 +140,13 @@ places-fit k l h e =
 group-of : (g : Group) → Run 15 (g .addresses) → Group-fits g
 group-of g r = record { places = r .long; each = r .each }
 
-group-fits : (air : Air) (may : Bool) (g : Group) → groupC air may .ok g ≡ true → Group-fits g
+group-fits : (air : Air) (may external : Bool) (g : Group) → groupC air may external .ok g ≡ true → Group-fits g
 unfolding groupC addressesC
-group-fits air may g e =
+group-fits air may external g e =
     let m = meaningIn (air .meanings) (g .range) in
     let w = both-right true _ e in
     let few = few-addresses may m (range-allowed air may (g .range) (both-left _ _ w)) in
-    group-of g (places-fit (addressesIn m) (g .addresses) few (both-left _ _ (both-right (rangeC air may .ok (g .range)) _ w)))
+    group-of g (places-fit external (addressesIn m) (g .addresses) few (both-left _ _ (both-right (rangeC air may .ok (g .range)) _ w)))
 
 no-group-fits : Group-fits noGroup
 unfolding noGroup nobodies
@@ -153,6 +164,42 @@ all-set (x ∷ l) (suc i) a (more q qs) p = more q (all-set l i a qs p)
 
 one-fits : (g : Group) (i : ℕ) (a : Address) → Group-fits g → Address-fits a → Group-fits (withAddress i a g)
 one-fits g i a p q = record { places = length-set (g .addresses) i a ∙ p .places; each = all-set (g .addresses) i a (p .each) q }
+
+-- ---- areas
+
+all-long : (n : ℕ) (l : List ℕ) → vecOk areaC n l ≡ true → length l ≡ n
+all-long zero [] e = refl
+all-long zero (a ∷ l) e = not-both e
+all-long (suc n) [] e = not-both e
+all-long (suc n) (a ∷ l) e = ap suc (all-long n l (both-right (areaC .ok a) _ e))
+
+none-long : (n : ℕ) (l : List ℕ) → areNone isZero n l ≡ true → length l ≡ n
+unfolding areNone
+none-long zero [] e = refl
+none-long zero (a ∷ l) e = not-both e
+none-long (suc n) [] e = not-both e
+none-long (suc n) (a ∷ l) e = ap suc (none-long n l (both-right (isZero a) _ e))
+
+areas-fit : (air : Air) (a : Areas) → areasC air .ok a ≡ true → length (a .areas) ≡ 15
+unfolding areasC areaListC areaPlacesC
+areas-fit air a e =
+    let m = meaningIn (air .meanings) (a .range) in
+    let k = addressesIn m in
+    let w = both-right true _ e in
+    let few : k ≤ 15 = few-addresses true m (range-allowed air true (a .range) (both-left _ _ w)) in
+    let z = both-left _ _ (both-right (rangeC air true .ok (a .range)) _ w) in
+    ap (λ (x : List ℕ). length x) (sym (take-append-drop k (a .areas)))
+    ∙ omega (
+      arith,
+      few,
+      length-append (take k (a .areas)) (drop k (a .areas)),
+      all-long k (take k (a .areas)) (both-right (areNone isZero (15 - k) (drop k (a .areas))) _ z),
+      none-long (15 - k) (drop k (a .areas)) (both-left _ _ z),
+    )
+
+no-lists-fit : Lists-fit noLists
+unfolding noLists noAreas
+no-lists-fit = record { sources = no-group-fits; destinations = no-group-fits; areas = refl }
 
 -- ---- masks
 
@@ -180,6 +227,10 @@ hasBytes part.Masked = true
 hasBytes part.Result = true
 hasBytes part.Dispatchers = true
 hasBytes part.Dispatcher = true
+hasBytes part.Interrogation = true
+hasBytes part.Sources = true
+hasBytes part.Destinations = true
+hasBytes part.Areas = true
 
 -- what each element has, each has after one was stored
 set-each : {A : Type 0} (d : A) (P : ℕ → A → Type 0) (l : List A) (k : ℕ) (x : A) → P k x → ((i : ℕ) → P i (getD l i d)) → (i : ℕ) → P i (getD (set l k x) i d)
@@ -195,7 +246,7 @@ set-number l k x n h =
 
 number-fits : (k x : ℕ) (v : Value) → Value-fits v → x < 2 ^ (8 * sizeOf k) → Value-fits (withNumber k x v)
 number-fits k x v f h =
-    record { numbers = set-number (v .numbers) k x (f .numbers) h; users = f .users; mask = f .mask; given = f .given; dispatchers = f .dispatchers }
+    record { numbers = set-number (v .numbers) k x (f .numbers) h; users = f .users; mask = f .mask; given = f .given; dispatchers = f .dispatchers; lists = f .lists }
 
 reason-most : (r w : ℕ) → resultC .ok (r, w) ≡ true → w < 2 ^ (8 * sizeOf place.reason)
 unfolding resultC number sizeOf sizes
@@ -209,22 +260,67 @@ result-most : (r w : ℕ) → resultC .ok (r, w) ≡ true → r < 2 ^ (8 * sizeO
 unfolding resultC number sizeOf sizes
 result-most r w e = let h : r < 2 ^ 1 = ltb-true _ _ (both-left _ _ e) in omega arith
 
+one-byte : {n : ℕ} → n < 2 ^ 8 → n < 2 ^ (8 * 1)
+one-byte h = h
+
+with-lists : (v : Value) (x : Lists) → Value-fits v → Lists-fit x → Value-fits (withLists x v)
+with-lists v x f l = record { numbers = f .numbers; users = f .users; mask = f .mask; given = f .given; dispatchers = f .dispatchers; lists = l }
+
+-- a state's numbers are small
+below : (n k : ℕ) → k ≤ 7 → leb n k ≡ true → n < 2 ^ 8
+below n k h e = let z = leb-true n k e in omega arith
+
+zero-below : (n : ℕ) → isZero n ≡ true → n < 2 ^ 8
+zero-below n e = let z = zero-is n e in omega arith
+
+abbrev Small : State → Type 0
+Small s = (s .result < 2 ^ 8) × ((s .reason < 2 ^ 8) × ((s .activation < 2 ^ 8) × ((s .interception < 2 ^ 8) × ((s .called < 2 ^ 8) × (s .calling < 2 ^ 8)))))
+
+state-small : (s : State) → stateC .ok s ≡ true → Small s
+unfolding acceptedOk notAcceptedOk
+state-small s e = go (eqb (s .result) 1) (sym (state-by s) ∙ e)
+  where
+    go : (b : Bool) → both (leb (s .result) 1) (cond b (acceptedOk s) (notAcceptedOk s)) ≡ true → Small s
+    go true z =
+        let w = both-right (leb (s .result) 1) _ z in
+        let w₁ = both-right (isZero (s .reason)) _ w in
+        let w₂ = both-right (leb (s .activation) 1) _ w₁ in
+        let w₃ = both-right (leb (s .interception) 1) _ w₂ in
+        (below _ 1 (omega arith) (both-left _ _ z), (zero-below _ (both-left _ _ w), (below _ 1 (omega arith) (both-left _ _ w₁), (below _ 1 (omega arith) (both-left _ _ w₂), (below _ 3 (omega arith) (both-left _ _ w₃), below _ 3 (omega arith) (both-right (leb (s .called) 3) _ w₃))))))
+    go false z =
+        let w = both-right (leb (s .result) 1) _ z in
+        let w₁ = both-right (leb (s .reason) 7) _ w in
+        let w₂ = both-right (isZero (s .activation)) _ w₁ in
+        let w₃ = both-right (isZero (s .interception)) _ w₂ in
+        (below _ 1 (omega arith) (both-left _ _ z), (below _ 7 (omega arith) (both-left _ _ w), (zero-below _ (both-left _ _ w₁), (zero-below _ (both-left _ _ w₂), (zero-below _ (both-left _ _ w₃), zero-below _ (both-right (isZero (s .called)) _ w₃))))))
+
 part-fits : (air : Air) (u : Value) (p : Part) (x : Holds p) (v : Value) → Value-fits v → hasBytes p ≡ true → partC air u p .ok x ≡ true → Value-fits (put p x v)
-unfolding number
+unfolding number sizeOf sizes
 part-fits air u part.Nothing x v f b e = f
 part-fits air u (part.Number k) x v f b e = number-fits k x v f (lt-of-lt-of-le (ltb-true _ _ e) (pow-mono {j = 8 * sizeOf k} (leb-true _ _ b)))
 part-fits air u part.Users x v f b e =
-    record { numbers = f .numbers; users = group-fits air false x e; mask = f .mask; given = f .given; dispatchers = f .dispatchers }
+    record { numbers = f .numbers; users = group-fits air false false x e; mask = f .mask; given = f .given; dispatchers = f .dispatchers; lists = f .lists }
 part-fits air u (part.User i) x v f b e =
-    record { numbers = f .numbers; users = one-fits (v .users) i x (f .users) (address-fits x e); mask = f .mask; given = f .given; dispatchers = f .dispatchers }
+    record { numbers = f .numbers; users = one-fits (v .users) i x (f .users) (address-fits false x e); mask = f .mask; given = f .given; dispatchers = f .dispatchers; lists = f .lists }
 part-fits air u part.Masked x v f b e =
-    record { numbers = f .numbers; users = f .users; mask = masked-fits (min (spanOf air (u .users)) 64) (x .0) (x .1) (omega arith) e; given = f .given; dispatchers = f .dispatchers }
+    record { numbers = f .numbers; users = f .users; mask = masked-fits (min (spanOf air (u .users)) 64) (x .0) (x .1) (omega arith) e; given = f .given; dispatchers = f .dispatchers; lists = f .lists }
 part-fits air u part.Result x v f b e =
     number-fits place.reason (x .1) _ (number-fits place.result (x .0) v f (result-most (x .0) (x .1) e)) (reason-most (x .0) (x .1) e)
 part-fits air u part.Dispatchers x v f b e =
-    record { numbers = f .numbers; users = f .users; mask = f .mask; given = f .given; dispatchers = group-fits air true x e }
+    record { numbers = f .numbers; users = f .users; mask = f .mask; given = f .given; dispatchers = group-fits air true false x e; lists = f .lists }
 part-fits air u part.Dispatcher x v f b e =
-    record { numbers = f .numbers; users = f .users; mask = f .mask; given = f .given; dispatchers = one-fits (v .dispatchers) 0 x (f .dispatchers) (address-fits x e) }
+    record { numbers = f .numbers; users = f .users; mask = f .mask; given = f .given; dispatchers = one-fits (v .dispatchers) 0 x (f .dispatchers) (address-fits false x e); lists = f .lists }
+part-fits air u part.Interrogation x v f b e =
+    let s = state-small x e in
+    number-fits place.callingService (x .calling) _
+    (number-fits place.calledService (x .called) _
+    (number-fits place.interceptionType (x .interception) _
+    (number-fits place.activationType (x .activation) _
+    (number-fits place.reason (x .reason) _ (number-fits place.result (x .result) v f (one-byte (s .0))) (one-byte (s .1 .0))) (one-byte (s .1 .1 .0)))
+    (one-byte (s .1 .1 .1 .0))) (one-byte (s .1 .1 .1 .1 .0))) (one-byte (s .1 .1 .1 .1 .1))
+part-fits air u part.Sources x v f b e = with-lists v _ f (record { sources = group-fits air true false x e; destinations = f .lists .destinations; areas = f .lists .areas })
+part-fits air u part.Destinations x v f b e = with-lists v _ f (record { sources = f .lists .sources; destinations = group-fits air true true x e; areas = f .lists .areas })
+part-fits air u part.Areas x v f b e = with-lists v _ f (record { sources = f .lists .sources; destinations = f .lists .destinations; areas = areas-fit air x e })
 
 -- ---- rows
 
@@ -252,11 +348,12 @@ blank-fits t =
       mask = omega arith;
       given = refl;
       dispatchers = no-group-fits;
+      lists = no-lists-fit;
     }
 
 with-given : (v : Value) (i : ℕ) (b : Bool) → Value-fits v → Value-fits (withGiven i b v)
 with-given v i b f =
-    record { numbers = f .numbers; users = f .users; mask = f .mask; given = length-set (v .given) i b ∙ f .given; dispatchers = f .dispatchers }
+    record { numbers = f .numbers; users = f .users; mask = f .mask; given = length-set (v .given) i b ∙ f .given; dispatchers = f .dispatchers; lists = f .lists }
 
 option-fits : (air : Air) (u : Value) (i : ℕ) (q : Part) (x : Optional (Holds q)) (v : Value) → Value-fits v → hasBytes q ≡ true
     → optional element.pBit (partC air u q) .ok x ≡ true → Value-fits (putOption i q x v)

@@ -30,13 +30,14 @@ use Rattle.message.specs.Addresses.{isZero}
 use Rattle.message.proofs.AddressLaws.{zero-is}
 use Rattle.message.specs.declared.Address.{Address}
 use Rattle.message.specs.declared.Group.{Group}
+use Rattle.message.specs.declared.Areas.{Areas}
 use Rattle.message.specs.declared.Value.{Value}
 use Rattle.validity.specs.Validity.{validOf}
 use Rattle.console.specs.Bytes.{numberFrom, numberBytes, rowsFrom, rowsBytes, areZero}
-use Rattle.console.specs.Profiles.{byteBy, meaningBytes, meaningFrom, shareBytes, shareFrom, profileBytes, airFrom, sharesFrom, profileFrom, isProfile}
-use Rattle.console.specs.Values.{addressBytes, addressFrom, groupBytes, groupFrom, valueSize, firstBytes, moreBytes, valueBytes, valueFrom, isValue}
+use Rattle.console.specs.Profiles.{byteBy, meaningBytes, meaningFrom, shareBytes, shareFrom, profileBytes, airFrom, sharesFrom, profileFrom, spareZero, isProfile}
+use Rattle.console.specs.Values.{addressBytes, addressFrom, groupBytes, groupFrom, byteFrom, byteBytes, areasBytes, areasFrom, valueSize, firstBytes, moreBytes, typeBytes, listsBytes, listsFrom, valueBytes, valueFrom, isValue}
 use Rattle.console.proofs.ByteLaws.{byte-here, length-number}
-use Rattle.console.proofs.PutLaws.{length-address, length-group, length-more}
+use Rattle.console.proofs.PutLaws.{length-address, length-group, length-more, length-types}
 use Rattle.console.proofs.RowLaws.{AreBytes, bytes-drop, low-byte, number-there, number-back, rows-there, rows-back, byte-front, run-front, past-byte, past-run, all-of, rows-length}
 use Rattle.console.proofs.FitLaws.{Address-fits, Group-fits, sizes, sizeOf, Numbers-fit, Value-fits, valid-fits}
 
@@ -73,6 +74,30 @@ group-back : (g : Group) (ys : List ℕ) → Group-fits g → groupFrom (groupBy
 unfolding groupBytes groupFrom
 group-back g ys p = rw (rows-back addressFrom addressBytes 7 Address-fits length-address address-back 15 (g .addresses) ys (p .places) (p .each))
 
+-- ---- areas
+
+areas-there : (l : List ℕ) → 16 ≤ length l → areasBytes (areasFrom l) ≡ take 16 l
+unfolding areasBytes areasFrom
+areas-there l k =
+    let c : drop 0 l ≡ getD l 0 0 ∷ drop 1 l = drop-cons l 0 0 (omega arith) in
+    rw (rows-there byteFrom byteBytes 1 15 (drop 1 l) each) (sym (ap (λ (x : List ℕ). take 16 x) c))
+  where
+    one-there : (m : List ℕ) → 1 ≤ length m → getD m 0 0 ∷ [] ≡ take 1 m
+    one-there [] h = absurd (omega arith)
+    one-there (b ∷ m) h = refl
+
+    each : (i : ℕ) → i < 15 → byteBytes (byteFrom (drop (1 * i) (drop 1 l))) ≡ take 1 (drop (1 * i) (drop 1 l))
+    each i m = one-there (drop (1 * i) (drop 1 l)) (omega (arith, length-drop (1 * i) (drop 1 l), length-drop 1 l))
+
+areas-back : (a : Areas) (ys : List ℕ) → length (a .areas) ≡ 15 → areasFrom (areasBytes a ++ ys) ≡ a
+unfolding areasBytes areasFrom
+areas-back a ys h =
+    rw (rows-back byteFrom byteBytes 1 (λ (b : ℕ). Unit {0}) (λ b. refl) (λ b zs t. refl) 15 (a .areas) ys h (all-of (λ (b : ℕ). Unit {0}) 0 (a .areas) (λ i k. tt)))
+
+length-areas : (a : Areas) → length (a .areas) ≡ 15 → length (areasBytes a) ≡ 16
+unfolding areasBytes
+length-areas a h = omega (arith, h, rows-length byteFrom byteBytes 1 (λ b. refl) (a .areas))
+
 -- ---- values
 
 flag-there : (b : ℕ) → b ≤ 1 → one (eqb b 1) ≡ b
@@ -87,9 +112,15 @@ flag-back false = refl
 low-small : {n : ℕ} → n < 256 → n % 256 ≡ n
 low-small {n} h = omega arith
 
--- the bytes after the users, after the mask, and after the identifier
+-- the bytes of the types and the lists; those after the dispatchers, after the identifier, after the mask, and after the users
+abbrev lastOf : Value → List ℕ
+lastOf v = typeBytes (v .numbers) ++ listsBytes (v .lists)
+
+abbrev afterDispatchers : Value → List ℕ
+afterDispatchers v = moreBytes (v .numbers) (v .given) ++ lastOf v
+
 abbrev afterIdentifier : Value → List ℕ
-afterIdentifier v = one (givenAt 0 v) ∷ (groupBytes (v .dispatchers) ++ moreBytes (v .numbers) (v .given))
+afterIdentifier v = one (givenAt 0 v) ∷ (groupBytes (v .dispatchers) ++ afterDispatchers v)
 
 abbrev afterMask : Value → List ℕ
 afterMask v =
@@ -98,30 +129,50 @@ afterMask v =
 abbrev afterUsers : Value → List ℕ
 afterUsers v = one (v .masked) ∷ (numberBytes 8 (v .mask) ++ afterMask v)
 
-mask-is : (v : Value) → firstBytes (v .numbers) (v .given) ++ (groupBytes (v .dispatchers) ++ moreBytes (v .numbers) (v .given)) ≡ afterMask v
+mask-is : (v : Value) → firstBytes (v .numbers) (v .given) ++ (groupBytes (v .dispatchers) ++ afterDispatchers v) ≡ afterMask v
 unfolding firstBytes
 mask-is v =
     ap (λ (x : List ℕ). numberAt place.result v % 256 ∷ (numberAt place.reason v % 256 ∷ (numberAt place.cause v % 256 ∷ x)))
-    (append-assoc (numberBytes 2 (numberAt place.identifier v)) (one (givenAt 0 v) ∷ []) (groupBytes (v .dispatchers) ++ moreBytes (v .numbers) (v .given)))
+    (append-assoc (numberBytes 2 (numberAt place.identifier v)) (one (givenAt 0 v) ∷ []) (groupBytes (v .dispatchers) ++ afterDispatchers v))
 
 value-is : (v : Value) → valueBytes v ≡ v .pdu ∷ (groupBytes (v .users) ++ afterUsers v)
 unfolding valueBytes
 value-is v = simp append-assoc (ap (λ (x : List ℕ). v .pdu ∷ (groupBytes (v .users) ++ (one (v .masked) ∷ (numberBytes 8 (v .mask) ++ x)))) (mask-is v))
 
--- the bytes from the further options on
-more-there : (l : List ℕ) → AreBytes l → isValue l ≡ true → moreBytes (valueFrom l .numbers) (valueFrom l .given) ≡ drop 228 l
-unfolding valueFrom isValue moreBytes
+-- the bytes of the types and the lists
+last-there : (l : List ℕ) → AreBytes l → isValue l ≡ true → lastOf (valueFrom l) ≡ drop 241 l
+unfolding valueFrom isValue typeBytes listsBytes listsFrom
+last-there l h e =
+    let n : length l ≡ valueSize = eqb-true _ _ (both-left _ _ e) in
+    let sources = group-there (drop 243 l) (bytes-drop 243 l h) (omega (arith, length-drop 243 l)) in
+    let destinations = group-there (drop 349 l) (bytes-drop 349 l h) (omega (arith, length-drop 349 l)) in
+    let areas = areas-there (drop 455 l) (omega (arith, length-drop 455 l)) ∙ take-all 16 (drop 455 l) (omega (arith, length-drop 455 l)) in
+    let d243 = run-front l 243 106 _ _ sources (run-front l 349 106 _ _ destinations areas) in
+    byte-front l 241 _ _ (omega arith) (low-byte l h 241) (byte-front l 242 _ _ (omega arith) (low-byte l h 242) d243)
+
+-- and those from the further options on
+more-is : (n : List ℕ) (g : List Bool) (rest : List ℕ)
+    → moreBytes n g ++ rest
+    ≡ one (getD g 1 false) ∷ (one (getD g 2 false) ∷ (one (getD g 3 false) ∷ (one (getD g 4 false) ∷ (one (getD g 5 false) ∷ (one (getD g 6 false)
+    ∷ (numberBytes 3 (getD n place.mni 0) ++ (getD n place.callingArea 0 % 256 ∷ (getD n place.calledArea 0 % 256 ∷ (getD n place.callingService 0 % 256 ∷ (getD n place.calledService 0 % 256 ∷ rest))))))))))
+unfolding moreBytes
+more-is n g rest =
+    ap (λ (x : List ℕ). one (getD g 1 false) ∷ (one (getD g 2 false) ∷ (one (getD g 3 false) ∷ (one (getD g 4 false) ∷ (one (getD g 5 false) ∷ (one (getD g 6 false) ∷ x))))))
+    (append-assoc (numberBytes 3 (getD n place.mni 0)) (getD n place.callingArea 0 % 256 ∷ getD n place.calledArea 0 % 256 ∷ getD n place.callingService 0 % 256 ∷ getD n place.calledService 0 % 256 ∷ []) rest)
+
+more-there : (l : List ℕ) → AreBytes l → isValue l ≡ true → afterDispatchers (valueFrom l) ≡ drop 228 l
+unfolding valueFrom isValue
 more-there l h e =
     let n : length l ≡ valueSize = eqb-true _ _ (both-left _ _ e) in
     let small = every-at 6 _ (both-right (leb (getD l 121 0) 1) _ (both-right (leb (getD l 107 0) 1) _ (both-right (eqb (length l) valueSize) _ e))) in
     let flag : (r : ℕ) → r < 6 → one (eqb (getD l (228 + r) 0) 1) ≡ getD l (228 + r) 0 = λ r k. flag-there _ (leb-true _ _ (small r k)) in
     let mni = number-there 3 (drop 234 l) (bytes-drop 234 l h) (omega (arith, length-drop 234 l)) in
-    let d241 : [] ≡ drop 241 l = sym (drop-of-length-le l {i = 241} (omega arith)) in
+    let d241 : lastOf (valueFrom l) ≡ drop 241 l = last-there l h e in
     let d239 = byte-front l 239 _ _ (omega arith) (low-byte l h 239) (byte-front l 240 _ _ (omega arith) (low-byte l h 240) d241) in
     let d237 = byte-front l 237 _ _ (omega arith) (low-byte l h 237) (byte-front l 238 _ _ (omega arith) (low-byte l h 238) d239) in
     let d232 = byte-front l 232 _ _ (omega arith) (flag 4 (omega arith)) (byte-front l 233 _ _ (omega arith) (flag 5 (omega arith)) (run-front l 234 3 _ _ mni d237)) in
     let d230 = byte-front l 230 _ _ (omega arith) (flag 2 (omega arith)) (byte-front l 231 _ _ (omega arith) (flag 3 (omega arith)) d232) in
-    byte-front l 228 _ _ (omega arith) (flag 0 (omega arith)) (byte-front l 229 _ _ (omega arith) (flag 1 (omega arith)) d230)
+    more-is _ _ _ ∙ byte-front l 228 _ _ (omega arith) (flag 0 (omega arith)) (byte-front l 229 _ _ (omega arith) (flag 1 (omega arith)) d230)
 
 -- what is taken from a value's bytes is written as those bytes
 pub value-there : (l : List ℕ) → AreBytes l → isValue l ≡ true → valueBytes (valueFrom l) ≡ l
@@ -150,11 +201,11 @@ each-are : {A : Type 0} (d : A) (l : List A) (i n : ℕ) → i + n ≡ length l 
 each-are d l i zero e = drop-of-length-le l {i = i} (omega arith)
 each-are d l i (suc n) e = drop-cons l i d (omega arith) ∙ ap (λ x. getD l i d ∷ x) (each-are d l (suc i) n (omega arith))
 
--- the last three numbers have no bytes
+-- the last number has no bytes
 numbers-are : (l : List ℕ) → Numbers-fit l
-    → l ≡ getD l 0 0 ∷ getD l 1 0 ∷ getD l 2 0 ∷ getD l 3 0 ∷ getD l 4 0 ∷ getD l 5 0 ∷ getD l 6 0 ∷ getD l 7 0 ∷ getD l 8 0 ∷ 0 ∷ 0 ∷ 0 ∷ []
+    → l ≡ getD l 0 0 ∷ getD l 1 0 ∷ getD l 2 0 ∷ getD l 3 0 ∷ getD l 4 0 ∷ getD l 5 0 ∷ getD l 6 0 ∷ getD l 7 0 ∷ getD l 8 0 ∷ getD l 9 0 ∷ getD l 10 0 ∷ 0 ∷ []
 unfolding sizeOf sizes
-numbers-are l n = each-are 0 l 0 12 (sym (n .long)) ∙ rw (none 9 refl, none 10 refl, none 11 refl)
+numbers-are l n = each-are 0 l 0 12 (sym (n .long)) ∙ rw (none 11 refl)
   where
     none : (k : ℕ) → sizeOf k ≡ 0 → getD l k 0 ≡ 0
     none k e = let h = n .each k in let z : 2 ^ (8 * sizeOf k) ≡ 1 = rw e in omega (arith, h, z)
@@ -165,9 +216,6 @@ value-of v ns gs e f = ap (λ (x : List ℕ). withNumbers x (withGivens gs v)) (
 module _ (v : Value) (p : Value-fits v) where
   abbrev bytes : List ℕ
   bytes = groupBytes (v .users) ++ afterUsers v
-
-  abbrev more : List ℕ
-  more = moreBytes (v .numbers) (v .given)
 
   nu : length (groupBytes (v .users)) ≡ 106
   nu = length-group (v .users) (p .users .places)
@@ -185,8 +233,48 @@ module _ (v : Value) (p : Value-fits v) where
       ∙ ap (λ (x : List ℕ). drop 5 x) past-mask
       ∙ past-run 2 (numberBytes 2 (numberAt place.identifier v)) (afterIdentifier v) (length-number 2 (numberAt place.identifier v)) 0
 
-  past-dispatchers : drop 227 bytes ≡ more
-  past-dispatchers = sym (drop-drop 107 120 bytes) ∙ ap (λ (x : List ℕ). drop 107 x) past-identifier ∙ past-run 106 (groupBytes (v .dispatchers)) more nd 0
+  past-dispatchers : drop 227 bytes ≡ afterDispatchers v
+  past-dispatchers = sym (drop-drop 107 120 bytes) ∙ ap (λ (x : List ℕ). drop 107 x) past-identifier ∙ past-run 106 (groupBytes (v .dispatchers)) (afterDispatchers v) nd 0
+
+  past-more : drop 240 bytes ≡ lastOf v
+  past-more =
+      sym (drop-drop 13 227 bytes) ∙ ap (λ (x : List ℕ). drop 13 x) past-dispatchers
+      ∙ past-run 13 (moreBytes (v .numbers) (v .given)) (lastOf v) (length-more (v .numbers) (v .given)) 0
+
+  past-types : drop 242 bytes ≡ listsBytes (v .lists)
+  past-types =
+      sym (drop-drop 2 240 bytes) ∙ ap (λ (x : List ℕ). drop 2 x) past-more
+      ∙ past-run 2 (typeBytes (v .numbers)) (listsBytes (v .lists)) (length-types (v .numbers) (v .given)) 0
+
+  ns : length (groupBytes (v .lists .sources)) ≡ 106
+  ns = length-group (v .lists .sources) (p .lists .sources .places)
+
+  nt : length (groupBytes (v .lists .destinations)) ≡ 106
+  nt = length-group (v .lists .destinations) (p .lists .destinations .places)
+
+  abbrev afterSources : List ℕ
+  afterSources = groupBytes (v .lists .destinations) ++ areasBytes (v .lists .areas)
+
+  past-sources : drop 348 bytes ≡ afterSources
+  unfolding listsBytes
+  past-sources = sym (drop-drop 106 242 bytes) ∙ ap (λ (x : List ℕ). drop 106 x) past-types ∙ past-run 106 (groupBytes (v .lists .sources)) afterSources ns 0
+
+  past-destinations : drop 454 bytes ≡ areasBytes (v .lists .areas)
+  past-destinations =
+      sym (drop-drop 106 348 bytes) ∙ ap (λ (x : List ℕ). drop 106 x) past-sources ∙ past-run 106 (groupBytes (v .lists .destinations)) (areasBytes (v .lists .areas)) nt 0
+
+  lists-back : listsFrom (v .pdu ∷ bytes) ≡ v .lists
+  unfolding listsFrom listsBytes
+  lists-back =
+      let es : groupFrom (drop 242 bytes) ≡ v .lists .sources = ap (λ (x : List ℕ). groupFrom x) past-types ∙ group-back (v .lists .sources) afterSources (p .lists .sources) in
+      let ed : groupFrom (drop 348 bytes) ≡ v .lists .destinations =
+      ap (λ (x : List ℕ). groupFrom x) past-sources ∙ group-back (v .lists .destinations) (areasBytes (v .lists .areas)) (p .lists .destinations) in
+      let ea : areasFrom (drop 454 bytes) ≡ v .lists .areas =
+      ap (λ (x : List ℕ). areasFrom x) (past-destinations ∙ sym (append-nil (areasBytes (v .lists .areas)))) ∙ areas-back (v .lists .areas) [] (p .lists .areas) in
+      rw (es, ed, ea)
+
+  type-at : (k : ℕ) → getD bytes (240 + k) 0 ≡ getD (lastOf v) k 0
+  type-at k = sym (getD-drop 240 bytes k 0) ∙ ap (λ (x : List ℕ). getD x k 0) past-more
 
   -- so the k-th byte after each
   masked-at : getD bytes 106 0 ≡ one (v .masked)
@@ -198,16 +286,17 @@ module _ (v : Value) (p : Value-fits v) where
   option-at : getD bytes 120 0 ≡ one (givenAt 0 v)
   option-at = sym (getD-drop 120 bytes 0 0) ∙ ap (λ (x : List ℕ). getD x 0 0) past-identifier
 
-  more-at : (k : ℕ) → getD bytes (227 + k) 0 ≡ getD more k 0
+  more-at : (k : ℕ) → getD bytes (227 + k) 0 ≡ getD (afterDispatchers v) k 0
   more-at k = sym (getD-drop 227 bytes k 0) ∙ ap (λ (x : List ℕ). getD x k 0) past-dispatchers
 
   fits-back : valueFrom (valueBytes v) ≡ v
-  unfolding valueFrom moreBytes sizeOf sizes
+  unfolding valueFrom moreBytes typeBytes sizeOf sizes
   fits-back =
       let small = p .numbers .each in
       let last = numberBytes 3 (numberAt place.mni v) in
-      let areas = numberAt place.callingArea v % 256 ∷ numberAt place.calledArea v % 256 ∷ numberAt place.callingService v % 256 ∷ numberAt place.calledService v % 256 ∷ [] in
       let nl = length-number 3 (numberAt place.mni v) in
+      let areas = numberAt place.callingArea v % 256 ∷ (numberAt place.calledArea v % 256 ∷ (numberAt place.callingService v % 256 ∷ (numberAt place.calledService v % 256 ∷ lastOf v))) in
+      let is = more-is (v .numbers) (v .given) (lastOf v) in
       let eu : groupFrom bytes ≡ v .users = group-back (v .users) (afterUsers v) (p .users) in
       let ek : numberFrom 8 (drop 107 bytes) ≡ v .mask =
       ap (λ (x : List ℕ). numberFrom 8 x) (past-run 106 (groupBytes (v .users)) (afterUsers v) nu 1) ∙ number-back 8 (v .mask) (afterMask v) (p .mask) in
@@ -218,13 +307,15 @@ module _ (v : Value) (p : Value-fits v) where
       ap (λ (x : List ℕ). numberFrom 2 x) (sym (drop-drop 3 115 bytes) ∙ ap (λ (x : List ℕ). drop 3 x) past-mask)
       ∙ number-back 2 (numberAt place.identifier v) (afterIdentifier v) (small place.identifier) in
       let ed : groupFrom (drop 121 bytes) ≡ v .dispatchers =
-      ap (λ (x : List ℕ). groupFrom x) (sym (drop-drop 1 120 bytes) ∙ ap (λ (x : List ℕ). drop 1 x) past-identifier) ∙ group-back (v .dispatchers) more (p .dispatchers) in
+      ap (λ (x : List ℕ). groupFrom x) (sym (drop-drop 1 120 bytes) ∙ ap (λ (x : List ℕ). drop 1 x) past-identifier) ∙ group-back (v .dispatchers) (afterDispatchers v) (p .dispatchers) in
       let en : numberFrom 3 (drop 233 bytes) ≡ numberAt place.mni v =
-      ap (λ (x : List ℕ). numberFrom 3 x) (sym (drop-drop 6 227 bytes) ∙ ap (λ (x : List ℕ). drop 6 x) past-dispatchers) ∙ number-back 3 (numberAt place.mni v) areas (small place.mni) in
-      let ea : getD bytes 236 0 ≡ numberAt place.callingArea v = more-at 9 ∙ past-byte 3 last areas nl 0 ∙ low-small (small place.callingArea) in
-      let eb : getD bytes 237 0 ≡ numberAt place.calledArea v = more-at 10 ∙ past-byte 3 last areas nl 1 ∙ low-small (small place.calledArea) in
-      let ey : getD bytes 238 0 ≡ numberAt place.callingService v = more-at 11 ∙ past-byte 3 last areas nl 2 ∙ low-small (small place.callingService) in
-      let ez : getD bytes 239 0 ≡ numberAt place.calledService v = more-at 12 ∙ past-byte 3 last areas nl 3 ∙ low-small (small place.calledService) in
+      ap (λ (x : List ℕ). numberFrom 3 x) (sym (drop-drop 6 227 bytes) ∙ ap (λ (x : List ℕ). drop 6 x) (past-dispatchers ∙ is)) ∙ number-back 3 (numberAt place.mni v) areas (small place.mni) in
+      let ea : getD bytes 236 0 ≡ numberAt place.callingArea v = more-at 9 ∙ ap (λ (x : List ℕ). getD x 9 0) is ∙ past-byte 3 last areas nl 0 ∙ low-small (small place.callingArea) in
+      let eb : getD bytes 237 0 ≡ numberAt place.calledArea v = more-at 10 ∙ ap (λ (x : List ℕ). getD x 10 0) is ∙ past-byte 3 last areas nl 1 ∙ low-small (small place.calledArea) in
+      let ey : getD bytes 238 0 ≡ numberAt place.callingService v = more-at 11 ∙ ap (λ (x : List ℕ). getD x 11 0) is ∙ past-byte 3 last areas nl 2 ∙ low-small (small place.callingService) in
+      let ez : getD bytes 239 0 ≡ numberAt place.calledService v = more-at 12 ∙ ap (λ (x : List ℕ). getD x 12 0) is ∙ past-byte 3 last areas nl 3 ∙ low-small (small place.calledService) in
+      let et : getD bytes 240 0 ≡ numberAt place.activationType v = type-at 0 ∙ low-small (small place.activationType) in
+      let ev : getD bytes 241 0 ≡ numberAt place.interceptionType v = type-at 1 ∙ low-small (small place.interceptionType) in
       ap (λ (x : List ℕ). valueFrom x) (value-is v)
       ∙ rw (
         eu,
@@ -239,6 +330,9 @@ module _ (v : Value) (p : Value-fits v) where
         eb,
         ey,
         ez,
+        et,
+        ev,
+        lists-back,
         masked-at,
         option-at,
         more-at 0,
@@ -262,6 +356,18 @@ module _ (v : Value) (p : Value-fits v) where
 pub value-back : (air : Air) (v : Value) → validOf air v ≡ true → valueFrom (valueBytes v) ≡ v
 value-back air v e = fits-back v (valid-fits air v e)
 
+lists-length : (v : Value) → Value-fits v → length (listsBytes (v .lists)) ≡ 228
+unfolding listsBytes
+lists-length v p =
+    omega (
+      arith,
+      length-append (groupBytes (v .lists .sources)) (afterSources v p),
+      length-append (groupBytes (v .lists .destinations)) (areasBytes (v .lists .areas)),
+      ns v p,
+      nt v p,
+      length-areas (v .lists .areas) (p .lists .areas),
+    )
+
 value-length : (v : Value) → Value-fits v → length (valueBytes v) ≡ valueSize
 value-length v p =
     let u = groupBytes (v .users) in
@@ -269,13 +375,18 @@ value-length v p =
     let i = numberBytes 2 (numberAt place.identifier v) in
     let d = groupBytes (v .dispatchers) in
     let w = moreBytes (v .numbers) (v .given) in
+    let x = v .lists in
     ap (λ (x : List ℕ). length x) (value-is v)
     ∙ omega (
       arith,
       length-append u (afterUsers v),
       length-append m (afterMask v),
       length-append i (afterIdentifier v),
-      length-append d w,
+      length-append d (afterDispatchers v),
+      length-append w (lastOf v),
+      length-append (typeBytes (v .numbers)) (listsBytes x),
+      length-types (v .numbers) (v .given),
+      lists-length v p,
       length-number 8 (v .mask),
       length-number 2 (numberAt place.identifier v),
       nu v p,
@@ -287,15 +398,15 @@ flag-small : (b : Bool) → leb (one b) 1 ≡ true
 flag-small true = refl
 flag-small false = refl
 
-more-small : (n : List ℕ) (g : List Bool) (r : ℕ) → r < 6 → leb (getD (moreBytes n g) r 0) 1 ≡ true
+more-small : (n : List ℕ) (g : List Bool) (rest : List ℕ) (r : ℕ) → r < 6 → leb (getD (moreBytes n g ++ rest) r 0) 1 ≡ true
 unfolding moreBytes
-more-small n g zero h = flag-small (getD g 1 false)
-more-small n g (suc zero) h = flag-small (getD g 2 false)
-more-small n g (suc (suc zero)) h = flag-small (getD g 3 false)
-more-small n g (suc (suc (suc zero))) h = flag-small (getD g 4 false)
-more-small n g (suc (suc (suc (suc zero)))) h = flag-small (getD g 5 false)
-more-small n g (suc (suc (suc (suc (suc zero))))) h = flag-small (getD g 6 false)
-more-small n g (suc (suc (suc (suc (suc (suc r)))))) h = absurd (omega arith)
+more-small n g rest zero h = flag-small (getD g 1 false)
+more-small n g rest (suc zero) h = flag-small (getD g 2 false)
+more-small n g rest (suc (suc zero)) h = flag-small (getD g 3 false)
+more-small n g rest (suc (suc (suc zero))) h = flag-small (getD g 4 false)
+more-small n g rest (suc (suc (suc (suc zero)))) h = flag-small (getD g 5 false)
+more-small n g rest (suc (suc (suc (suc (suc zero))))) h = flag-small (getD g 6 false)
+more-small n g rest (suc (suc (suc (suc (suc (suc r)))))) h = absurd (omega arith)
 
 every-of : (n : ℕ) (test : ℕ → Bool) → ((i : ℕ) → i < n → test i ≡ true) → every n test ≡ true
 unfolding every
@@ -308,7 +419,7 @@ fits-taken v p =
     let here : (k : ℕ) → getD (valueBytes v) (suc k) 0 ≡ getD (bytes v p) k 0 = λ k. ap (λ (x : List ℕ). getD x (suc k) 0) (value-is v) in
     let further : (r : ℕ) → r < 6 → leb (getD (valueBytes v) (228 + r) 0) 1 ≡ true =
     λ r h. let z : 228 + r ≡ suc (227 + r) = omega arith in
-    ap (λ (k : ℕ). leb (getD (valueBytes v) k 0) 1) z ∙ ap (λ (b : ℕ). leb b 1) (here (227 + r) ∙ more-at v p r) ∙ more-small (v .numbers) (v .given) r h in
+    ap (λ (k : ℕ). leb (getD (valueBytes v) k 0) 1) z ∙ ap (λ (b : ℕ). leb b 1) (here (227 + r) ∙ more-at v p r) ∙ more-small (v .numbers) (v .given) (lastOf v) r h in
     both-true _ _ (eq-eqb _ _ (value-length v p))
     (both-true _ _ (ap (λ (b : ℕ). leb b 1) (here 106 ∙ masked-at v p) ∙ flag-small (v .masked))
     (both-true _ _ (ap (λ (b : ℕ). leb b 1) (here 120 ∙ option-at v p) ∙ flag-small (givenAt 0 v)) (every-of 6 _ further)))
@@ -388,7 +499,7 @@ back-by kind.Listed n e z =
 
 -- the bytes after the home extension, and after the meanings
 abbrev afterMeanings : Profile → List ℕ
-afterMeanings p = p .shares .posts ∷ rowsBytes shareBytes (p .shares .share)
+afterMeanings p = p .shares .posts ∷ (rowsBytes shareBytes (p .shares .share) ++ (p .air .unrecorded ∷ (p .air .elsewhere ∷ [])))
 
 abbrev afterHome : Profile → List ℕ
 afterHome p = p .air .unknown ∷ (p .air .other ∷ (rowsBytes meaningBytes (p .air .meanings) ++ afterMeanings p))
@@ -401,12 +512,13 @@ profile-is p = simp append-assoc
 pub profile-there : (l : List ℕ) → AreBytes l → isProfile l ≡ true → profileBytes (profileFrom l) ≡ l
 unfolding profileFrom airFrom sharesFrom isProfile
 profile-there l h e =
-    let n : length l ≡ 39 = eqb-true _ _ (both-left _ _ e) in
-    let known = every-at 16 _ (both-left _ _ (both-right (eqb (length l) 39) _ e)) in
+    let n : length l ≡ 41 = eqb-true _ _ (both-left _ _ e) in
+    let known = every-at 16 _ (both-left _ _ (both-right (eqb (length l) 41) _ e)) in
     let rows = rows-there shareFrom shareBytes 2 8 (drop 23 l) (λ i k. share-there (drop (2 * i) (drop 23 l)) (omega (arith, length-drop (2 * i) (drop 23 l), length-drop 23 l))) in
     let meanings = rows-there meaningFrom meaningBytes 1 16 (drop 6 l) (λ i k. meaning-there (drop (1 * i) (drop 6 l)) (omega (arith, length-drop (1 * i) (drop 6 l), length-drop 6 l)) (small i (known i k))) in
     let home = number-there 3 (drop 1 l) (bytes-drop 1 l h) (omega (arith, length-drop 1 l)) in
-    let d23 = rows ∙ take-all 16 (drop 23 l) (omega (arith, length-drop 23 l)) in
+    let d41 : [] ≡ drop 41 l = sym (drop-of-length-le l {i = 41} (omega arith)) in
+    let d23 = run-front l 23 16 _ _ rows (byte-front l 39 _ _ (omega arith) refl (byte-front l 40 _ _ (omega arith) refl d41)) in
     let d6 = run-front l 6 16 _ _ meanings (byte-front l 22 _ _ (omega arith) refl d23) in
     let d4 = byte-front l 4 _ _ (omega arith) refl (byte-front l 5 _ _ (omega arith) refl d6) in
     profile-is (profileFrom l) ∙ byte-front l 0 _ _ (omega arith) refl (run-front l 1 3 _ _ home d4)
@@ -422,6 +534,14 @@ pub record Plain (p : Profile) : Type 0 where
   pub rows : length (p .shares .share) ≡ 8
   pub alone : every 16 (λ r. isAlone (meaningIn (p .air .meanings) r)) ≡ true
 
+-- one that keeps every rule has sixteen good meanings
+air-meanings : (p : Profile) → profileOk p ≡ true → every 16 (λ r. meaningOk (meaningIn (p .air .meanings) r)) ≡ true
+unfolding profileOk airOk
+air-meanings p ok =
+    let air = both-right (leb (p .air .ss) 63) _ (both-left _ _ ok) in
+    both-right (leb (p .air .elsewhere) 7) _ (both-right (leb (p .air .unrecorded) 7) _
+    (both-right (leb (p .air .other) 127) _ (both-right (leb (p .air .unknown) 127) _ (both-right (leb (p .air .home) 0xFF_FFFF) _ air))))
+
 -- such a profile that keeps every rule is taken from its bytes as it was
 pub profile-back : (p : Profile) → profileOk p ≡ true → Plain p → profileFrom (profileBytes p) ≡ p
 unfolding profileFrom airFrom sharesFrom profileOk airOk meaningIn meaningOk meaningBytes isAlone
@@ -435,7 +555,7 @@ profile-back p ok plain =
     let nm : length m ≡ 16 = rows-length meaningFrom meaningBytes 1 length-meaning (p .air .meanings) ∙ ap (λ (k : ℕ). k * 1) (plain .meanings) in
     let air = both-right (leb (p .air .ss) 63) _ (both-left _ _ ok) in
     let small = leb-true (p .air .home) 0xFF_FFFF (both-left _ _ air) in
-    let good = every-at 16 _ (both-right (leb (p .air .other) 127) _ (both-right (leb (p .air .unknown) 127) _ (both-right (leb (p .air .home) 0xFF_FFFF) _ air))) in
+    let good = every-at 16 _ (air-meanings p ok) in
     let alone = every-at 16 _ (plain .alone) in
     let each = all-of (λ (a : Meaning). meaningOf (byteBy (a .kind) (a .count)) ≡ a) reserved (p .air .meanings) (λ i k. back-by _ _ (good i (omega (arith, plain .meanings))) (alone i (omega (arith, plain .meanings)))) in
     let eh : numberFrom 3 (h ++ t) ≡ p .air .home = number-back 3 (p .air .home) t (omega arith) in
@@ -444,11 +564,15 @@ profile-back p ok plain =
     let em : rowsFrom meaningFrom 1 16 (drop 5 (h ++ t)) ≡ p .air .meanings =
     ap (λ (y : List ℕ). rowsFrom meaningFrom 1 16 y) (past-run 3 h t nh 2)
     ∙ rows-back meaningFrom meaningBytes 1 (λ (a : Meaning). meaningOf (byteBy (a .kind) (a .count)) ≡ a) length-meaning (λ a ys q. q) 16 (p .air .meanings) x (plain .meanings) each in
+    let r = p .air .unrecorded ∷ (p .air .elsewhere ∷ []) in
+    let nq : length s ≡ 16 = rows-length shareFrom shareBytes 2 length-share (p .shares .share) ∙ ap (λ (k : ℕ). k * 2) (plain .rows) in
+    let er : getD (h ++ t) 38 0 ≡ p .air .unrecorded = past-byte 3 h t nh 35 ∙ past-byte 16 m x nm 17 ∙ past-byte 16 s r nq 0 in
+    let ew : getD (h ++ t) 39 0 ≡ p .air .elsewhere = past-byte 3 h t nh 36 ∙ past-byte 16 m x nm 18 ∙ past-byte 16 s r nq 1 in
     let ep : getD (h ++ t) 21 0 ≡ p .shares .posts = past-byte 3 h t nh 18 ∙ past-byte 16 m x nm 0 in
     let es : rowsFrom shareFrom 2 8 (drop 22 (h ++ t)) ≡ p .shares .share =
-    ap (λ (y : List ℕ). rowsFrom shareFrom 2 8 y) (past-run 3 h t nh 19 ∙ past-run 16 m x nm 1 ∙ sym (append-nil s))
-    ∙ rows-back shareFrom shareBytes 2 (λ (a : Share). Unit {0}) length-share share-back 8 (p .shares .share) [] (plain .rows) (all-of (λ (a : Share). Unit {0}) noShare (p .shares .share) (λ i k. tt)) in
-    ap (λ (y : List ℕ). profileFrom y) (profile-is p) ∙ rw (eh, eu, en, em, ep, es)
+    ap (λ (y : List ℕ). rowsFrom shareFrom 2 8 y) (past-run 3 h t nh 19 ∙ past-run 16 m x nm 1)
+    ∙ rows-back shareFrom shareBytes 2 (λ (a : Share). Unit {0}) length-share share-back 8 (p .shares .share) r (plain .rows) (all-of (λ (a : Share). Unit {0}) noShare (p .shares .share) (λ i k. tt)) in
+    ap (λ (y : List ℕ). profileFrom y) (profile-is p) ∙ rw (eh, eu, en, em, ep, es, er, ew)
 
 -- ---- and its bytes are taken
 
@@ -476,8 +600,24 @@ rows-drop (suc k) (s ∷ l) = let z : 2 * suc k ≡ suc (suc (2 * k)) = omega ar
 pub isSpare : Profile → Bool
 isSpare p = areZero (rowsBytes shareBytes (drop (p .shares .posts) (p .shares .share)))
 
+-- the bytes up to the last row
+rows-cut : (p : Profile) → length (numberBytes 3 (p .air .home)) ≡ 3 → length (rowsBytes meaningBytes (p .air .meanings)) ≡ 16 → length (rowsBytes shareBytes (p .shares .share)) ≡ 16
+    → take 39 (profileBytes p)
+    ≡ p .air .ss ∷ (numberBytes 3 (p .air .home) ++ (p .air .unknown ∷ (p .air .other ∷ (rowsBytes meaningBytes (p .air .meanings) ++ (p .shares .posts ∷ rowsBytes shareBytes (p .shares .share))))))
+unfolding profileBytes
+rows-cut p nh nm ns =
+    let h = numberBytes 3 (p .air .home) in
+    let m = rowsBytes meaningBytes (p .air .meanings) in
+    let s = rowsBytes shareBytes (p .shares .share) in
+    let r = p .air .unrecorded ∷ (p .air .elsewhere ∷ []) in
+    let front = p .air .ss ∷ (h ++ (p .air .unknown ∷ (p .air .other ∷ (m ++ (p .shares .posts ∷ s))))) in
+    let whole : profileBytes p ≡ front ++ r = simp append-assoc in
+    ap (λ (y : List ℕ). take 39 y) whole
+    ∙ take-at front r 39
+    (omega (arith, length-append h (p .air .unknown ∷ (p .air .other ∷ (m ++ (p .shares .posts ∷ s)))), length-append m (p .shares .posts ∷ s), nh, nm, ns))
+
 pub profile-taken : (p : Profile) → profileOk p ≡ true → Plain p → isSpare p ≡ true → isProfile (profileBytes p) ≡ true
-unfolding isProfile profileOk airOk meaningIn meaningOk isSpare
+unfolding isProfile spareZero meaningIn meaningOk isSpare
 profile-taken p ok plain spare =
     let h = numberBytes 3 (p .air .home) in
     let t = afterHome p in
@@ -488,18 +628,20 @@ profile-taken p ok plain spare =
     let nh = length-number 3 (p .air .home) in
     let nm : length m ≡ 16 = rows-length meaningFrom meaningBytes 1 length-meaning (p .air .meanings) ∙ ap (λ (k : ℕ). k * 1) (plain .meanings) in
     let ns : length s ≡ 16 = rows-length shareFrom shareBytes 2 length-share (p .shares .share) ∙ ap (λ (k : ℕ). k * 2) (plain .rows) in
-    let air = both-right (leb (p .air .ss) 63) _ (both-left _ _ ok) in
-    let good = every-at 16 _ (both-right (leb (p .air .other) 127) _ (both-right (leb (p .air .unknown) 127) _ (both-right (leb (p .air .home) 0xFF_FFFF) _ air))) in
-    let long : length b ≡ 39 = ap (λ (y : List ℕ). length y) (profile-is p) ∙ omega (arith, length-append h t, length-append m x, nh, nm, ns) in
-    let posts : getD b 22 0 ≡ p .shares .posts = ap (λ (y : List ℕ). getD y 22 0) (profile-is p) ∙ past-byte 3 h t nh 18 ∙ past-byte 16 m x nm 0 in
-    let rows : (k : ℕ) → drop (23 + k) b ≡ drop k s =
-    λ k. sym (drop-drop k 23 b) ∙ ap (λ (y : List ℕ). drop k y) (ap (λ (y : List ℕ). drop 23 y) (profile-is p) ∙ past-run 3 h t nh 19 ∙ past-run 16 m x nm 1) in
+    let good = every-at 16 _ (air-meanings p ok) in
+    let long : length b ≡ 41 = ap (λ (y : List ℕ). length y) (profile-is p) ∙ omega (arith, length-append h t, length-append m x, length-append s (p .air .unrecorded ∷ (p .air .elsewhere ∷ [])), nh, nm, ns) in
+    let r = p .air .unrecorded ∷ (p .air .elsewhere ∷ []) in
+    let c = take 39 b in
+    let cut : c ≡ p .air .ss ∷ (h ++ (p .air .unknown ∷ (p .air .other ∷ (m ++ (p .shares .posts ∷ s))))) = rows-cut p nh nm ns in
+    let rows : (k : ℕ) → drop (23 + k) c ≡ drop k s =
+    λ k. sym (drop-drop k 23 c) ∙ ap (λ (y : List ℕ). drop k y) (ap (λ (y : List ℕ). drop 23 y) cut ∙ past-run 3 h _ nh 19 ∙ past-run 16 m (p .shares .posts ∷ s) nm 1) in
+    let posts : getD c 22 0 ≡ p .shares .posts = ap (λ (y : List ℕ). getD y 22 0) cut ∙ past-byte 3 h _ nh 18 ∙ past-byte 16 m (p .shares .posts ∷ s) nm 0 in
     let known : (r : ℕ) → r < 16 → leb (getD b (6 + r) 0) 17 ≡ true =
     λ r k. ap (λ (c : ℕ). leb c 17)
     (sym (getD-drop 6 b r 0) ∙ ap (λ (y : List ℕ). getD y r 0) (ap (λ (y : List ℕ). drop 6 y) (profile-is p) ∙ past-run 3 h t nh 2) ∙ meaning-at (p .air .meanings) x r (omega (arith, plain .meanings)))
     ∙ byte-small (getD (p .air .meanings) r reserved .kind) (getD (p .air .meanings) r reserved .count) (good r k) in
-    let zero-rest : areZero (drop (23 + 2 * getD b 22 0) b) ≡ true =
-    ap (λ (k : ℕ). areZero (drop (23 + 2 * k) b)) posts
+    let zero-rest : areZero (drop (23 + 2 * getD c 22 0) c) ≡ true =
+    ap (λ (k : ℕ). areZero (drop (23 + 2 * k) c)) posts
     ∙ ap (λ (y : List ℕ). areZero y) (rows (2 * p .shares .posts) ∙ rows-drop (p .shares .posts) (p .shares .share))
     ∙ spare in
     both-true _ _ (eq-eqb _ _ long) (both-true _ _ (every-of 16 _ known) zero-rest)

@@ -10,9 +10,11 @@ use Rattle.profile.specs.Counting.{one}
 use Rattle.message.specs.Numbers as place
 use Rattle.message.specs.declared.Address.{Address}
 use Rattle.message.specs.declared.Group.{Group}
+use Rattle.message.specs.declared.Areas.{Areas}
+use Rattle.message.specs.declared.Lists.{Lists}
 use Rattle.message.specs.declared.Value.{Value}
 use Rattle.console.specs.Bytes.{numberBytes, rowsBytes}
-use Rattle.console.specs.Values.{addressBytes, groupBytes, firstBytes, moreBytes, valueBytes}
+use Rattle.console.specs.Values.{addressBytes, groupBytes, byteBytes, areasBytes, firstBytes, moreBytes, typeBytes, listsBytes, valueBytes}
 use Rattle.console.proofs.ByteLaws.{sets-append, length-number}
 
 -- ---- a run of stores after a run
@@ -83,6 +85,10 @@ module _ (n : List ℕ) (g : List Bool) where
         length-number 3 m,
       )
 
+  pub length-types : length (typeBytes n) ≡ 2
+  unfolding typeBytes
+  length-types = refl
+
   module _ (l : List ℕ) where
     pub numbers-put : (m₁ m₂ m₃ m₄ m : List ℕ) → m₁ ≡ set l 116 (getD n place.result 0 % 256) → m₂ ≡ set m₁ 117 (getD n place.reason 0 % 256)
         → m₃ ≡ set m₂ 118 (getD n place.cause 0 % 256) → m₄ ≡ sets m₃ 119 (numberBytes 2 (getD n place.identifier 0)) → m ≡ set m₄ 121 (one (getD g 0 false))
@@ -115,14 +121,33 @@ module _ (n : List ℕ) (g : List Bool) where
         let w₁₀ : Put l m₁₀ 228 240 _ = then-put w₉ (getD n place.callingService 0 % 256 ∷ []) e₁₀ refl in
         then-put {q = 241} w₁₀ (getD n place.calledService 0 % 256 ∷ []) e refl .area ∙ simp append-assoc
 
+  module _ (l m₁ m : List ℕ) where
+    pub types-put : m₁ ≡ set l 241 (getD n place.activationType 0 % 256) → m ≡ set m₁ 242 (getD n place.interceptionType 0 % 256) → m ≡ sets l 241 (typeBytes n)
+    unfolding typeBytes
+    types-put e₁ e = let w₁ : Put l m₁ 241 242 _ = first-put l m₁ 241 _ e₁ in then-put {q = 243} w₁ (getD n place.interceptionType 0 % 256 ∷ []) e refl .area
+
+-- ---- the lists
+
+pub areas-put : (l m₁ m : List ℕ) (at : ℕ) (a : Areas) → m₁ ≡ set l at (a .range) → m ≡ sets m₁ (at + 1) (rowsBytes byteBytes (a .areas)) → m ≡ sets l at (areasBytes a)
+unfolding areasBytes
+areas-put l m₁ m at a e₁ e = then-put (first-put l m₁ at (a .range) e₁) (rowsBytes byteBytes (a .areas)) e refl .area
+
+pub lists-put : (x : Lists) → length (x .sources .addresses) ≡ 15 → length (x .destinations .addresses) ≡ 15 → (l m₁ m₂ m : List ℕ)
+    → m₁ ≡ sets l 243 (groupBytes (x .sources)) → m₂ ≡ sets m₁ 349 (groupBytes (x .destinations)) → m ≡ sets m₂ 455 (areasBytes (x .areas)) → m ≡ sets l 243 (listsBytes x)
+unfolding listsBytes
+lists-put x s d l m₁ m₂ m e₁ e₂ e =
+    let w₁ : Put l m₁ 243 349 (groupBytes (x .sources)) = record { area = e₁; next = omega (arith, length-group (x .sources) s) } in
+    let w₂ : Put l m₂ 243 455 _ = then-put w₁ (groupBytes (x .destinations)) e₂ (omega (arith, length-group (x .destinations) d)) in
+    then-put w₂ (areasBytes (x .areas)) e refl .area ∙ simp append-assoc
+
 -- ---- a value
 
-module _ (v : Value) (users : length (v .users .addresses) ≡ 15) (dispatchers : length (v .dispatchers .addresses) ≡ 15) (l m₁ m₂ m₃ m₄ m₅ m₆ m : List ℕ) where
+module _ (v : Value) (users : length (v .users .addresses) ≡ 15) (dispatchers : length (v .dispatchers .addresses) ≡ 15) (l m₁ m₂ m₃ m₄ m₅ m₆ m₇ m₈ m : List ℕ) where
   pub value-put : m₁ ≡ set l 0 (v .pdu) → m₂ ≡ sets m₁ 1 (groupBytes (v .users)) → m₃ ≡ set m₂ 107 (one (v .masked))
       → m₄ ≡ sets m₃ 108 (numberBytes 8 (v .mask)) → m₅ ≡ sets m₄ 116 (firstBytes (v .numbers) (v .given)) → m₆ ≡ sets m₅ 122 (groupBytes (v .dispatchers))
-      → m ≡ sets m₆ 228 (moreBytes (v .numbers) (v .given)) → m ≡ sets l 0 (valueBytes v)
+      → m₇ ≡ sets m₆ 228 (moreBytes (v .numbers) (v .given)) → m₈ ≡ sets m₇ 241 (typeBytes (v .numbers)) → m ≡ sets m₈ 243 (listsBytes (v .lists)) → m ≡ sets l 0 (valueBytes v)
   unfolding valueBytes
-  value-put e₁ e₂ e₃ e₄ e₅ e₆ e =
+  value-put e₁ e₂ e₃ e₄ e₅ e₆ e₇ e₈ e =
       let n = v .numbers in
       let g = v .given in
       let w₁ : Put l m₁ 0 1 _ = first-put l m₁ 0 (v .pdu) e₁ in
@@ -131,4 +156,6 @@ module _ (v : Value) (users : length (v .users .addresses) ≡ 15) (dispatchers 
       let w₄ : Put l m₄ 0 116 _ = then-put w₃ (numberBytes 8 (v .mask)) e₄ (omega (arith, length-number 8 (v .mask))) in
       let w₅ : Put l m₅ 0 122 _ = then-put w₄ (firstBytes n g) e₅ (omega (arith, length-first n g)) in
       let w₆ : Put l m₆ 0 228 _ = then-put w₅ (groupBytes (v .dispatchers)) e₆ (omega (arith, length-group (v .dispatchers) dispatchers)) in
-      then-put {q = 241} w₆ (moreBytes n g) e (omega (arith, length-more n g)) .area ∙ simp append-assoc
+      let w₇ : Put l m₇ 0 241 _ = then-put w₆ (moreBytes n g) e₇ (omega (arith, length-more n g)) in
+      let w₈ : Put l m₈ 0 243 _ = then-put w₇ (typeBytes n) e₈ (omega (arith, length-types n g)) in
+      then-put w₈ (listsBytes (v .lists)) e refl .area ∙ simp append-assoc

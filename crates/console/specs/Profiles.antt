@@ -1,10 +1,10 @@
--- A profile in 39 bytes: [0] SS type; [1-3] home extension; [4] U; [5] N; [6-21] sixteen meanings; [22] posts; [23-38] eight pairs of a
--- reserved number and a ceiling, zero for posts that aren't there.
+-- A profile in 41 bytes: [0] SS type; [1-3] home extension; [4] U; [5] N; [6-21] sixteen meanings; [22] posts; [23-38] eight pairs of a
+-- reserved number and a ceiling, zero for posts that aren't there; [39] [40] INTERROGATE ACK's reasons for no record and for another post's.
 use Prim.Native.Nat.{ℕ, _+_, _*_}
 use mathlib.Core.Bool.{Bool}
 use mathlib.Core.List.{List, [], _∷_, _++_}
 use lib.Dec.{eqb, leb}
-use lib.ListN.{length, getD, drop}
+use lib.ListN.{length, getD, take, drop}
 use Rattle.codec.specs.Codec.{both}
 use Rattle.profile.specs.Counting.{every}
 use Rattle.profile.specs.Rules.{meaningOf, profileOk}
@@ -50,6 +50,9 @@ profileBytes p =
     ∷ rowsBytes meaningBytes (p .air .meanings)
     ++ p .shares .posts
     ∷ rowsBytes shareBytes (p .shares .share)
+    ++ p .air .unrecorded
+    ∷ p .air .elsewhere
+    ∷ []
 
 unfoldable pub airFrom : List ℕ → Air
 airFrom l =
@@ -59,6 +62,8 @@ airFrom l =
       meanings = rowsFrom meaningFrom 1 16 (drop 6 l);
       unknown = getD l 4 0;
       other = getD l 5 0;
+      unrecorded = getD l 39 0;
+      elsewhere = getD l 40 0;
     }
 
 unfoldable pub sharesFrom : List ℕ → Shares
@@ -67,9 +72,13 @@ sharesFrom l = record { posts = getD l 22 0; share = rowsFrom shareFrom 2 8 (dro
 unfoldable pub profileFrom : List ℕ → Profile
 profileFrom l = record { air = airFrom l; shares = sharesFrom l }
 
+-- of the bytes up to the last row: nothing in those past the posts
+unfoldable pub spareZero : List ℕ → Bool
+spareZero l = areZero (drop (23 + 2 * getD l 22 0) l)
+
 -- no meaning over 17, and nothing in the rows past the posts
 unfoldable pub isProfile : List ℕ → Bool
-isProfile l = both (eqb (length l) 39) (both (every 16 (λ r. leb (getD l (6 + r) 0) 17)) (areZero (drop (23 + 2 * getD l 22 0) l)))
+isProfile l = both (eqb (length l) 41) (both (every 16 (λ r. leb (getD l (6 + r) 0) 17)) (spareZero (take 39 l)))
 
 -- 1 where this fails
 unfoldable pub passes : List ℕ → Bool

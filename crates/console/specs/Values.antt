@@ -1,8 +1,9 @@
--- A value in 241 bytes: [0] PDU type; [1-106] users; [107] mask present, 0 or 1; [108-115] mask; [116] result; [117] reason; [118] cause;
+-- A value in 471 bytes: [0] PDU type; [1-106] users; [107] mask present, 0 or 1; [108-115] mask; [116] result; [117] reason; [118] cause;
 -- [119-120] identifier; [121] the row's first option, 0 or 1; [122-227] dispatchers; [228-233] its further options, 0 or 1 each; [234-236]
--- MNI; [237] [238] area of the calling, of the called; [239] [240] basic service of the calling, of the called. A group is its range number
--- and fifteen addresses of 7 bytes: kind, SSI in 3, extension in 3. Identity i's bit of the mask is bit 7 - i mod 8 of byte 108 + i div 8,
--- since the mask is left-aligned.
+-- MNI; [237] [238] area of the calling, of the called; [239] [240] basic service of the calling, of the called; [241] activation type; [242]
+-- interception type; [243-348] sources; [349-454] destinations; [455-470] areas. A group is its range number and fifteen addresses of 7
+-- bytes: kind, SSI in 3, extension in 3; areas are their range number and fifteen bytes. Identity i's bit of the mask is bit 7 - i mod 8 of
+-- byte 108 + i div 8, since the mask is left-aligned.
 use Prim.Native.Nat.{ℕ, _+_, _%_}
 use mathlib.Core.Bool.{Bool, false}
 use mathlib.Core.List.{List, [], _∷_, _++_}
@@ -13,6 +14,8 @@ use Rattle.profile.specs.Counting.{one, every}
 use Rattle.message.specs.Numbers as place
 use Rattle.message.specs.declared.Address.{Address}
 use Rattle.message.specs.declared.Group.{Group}
+use Rattle.message.specs.declared.Areas.{Areas}
+use Rattle.message.specs.declared.Lists.{Lists}
 use Rattle.message.specs.declared.Value.{Value}
 use Rattle.console.specs.Bytes.{numberFrom, numberBytes, rowsFrom, rowsBytes}
 
@@ -30,10 +33,23 @@ groupBytes g = g .range ∷ rowsBytes addressBytes (g .addresses)
 unfoldable pub groupFrom : List ℕ → Group
 groupFrom l = record { range = getD l 0 0; addresses = rowsFrom addressFrom 7 15 (drop 1 l) }
 
+-- areas, a byte each
+abbrev pub byteFrom : List ℕ → ℕ
+byteFrom l = getD l 0 0
+
+abbrev pub byteBytes : ℕ → List ℕ
+byteBytes b = b ∷ []
+
+unfoldable pub areasBytes : Areas → List ℕ
+areasBytes a = a .range ∷ rowsBytes byteBytes (a .areas)
+
+unfoldable pub areasFrom : List ℕ → Areas
+areasFrom l = record { range = getD l 0 0; areas = rowsFrom byteFrom 1 15 (drop 1 l) }
+
 -- ---- the whole
 
 abbrev pub valueSize : ℕ
-valueSize = 241
+valueSize = 471
 
 -- of a value's numbers and options: result, reason, cause, identifier, and the first option
 unfoldable pub firstBytes : List ℕ → List Bool → List ℕ
@@ -61,6 +77,13 @@ moreBytes n g =
     ∷ getD n place.calledService 0 % 256
     ∷ []
 
+-- INTERROGATE ACK's activation and interception type, and its lists
+unfoldable pub typeBytes : List ℕ → List ℕ
+typeBytes n = getD n place.activationType 0 % 256 ∷ getD n place.interceptionType 0 % 256 ∷ []
+
+unfoldable pub listsBytes : Lists → List ℕ
+listsBytes x = groupBytes (x .sources) ++ (groupBytes (x .destinations) ++ areasBytes (x .areas))
+
 unfoldable pub valueBytes : Value → List ℕ
 valueBytes v =
     v .pdu
@@ -70,10 +93,15 @@ valueBytes v =
     ++ firstBytes (v .numbers) (v .given)
     ++ groupBytes (v .dispatchers)
     ++ moreBytes (v .numbers) (v .given)
+    ++ typeBytes (v .numbers)
+    ++ listsBytes (v .lists)
 
 -- the byte at a position is "there"
 abbrev isOne : ℕ → List ℕ → Bool
 isOne at l = eqb (getD l at 0) 1
+
+unfoldable pub listsFrom : List ℕ → Lists
+listsFrom l = record { sources = groupFrom (drop 243 l); destinations = groupFrom (drop 349 l); areas = areasFrom (drop 455 l) }
 
 unfoldable pub valueFrom : List ℕ → Value
 valueFrom l =
@@ -89,8 +117,8 @@ valueFrom l =
           ∷ getD l 238 0
           ∷ getD l 239 0
           ∷ getD l 240 0
-          ∷ 0
-          ∷ 0
+          ∷ getD l 241 0
+          ∷ getD l 242 0
           ∷ 0
           ∷ [];
       users = groupFrom (drop 1 l);
@@ -98,6 +126,7 @@ valueFrom l =
       mask = numberFrom 8 (drop 108 l);
       given = isOne 121 l ∷ isOne 228 l ∷ isOne 229 l ∷ isOne 230 l ∷ isOne 231 l ∷ isOne 232 l ∷ isOne 233 l ∷ [];
       dispatchers = groupFrom (drop 122 l);
+      lists = listsFrom l;
     }
 
 -- the shape alone: whether the value is a valid one is `validOf`'s

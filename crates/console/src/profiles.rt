@@ -1,9 +1,8 @@
-// A profile from its 39 bytes.
+// A profile from its 41 bytes.
 ghost use mathlib.Core.Path.{_≡_};
-ghost use Prim.Native.Nat.{_+_, _*_, _≤_};
-ghost use lib.ListN.{getD, drop};
-ghost use Rattle.console.specs.Bytes.{areZero};
-ghost use Rattle.console.specs.Profiles.{shareFrom, airFrom, sharesFrom, profileFrom, isProfile, passes};
+ghost use Prim.Native.Nat.{_≤_};
+ghost use lib.ListN.{drop};
+ghost use Rattle.console.specs.Profiles.{shareFrom, airFrom, sharesFrom, profileFrom, spareZero, isProfile, passes};
 use crate::number;
 use profile::Air;
 use profile::Kind;
@@ -35,18 +34,18 @@ pub(crate) fn passes(l: &[u8]) -> bool
 fn is_profile(l: &[u8]) -> bool
     ensures { λ r. ⌜ r ≡ isProfile (now (l .entry)) ⌝ }
 {
-    if l.len() != 39 {
+    if l.len() != 41 {
         return false;
     }
     if number::are_up_to(l, 6, Air::RANGES, 17) {
-        return spare_zero(l);
+        return spare_zero(&l[..39]);
     }
     false
 }
 
-// The rows past the posts are zero.
+// The rows past the posts are zero; these are the bytes up to the last row.
 fn spare_zero(l: &[u8]) -> bool
-    ensures { λ r. ⌜ r ≡ areZero (drop (23 + 2 * getD (now (l .entry)) 22 0) (now (l .entry))) ⌝ }
+    ensures { λ r. ⌜ r ≡ spareZero (now (l .entry)) ⌝ }
 {
     let posts = number::byte_at(l, 22) as usize;
     let mut i = 23 + 2 * posts;
@@ -86,6 +85,8 @@ fn air_from(l: &[u8]) -> Air
         meanings: meanings,
         unknown: number::byte_at(l, 4),
         other: number::byte_at(l, 5),
+        unrecorded: number::byte_at(l, 39),
+        elsewhere: number::byte_at(l, 40),
     }
 }
 

@@ -4,14 +4,16 @@ ghost use Prim.Native.Nat.{_≤_};
 ghost use lib.ListN.{length, drop};
 ghost use lib.Seq.{sets};
 ghost use Rattle.console.specs.Bytes.{rowsBytes};
-ghost use Rattle.console.specs.Values.{addressBytes, addressFrom, groupBytes, groupFrom, firstBytes, moreBytes, valueBytes, valueFrom, isValue};
+ghost use Rattle.console.specs.Values.{addressBytes, addressFrom, groupBytes, groupFrom, byteBytes, areasBytes, areasFrom, firstBytes, moreBytes, typeBytes, listsBytes, listsFrom, valueBytes, valueFrom, isValue};
 use crate::number;
 use message::Address;
+use message::Areas;
 use message::Group;
+use message::Lists;
 use message::Value;
 
 // So many bytes has a value.
-pub(crate) const BYTES: usize = 241;
+pub(crate) const BYTES: usize = 471;
 
 // ---- from bytes
 
@@ -44,6 +46,9 @@ pub(crate) fn value_from(l: &[u8]) -> Value
     let called_area = number::byte_at(l, 238) as u32;
     let calling_service = number::byte_at(l, 239) as u32;
     let called_service = number::byte_at(l, 240) as u32;
+    let activation = number::byte_at(l, 241) as u32;
+    let interception = number::byte_at(l, 242) as u32;
+    let lists = lists_from(l);
     let first = number::byte_at(l, 121) == 1;
     let second = number::byte_at(l, 228) == 1;
     let third = number::byte_at(l, 229) == 1;
@@ -63,8 +68,8 @@ pub(crate) fn value_from(l: &[u8]) -> Value
             called_area,
             calling_service,
             called_service,
-            0,
-            0,
+            activation,
+            interception,
             0,
         ],
         users: users,
@@ -72,6 +77,36 @@ pub(crate) fn value_from(l: &[u8]) -> Value
         mask: number::number_at(l, 108, 8),
         given: [first, second, third, fourth, fifth, sixth, seventh],
         dispatchers: dispatchers,
+        lists: lists,
+    }
+}
+
+fn lists_from(l: &[u8]) -> Lists
+    ensures { λ r. ⌜ r ≡ listsFrom (now (l .entry)) ⌝ }
+{
+    let sources = group_at(l, 243);
+    let destinations = group_at(l, 349);
+    let areas = areas_at(l, 455);
+    Lists {
+        sources: sources,
+        destinations: destinations,
+        areas: areas,
+    }
+}
+
+fn areas_at(l: &[u8], at: usize) -> Areas
+    requires { ⌜ at ≤ 1000 ⌝ }
+    ensures { λ r. ⌜ r ≡ areasFrom (drop at (now (l .entry))) ⌝ }
+{
+    let mut list = [0u8; 15];
+    let mut i: usize = 0;
+    while i < 15 {
+        list[i] = number::byte_at(l, at + 1 + i);
+        i += 1;
+    }
+    Areas {
+        range: number::byte_at(l, at),
+        areas: list,
     }
 }
 
@@ -112,6 +147,7 @@ pub(crate) fn put_value(out: &mut [u8], v: Value)
     let dispatchers = v.dispatchers;
     let numbers = v.numbers;
     let given = v.given;
+    let lists = v.lists;
     number::put_byte(out, 0, v.pdu);
     put_group(out, 1, users);
     number::put_flag(out, 107, v.masked);
@@ -119,6 +155,8 @@ pub(crate) fn put_value(out: &mut [u8], v: Value)
     put_first(out, numbers, given);
     put_group(out, 122, dispatchers);
     put_more(out, numbers, given);
+    put_types(out, numbers);
+    put_lists(out, lists);
 }
 
 // Result, reason, cause, identifier, and the first option of the row.
@@ -148,6 +186,45 @@ fn put_more(out: &mut [u8], numbers: [u32; 12], given: [bool; 7])
     number::put_low(out, 238, numbers[message::CALLED_AREA_AT as usize]);
     number::put_low(out, 239, numbers[message::CALLING_SERVICE_AT as usize]);
     number::put_low(out, 240, numbers[message::CALLED_SERVICE_AT as usize]);
+}
+
+// INTERROGATE ACK's activation and interception type.
+fn put_types(out: &mut [u8], numbers: [u32; 12])
+    ensures { λ _. ⌜ now (out .exit) ≡ sets (now (out .entry)) 241 (typeBytes numbers) ⌝ }
+{
+    number::put_low(out, 241, numbers[message::ACTIVATION_TYPE_AT as usize]);
+    number::put_low(out, 242, numbers[message::INTERCEPTION_TYPE_AT as usize]);
+}
+
+fn put_lists(out: &mut [u8], lists: Lists)
+    ensures { λ _. ⌜ now (out .exit) ≡ sets (now (out .entry)) 243 (listsBytes lists) ⌝ }
+{
+    let sources = lists.sources;
+    let destinations = lists.destinations;
+    let areas = lists.areas;
+    put_group(out, 243, sources);
+    put_group(out, 349, destinations);
+    put_areas(out, 455, areas);
+}
+
+fn put_areas(out: &mut [u8], at: usize, areas: Areas)
+    requires { ⌜ at ≤ 1000 ⌝ }
+    ensures { λ _. ⌜ now (out .exit) ≡ sets (now (out .entry)) at (areasBytes areas) ⌝ }
+{
+    let list = areas.areas;
+    number::put_byte(out, at, areas.range);
+    put_bytes(out, at + 1, list);
+}
+
+fn put_bytes(out: &mut [u8], at: usize, list: [u8; 15])
+    requires { ⌜ at ≤ 2000 ⌝ }
+    ensures { λ _. ⌜ now (out .exit) ≡ sets (now (out .entry)) at (rowsBytes byteBytes list) ⌝ }
+{
+    let mut i: usize = 0;
+    while i < 15 {
+        number::put_byte(out, at + i, list[i]);
+        i += 1;
+    }
 }
 
 // A group always has fifteen places: the caller knows by it where the next element goes.

@@ -20,6 +20,12 @@ use Rattle.message.proofs.with_mask as with-mask
 use Rattle.message.proofs.with_result as with-result
 use Rattle.message.proofs.with_dispatchers as with-dispatchers
 use Rattle.message.proofs.with_dispatcher as with-dispatcher
+use Rattle.message.proofs.areas_rise as areas-rise
+use Rattle.message.proofs.state_in as state-in
+use Rattle.message.proofs.with_state as with-state
+use Rattle.message.proofs.with_sources as with-sources
+use Rattle.message.proofs.with_destinations as with-destinations
+use Rattle.message.proofs.with_areas as with-areas
 use Rattle.message.proofs.with_given as with-given
 use Rattle.message.proofs.copied as copied
 use Rattle.message.proofs.copied_option as copied-option
@@ -85,6 +91,24 @@ decides-with-dispatchers = record { says = with-dispatchers.Reads.Learnt; is = r
 
 pub decides-with-dispatcher : Decides with-dispatcher.ended (λ M. with-dispatcher.spec)
 decides-with-dispatcher = record { says = with-dispatcher.Reads.Learnt; is = refl; one = λ κs a x y v w. same-answer }
+
+pub decides-areas-rise : Decides areas-rise.ended (λ M. areas-rise.spec)
+decides-areas-rise = record { says = areas-rise.Reads.Learnt; is = refl; one = λ κs a x y v w. same-answer }
+
+pub decides-state-in : Decides state-in.ended (λ M. state-in.spec)
+decides-state-in = record { says = state-in.Reads.Learnt; is = refl; one = λ κs a x y v w. same-answer }
+
+pub decides-with-state : Decides with-state.ended (λ M. with-state.spec)
+decides-with-state = record { says = with-state.Reads.Learnt; is = refl; one = λ κs a x y v w. same-answer }
+
+pub decides-with-sources : Decides with-sources.ended (λ M. with-sources.spec)
+decides-with-sources = record { says = with-sources.Reads.Learnt; is = refl; one = λ κs a x y v w. same-answer }
+
+pub decides-with-destinations : Decides with-destinations.ended (λ M. with-destinations.spec)
+decides-with-destinations = record { says = with-destinations.Reads.Learnt; is = refl; one = λ κs a x y v w. same-answer }
+
+pub decides-with-areas : Decides with-areas.ended (λ M. with-areas.spec)
+decides-with-areas = record { says = with-areas.Reads.Learnt; is = refl; one = λ κs a x y v w. same-answer }
 
 pub decides-with-given : Decides with-given.ended (λ M. with-given.spec)
 decides-with-given = record { says = with-given.Reads.Learnt; is = refl; one = λ κs a x y v w. same-answer }

@@ -7,6 +7,7 @@ use Rattle.profile.proofs.sample_profile as sample-profile
 use Rattle.profile.proofs.meaning_of as meaning-of
 use Rattle.profile.proofs.meaning_from as meaning-from
 use Rattle.profile.proofs.list_ok as list-ok
+use Rattle.profile.proofs.list_of_one as list-of-one
 use Rattle.contracts.specs.Outcomes.{Decides}
 use Rattle.contracts.proofs.Law.{same-answer}
 
@@ -21,6 +22,9 @@ decides-sample-profile = record { says = sample-profile.Reads.Learnt; is = refl;
 
 pub decides-meaning-of : Decides meaning-of.ended (λ M. meaning-of.spec)
 decides-meaning-of = record { says = meaning-of.Reads.Learnt; is = refl; one = λ κs a x y v w. same-answer }
+
+pub decides-list-of-one : Decides list-of-one.ended (λ M. list-of-one.spec)
+decides-list-of-one = record { says = list-of-one.Reads.Learnt; is = refl; one = λ κs a x y v w. same-answer }
 
 pub decides-list-ok : Decides list-ok.ended (λ M. list-ok.spec)
 decides-list-ok = record { says = list-ok.Reads.Learnt; is = refl; one = λ κs a x y v w. same-answer }

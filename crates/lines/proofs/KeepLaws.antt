@@ -17,16 +17,16 @@ use Rattle.lines.specs.Shape.{lineOf}
 use Rattle.lines.specs.Saying.{sayOf, saidOf}
 use Rattle.lines.proofs.ShapeLaws.{long-other}
 
--- a line of the right shape has at most 517 bytes
-pub said-kept : (l : List ℕ) → saidOf (take 640 l) ≡ saidOf l
+-- a line of the right shape has at most 1,029 bytes
+pub said-kept : (l : List ℕ) → saidOf (take 1152 l) ≡ saidOf l
 unfolding saidOf
-said-kept l = ⊎-elim long short (lt-or 640 (length l))
+said-kept l = ⊎-elim long short (lt-or 1152 (length l))
   where
-    long : 640 < length l → sayOf (lineOf (take 640 l)) ≡ sayOf (lineOf l)
-    long h = rw (long-other (take 640 l) (rw (length-take-le 640 l (omega arith)) (omega arith)), long-other l (omega arith))
+    long : 1152 < length l → sayOf (lineOf (take 1152 l)) ≡ sayOf (lineOf l)
+    long h = rw (long-other (take 1152 l) (rw (length-take-le 1152 l (omega arith)) (omega arith)), long-other l (omega arith))
 
-    short : length l ≤ 640 → sayOf (lineOf (take 640 l)) ≡ sayOf (lineOf l)
-    short h = rw (take-all 640 l h)
+    short : length l ≤ 1152 → sayOf (lineOf (take 1152 l)) ≡ sayOf (lineOf l)
+    short h = rw (take-all 1152 l h)
 
 pub keeps-none : noText ≡ textOf []
 unfolding noText textOf

@@ -118,9 +118,9 @@ few-hex (suc room) n row (x ∷ y ∷ l) = go (isHex x) (isHex y) (few-hex room 
     go true false e = omega arith
     go false b e = omega arith
 
-pub hex-few : (l : List ℕ) (at : ℕ) → hexAt l at .count ≤ 256
+pub hex-few : (l : List ℕ) (at : ℕ) → hexAt l at .count ≤ 512
 unfolding hexAt
-hex-few l at = few-hex 256 0 noBytes (drop at l)
+hex-few l at = few-hex 512 0 noBytes (drop at l)
 
 -- of more digits than there is room for, none
 pub hex-long : (room n : ℕ) (row l : List ℕ) → 2 * room < length l → hexThen room n row l ≡ noHex
@@ -136,13 +136,13 @@ hex-long (suc room) n row (x ∷ y ∷ l) h = go (isHex x) (isHex y) (hex-long r
     go true false e = refl
     go false b e = refl
 
--- ---- a line of the right shape has at most 517 bytes
+-- ---- a line of the right shape has at most 1,029 bytes
 
-with-long : (bits : ℕ) (l : List ℕ) → 512 < length l → lineWith bits (hexIn l) ≡ other
+with-long : (bits : ℕ) (l : List ℕ) → 1024 < length l → lineWith bits (hexIn l) ≡ other
 unfolding lineWith noHex
-with-long bits l h = rw (hex-long 256 0 noBytes l h)
+with-long bits l h = rw (hex-long 512 0 noBytes l h)
 
-digits-long : (seen bits : ℕ) (l : List ℕ) → seen ≤ 4 → 517 < seen + length l → digitsThen seen bits l ≡ other
+digits-long : (seen bits : ℕ) (l : List ℕ) → seen ≤ 4 → 1029 < seen + length l → digitsThen seen bits l ≡ other
 unfolding digitsThen
 digits-long seen bits [] m h = refl
 digits-long seen bits (b ∷ l) m h =
@@ -156,7 +156,7 @@ digits-long seen bits (b ∷ l) m h =
     go false f true false e k x = refl
     go false f false o e k x = refl
 
-pub long-other : (l : List ℕ) → 517 < length l → lineOf l ≡ other
+pub long-other : (l : List ℕ) → 1029 < length l → lineOf l ≡ other
 unfolding lineOf
 long-other l h = digits-long 0 0 l (omega arith) (omega arith)
 

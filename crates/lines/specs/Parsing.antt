@@ -11,4 +11,4 @@ parsedOf r = cond (r .good) (good (r .bits) (take (r .count) (r .bytes))) other
 
 pub record Parses (r : Parsed) (l : Line) : Type 0 where
   pub line : parsedOf r ≡ l
-  pub few : r .count ≤ 256
+  pub few : r .count ≤ 512

@@ -27,6 +27,8 @@ nameOf t =
     (cond (eqb t 5) (68 ∷ 69 ∷ 65 ∷ 67 ∷ 84 ∷ 73 ∷ 86 ∷ 65 ∷ 84 ∷ 69 ∷ 32 ∷ 65 ∷ 67 ∷ 75 ∷ [])
     -- INTERROGATE
     (cond (eqb t 8) (73 ∷ 78 ∷ 84 ∷ 69 ∷ 82 ∷ 82 ∷ 79 ∷ 71 ∷ 65 ∷ 84 ∷ 69 ∷ [])
+    -- INTERROGATE ACK
+    (cond (eqb t 9) (73 ∷ 78 ∷ 84 ∷ 69 ∷ 82 ∷ 82 ∷ 79 ∷ 71 ∷ 65 ∷ 84 ∷ 69 ∷ 32 ∷ 65 ∷ 67 ∷ 75 ∷ [])
     -- INTERCEPTED
     (cond (eqb t 10) (73 ∷ 78 ∷ 84 ∷ 69 ∷ 82 ∷ 67 ∷ 69 ∷ 80 ∷ 84 ∷ 69 ∷ 68 ∷ [])
     -- REQUEST
@@ -45,7 +47,7 @@ nameOf t =
     (cond (eqb t 17) (82 ∷ 69 ∷ 74 ∷ 69 ∷ 67 ∷ 84 ∷ [])
     -- REJECTED
     (cond (eqb t 18) (82 ∷ 69 ∷ 74 ∷ 69 ∷ 67 ∷ 84 ∷ 69 ∷ 68 ∷ [])
-    [])))))))))))))
+    []))))))))))))))
 
 -- a number below 256 in decimal
 abbrev pub decimalOf : ℕ → List ℕ
@@ -57,7 +59,7 @@ decimalOf n =
 unfoldable pub refusedOf : ℕ → List ℕ
 refusedOf n = 114 ∷ 101 ∷ 102 ∷ 117 ∷ 115 ∷ 101 ∷ 100 ∷ 32 ∷ decimalOf n
 
--- a position in decimal: reading gives none over 2,048 (`position-most`, message), so four digits are enough
+-- a position in decimal: reading gives none over 4,096 (`position-most`, message), so four digits are enough
 unfoldable pub digitOf : ℕ → ℕ
 digitOf n = n % 10 + 48
 
@@ -91,7 +93,7 @@ sayOf other = refusedOf 3
 unfoldable pub saidOf : List ℕ → List ℕ
 saidOf line = sayOf (lineOf line)
 
--- the bytes of a text at the front of twenty: no name has more than fifteen, and `refused 4 at 2048` has seventeen
+-- the bytes of a text at the front of twenty: no name has more than fifteen, and `refused 4 at 4096` has seventeen
 unfoldable pub textOf : List ℕ → Text
 textOf xs = record { len = length xs; bytes = sets (replicate 20 0) 0 xs }
 

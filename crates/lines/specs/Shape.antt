@@ -1,5 +1,5 @@
 -- The shape of a line: document 01, "Bits and calls worked out", last paragraph. A bit length of 1 to 4 digits, one space, and an even
--- number of upper-case hex digits, at most 512.
+-- number of upper-case hex digits, at most 1,024.
 use Prim.Native.Nat.{ℕ, zero, suc, _+_, _-_, _*_}
 use mathlib.Core.Bool.{Bool, true, false, cond}
 use mathlib.Core.List.{List, [], _∷_}
@@ -23,10 +23,10 @@ hexOf b = cond (isDigit b) (b - 48) (cond (isLetter b) (b - 55) 16)
 unfoldable pub isHex : ℕ → Bool
 isHex b = ltb (hexOf b) 16
 
--- ---- bytes: pairs of hex digits to the end, at most 256; the row is zero beyond the count
+-- ---- bytes: pairs of hex digits to the end, at most 512; the row is zero beyond the count
 
 unfoldable pub noBytes : List ℕ
-noBytes = replicate 256 0
+noBytes = replicate 512 0
 
 unfoldable pub noHex : Hex
 noHex = record { good = false; count = 0; bytes = noBytes }
@@ -40,7 +40,7 @@ hexThen (suc room) n row (x ∷ y ∷ rest) =
     cond (isHex x) (cond (isHex y) (hexThen room (n + 1) (set row n (hexOf x * 16 + hexOf y)) rest) noHex) noHex
 
 abbrev pub hexIn : List ℕ → Hex
-hexIn rest = hexThen 256 0 noBytes rest
+hexIn rest = hexThen 512 0 noBytes rest
 
 -- the bytes from a position on; good with 0 of them where nothing is left there
 unfoldable pub hexAt : List ℕ → ℕ → Hex

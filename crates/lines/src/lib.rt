@@ -1,6 +1,6 @@
 // One line of the listing: from its bytes to what is printed after its number (document 01, "Bits and calls worked out").
 //
-// `said` equals `saidOf` for every line. Of a line that comes in pieces the first 640 bytes are kept (`blocks`), more than a line of the
+// `said` equals `saidOf` for every line. Of a line that comes in pieces the first 1,152 bytes are kept (`blocks`), more than a line of the
 // right shape has, and `said_kept` of these says what the whole line says, however long it is (proofs/KeepLaws).
 ghost use mathlib.Core.Path.{_≡_};
 ghost use Prim.Native.Nat.{_+_, _-_, _<_, _≤_};
@@ -22,7 +22,7 @@ pub struct Text {
 pub struct Hex {
     pub good: bool,
     pub count: usize,
-    pub bytes: [u8; 256],
+    pub bytes: [u8; 512],
 }
 
 // A line of the right shape, or not; its first `count` bytes are the message's.
@@ -30,7 +30,7 @@ struct Parsed {
     good: bool,
     bits: usize,
     count: usize,
-    bytes: [u8; 256],
+    bytes: [u8; 512],
 }
 
 // What is printed for a line after its number.
@@ -53,11 +53,11 @@ pub fn said_kept(kept: blocks::Text) -> Text
     said_first(bytes, kept.len)
 }
 
-fn said_first(bytes: [u8; 640], len: usize) -> Text
+fn said_first(bytes: [u8; 1152], len: usize) -> Text
     ensures { λ r. ⌜ r ≡ textOf (saidOf (take len bytes)) ⌝ }
 {
     let line: &[u8] = &bytes;
-    if len > 640 {
+    if len > 1152 {
         return said(line);
     }
     said(&line[..len])
@@ -66,8 +66,8 @@ fn said_first(bytes: [u8; 640], len: usize) -> Text
 // ---- what is printed
 
 // The message is the first `count` of these bytes.
-fn answered_first(bytes: [u8; 256], count: usize, bits: usize) -> Text
-    requires { ⌜ count ≤ 256 ⌝ }
+fn answered_first(bytes: [u8; 512], count: usize, bits: usize) -> Text
+    requires { ⌜ count ≤ 512 ⌝ }
     ensures { λ r. ⌜ r ≡ textOf (answerOf (readOf sample (take count bytes) bits)) ⌝ }
 {
     let message: &[u8] = &bytes;
@@ -103,6 +103,9 @@ fn named(pdu: u8) -> Text
     }
     if pdu == 8 {
         return INTERROGATE;
+    }
+    if pdu == 9 {
+        return INTERROGATE_ACK;
     }
     if pdu == 10 {
         return INTERCEPTED;
@@ -262,6 +265,32 @@ const INTERROGATE: Text = Text {
         0,
         0,
         0,
+        0,
+        0,
+        0,
+        0,
+        0,
+    ],
+};
+
+const INTERROGATE_ACK: Text = Text {
+    len: 15,
+    bytes: [
+        b'I',
+        b'N',
+        b'T',
+        b'E',
+        b'R',
+        b'R',
+        b'O',
+        b'G',
+        b'A',
+        b'T',
+        b'E',
+        b' ',
+        b'A',
+        b'C',
+        b'K',
         0,
         0,
         0,
@@ -717,22 +746,22 @@ fn no_line() -> Parsed
         good: false,
         bits: 0,
         count: 0,
-        bytes: [0; 256],
+        bytes: [0; 512],
     }
 }
 
-// Pairs of upper-case hex digits from a position to the end, at most 256; not good where anything else stands there.
+// Pairs of upper-case hex digits from a position to the end, at most 512; not good where anything else stands there.
 pub fn hex_at(line: &[u8], from: usize) -> Hex
     ensures { λ r. ⌜ r ≡ hexAt (now (line .entry)) from ⌝ }
 {
-    let mut bytes = [0u8; 256];
+    let mut bytes = [0u8; 512];
     let mut count: usize = 0;
     let mut k = from;
     while k < line.len() {
         if line.len() - k < 2 {
             return no_hex();
         }
-        if count >= 256 {
+        if count >= 512 {
             return no_hex();
         }
         let x = hex_digit(line[k]);
@@ -760,7 +789,7 @@ fn no_hex() -> Hex
     Hex {
         good: false,
         count: 0,
-        bytes: [0; 256],
+        bytes: [0; 512],
     }
 }
 

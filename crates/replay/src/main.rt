@@ -350,7 +350,7 @@ fn called(
 }
 
 // The message is the first `count` of these bytes.
-fn step(state: State, bytes: [u8; 256], count: usize, area: &mut [u8], event: Event) -> Stepped {
+fn step(state: State, bytes: [u8; 512], count: usize, area: &mut [u8], event: Event) -> Stepped {
     let desk = state.desk;
     let low = state.low;
     let rows = low.row;
@@ -366,10 +366,10 @@ fn step(state: State, bytes: [u8; 256], count: usize, area: &mut [u8], event: Ev
 }
 
 fn within(count: usize) -> usize
-    ensures { λ r. ⌜ r ≤ 256 ⌝ }
+    ensures { λ r. ⌜ r ≤ 512 ⌝ }
 {
-    if count > 256 {
-        return 256;
+    if count > 512 {
+        return 512;
     }
     count
 }

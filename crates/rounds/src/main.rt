@@ -6,6 +6,7 @@ use message::Group;
 use message::Value;
 
 mod deactivations;
+mod interrogations;
 mod show;
 
 fn main() {
@@ -23,6 +24,7 @@ fn main() {
     options_not_valid();
     endings_not_valid();
     deactivations::rows();
+    interrogations::rows();
 }
 
 // ---- the rows
@@ -322,7 +324,7 @@ fn all_given(value: Value) -> Value {
     marked(value, [true; 7])
 }
 
-// With just these of REQUEST's options marked as there.
+// With just these options marked as there.
 fn marked(value: Value, options: [bool; 7]) -> Value {
     let mut v = value;
     v.given = options;

@@ -2,12 +2,12 @@
 use message::Value;
 use writing::Written;
 
-// The value into an area of so many bytes, at most 48.
+// The value into an area of so many bytes, at most 96.
 pub(crate) fn row(number: u64, value: Value, bytes: usize) {
-    if bytes > 48 {
+    if bytes > 96 {
         return;
     }
-    let mut area = [0xAAu8; 48];
+    let mut area = [0xAAu8; 96];
     write(number, value, &mut area[..bytes]);
 }
 
@@ -32,10 +32,10 @@ fn say(number: u64, pdu: u8, written: Written, area: &[u8]) {
 fn read(number: u64, bits: usize, area: &[u8]) {
     let found = reading::read(profile::sample_profile(), area, bits);
     let value = found.value;
-    if area.len() > 48 {
+    if area.len() > 96 {
         return;
     }
-    let mut second = [0x55u8; 48];
+    let mut second = [0x55u8; 96];
     write_again(number, value, &mut second[..area.len()]);
 }
 
@@ -106,6 +106,9 @@ fn say_name(pdu: u8) {
     }
     if pdu == 8 {
         io::write_all(1, b"INTERROGATE");
+    }
+    if pdu == 9 {
+        io::write_all(1, b"INTERROGATE ACK");
     }
     if pdu == 10 {
         io::write_all(1, b"INTERCEPTED");

@@ -1,5 +1,5 @@
--- A line of any length: no line of over 539 bytes is understood, so what is kept of a line asks for what the whole line asks for.
---     long-unknown   a line of over 539 bytes is of another shape
+-- A line of any length: no line of over 1,051 bytes is understood, so what is kept of a line asks for what the whole line asks for.
+--     long-unknown   a line of over 1,051 bytes is of another shape
 --     kept-none      nothing is kept of no line
 --     kept-more      what is kept after one more piece is kept of the line with that piece
 --     kept-asks      what is kept of a line asks for what the line asks for
@@ -18,7 +18,7 @@ use Rattle.bits.proofs.SetLaws.{lt-or}
 use Rattle.lines.specs.Shape.{isDigit, hexOf, noHex, hexAt}
 use Rattle.lines.proofs.ShapeLaws.{hex-long}
 use Rattle.script.specs.Shape.{noNumber, numberIf, digitsThen, numberAt, noRow, noNumbers, numbersFrom, numbersAt}
-use Rattle.script.specs.Profiles.{pairsIn, isPairs}
+use Rattle.script.specs.Profiles.{pairsIn, isProfile, isPairs}
 use Rattle.script.specs.Lines.{when, recordTask, setUpTask, rejectTask, cancelTask, outTask, placeTask, unplaceTask, secondTask, causeTask, plainLine, postLine, profileLine, sharesLine, taskOf, lineOf}
 use Rattle.blocks.specs.Texts.{noText, textOf, keepOf}
 use Rattle.script.specs.declared.Task.the-variants as task
@@ -104,7 +104,7 @@ numbers-near (suc k) n row l at =
     go true false false z r = omega arith
     go false e s z r = omega arith
 
--- ---- so no line of over 539 bytes is of a shape
+-- ---- so no line of over 1,051 bytes is of a shape
 
 cond-unknown : (b : Bool) → cond b task.Unknown task.Unknown ≡ task.Unknown
 cond-unknown true = refl
@@ -114,55 +114,55 @@ line-unknown : (b : Bool) → cond b (plainLine task.Unknown) (plainLine task.Un
 line-unknown true = refl
 line-unknown false = refl
 
--- 38 numbers are no line's, and neither are none
-not-counted : (n : Numbers) (k : ℕ) → NoneOrAll 38 n → 0 < k → k < 38 → eqb (n .count) k ≡ false
+-- 40 numbers are no line's, and neither are none
+not-counted : (n : Numbers) (k : ℕ) → NoneOrAll 40 n → 0 < k → k < 40 → eqb (n .count) k ≡ false
 not-counted n k s p q = ne-eqb (n .count) k (no s)
   where
-    no : NoneOrAll 38 n → n .count ≡ k → ⊥
+    no : NoneOrAll 40 n → n .count ≡ k → ⊥
     no (inl a) e = omega arith
     no (inr (a, b)) e = omega arith
 
-set-up-none : (n : Numbers) → NoneOrAll 38 n → setUpTask n ≡ task.Unknown
+set-up-none : (n : Numbers) → NoneOrAll 40 n → setUpTask n ≡ task.Unknown
 unfolding setUpTask
 set-up-none n s = ⊎-elim (λ a. rw a) (λ a. rw (a .0)) s
 
-reject-none : (n : Numbers) → NoneOrAll 38 n → rejectTask n ≡ task.Unknown
+reject-none : (n : Numbers) → NoneOrAll 40 n → rejectTask n ≡ task.Unknown
 unfolding rejectTask
 reject-none n s = rw (not-counted n 2 s (omega arith) (omega arith))
 
-cancel-none : (n : Numbers) → NoneOrAll 38 n → cancelTask n ≡ task.Unknown
+cancel-none : (n : Numbers) → NoneOrAll 40 n → cancelTask n ≡ task.Unknown
 unfolding cancelTask
 cancel-none n s = rw (not-counted n 1 s (omega arith) (omega arith))
 
-record-none : (n : Numbers) → NoneOrAll 38 n → recordTask n ≡ task.Unknown
+record-none : (n : Numbers) → NoneOrAll 40 n → recordTask n ≡ task.Unknown
 unfolding recordTask
 record-none n s = rw (not-counted n 6 s (omega arith) (omega arith))
 
-out-none : (n : Numbers) → NoneOrAll 38 n → outTask n ≡ task.Unknown
+out-none : (n : Numbers) → NoneOrAll 40 n → outTask n ≡ task.Unknown
 unfolding outTask
 out-none n s = rw (not-counted n 1 s (omega arith) (omega arith))
 
-place-none : (n : Numbers) → NoneOrAll 38 n → placeTask n ≡ task.Unknown
+place-none : (n : Numbers) → NoneOrAll 40 n → placeTask n ≡ task.Unknown
 unfolding placeTask
 place-none n s = rw (not-counted n 3 s (omega arith) (omega arith))
 
-unplace-none : (n : Numbers) → NoneOrAll 38 n → unplaceTask n ≡ task.Unknown
+unplace-none : (n : Numbers) → NoneOrAll 40 n → unplaceTask n ≡ task.Unknown
 unfolding unplaceTask
 unplace-none n s = rw (not-counted n 1 s (omega arith) (omega arith))
 
-second-none : (n : Numbers) → NoneOrAll 38 n → secondTask n ≡ task.Unknown
+second-none : (n : Numbers) → NoneOrAll 40 n → secondTask n ≡ task.Unknown
 unfolding secondTask
 second-none n s = rw (not-counted n 2 s (omega arith) (omega arith))
 
-cause-none : (n : Numbers) → NoneOrAll 38 n → causeTask n ≡ task.Unknown
+cause-none : (n : Numbers) → NoneOrAll 40 n → causeTask n ≡ task.Unknown
 unfolding causeTask
 cause-none n s = rw (not-counted n 2 s (omega arith) (omega arith))
 
-module _ (l : List ℕ) (h : 539 < length l) where
+module _ (l : List ℕ) (h : 1051 < length l) where
   -- from a position of up to 8 on
-  counted : (at : ℕ) → 0 < at → at ≤ 8 → NoneOrAll 38 (numbersAt 38 l at)
+  counted : (at : ℕ) → 0 < at → at ≤ 8 → NoneOrAll 40 (numbersAt 40 l at)
   unfolding numbersAt
-  counted at p q = numbers-long 38 0 noRow l at p (omega arith)
+  counted at p q = numbers-long 40 0 noRow l at p (omega arith)
 
   no-dump : when (eqb (length l) 4) task.Dump ≡ task.Unknown
   no-dump = rw (ne-eqb (length l) 4 other)
@@ -174,24 +174,24 @@ module _ (l : List ℕ) (h : 539 < length l) where
   unfolding taskOf
   task-long =
       rw (
-        set-up-none (numbersAt 38 l 6) (counted 6 (omega arith) (omega arith)),
-        reject-none (numbersAt 38 l 7) (counted 7 (omega arith) (omega arith)),
-        cancel-none (numbersAt 38 l 7) (counted 7 (omega arith) (omega arith)),
-        record-none (numbersAt 38 l 7) (counted 7 (omega arith) (omega arith)),
-        out-none (numbersAt 38 l 4) (counted 4 (omega arith) (omega arith)),
-        place-none (numbersAt 38 l 6) (counted 6 (omega arith) (omega arith)),
-        unplace-none (numbersAt 38 l 8) (counted 8 (omega arith) (omega arith)),
-        second-none (numbersAt 38 l 7) (counted 7 (omega arith) (omega arith)),
-        cause-none (numbersAt 38 l 6) (counted 6 (omega arith) (omega arith)),
+        set-up-none (numbersAt 40 l 6) (counted 6 (omega arith) (omega arith)),
+        reject-none (numbersAt 40 l 7) (counted 7 (omega arith) (omega arith)),
+        cancel-none (numbersAt 40 l 7) (counted 7 (omega arith) (omega arith)),
+        record-none (numbersAt 40 l 7) (counted 7 (omega arith) (omega arith)),
+        out-none (numbersAt 40 l 4) (counted 4 (omega arith) (omega arith)),
+        place-none (numbersAt 40 l 6) (counted 6 (omega arith) (omega arith)),
+        unplace-none (numbersAt 40 l 8) (counted 8 (omega arith) (omega arith)),
+        second-none (numbersAt 40 l 7) (counted 7 (omega arith) (omega arith)),
+        cause-none (numbersAt 40 l 6) (counted 6 (omega arith) (omega arith)),
         no-dump,
       )
       (simp cond-unknown)
 
-  profile-long : profileLine (numbersAt 38 l 8) ≡ plainLine task.Unknown
-  unfolding profileLine pairsIn
+  profile-long : profileLine (numbersAt 40 l 8) ≡ plainLine task.Unknown
+  unfolding profileLine pairsIn isProfile
   profile-long = ⊎-elim (λ a. rw a) (λ a. rw (a .0)) (counted 8 (omega arith) (omega arith))
 
-  shares-long : sharesLine (numbersAt 38 l 7) ≡ plainLine task.Unknown
+  shares-long : sharesLine (numbersAt 40 l 7) ≡ plainLine task.Unknown
   unfolding sharesLine isPairs
   shares-long = ⊎-elim (λ a. rw a) (λ a. rw (a .0)) (counted 7 (omega arith) (omega arith))
 
@@ -199,11 +199,11 @@ module _ (l : List ℕ) (h : 539 < length l) where
   unfolding postLine numbersAt hexAt noHex
   post-long = ⊎-elim (λ a. rw a) (λ a. two (a .0) (a .1)) (numbers-long 2 0 noRow l 5 (omega arith) (omega arith))
     where
-      long : 2 * 256 < length (drop (numbersFrom 2 0 noRow l 5 .next) l)
+      long : 2 * 512 < length (drop (numbersFrom 2 0 noRow l 5 .next) l)
       long = rw length-drop (omega (arith, numbers-near 2 0 noRow l 5))
 
       two : numbersFrom 2 0 noRow l 5 .count ≡ 2 → 0 < numbersFrom 2 0 noRow l 5 .next → postLine (numbersFrom 2 0 noRow l 5) l ≡ plainLine task.Unknown
-      two e p = rw (e, ne-eqb (numbersFrom 2 0 noRow l 5 .next) 0 (λ z. omega arith), hex-long 256 0 _ (drop (numbersFrom 2 0 noRow l 5 .next) l) long)
+      two e p = rw (e, ne-eqb (numbersFrom 2 0 noRow l 5 .next) 0 (λ z. omega arith), hex-long 512 0 _ (drop (numbersFrom 2 0 noRow l 5 .next) l) long)
 
   pub long-unknown : lineOf l ≡ plainLine task.Unknown
   unfolding lineOf
@@ -211,14 +211,14 @@ module _ (l : List ℕ) (h : 539 < length l) where
 
 -- ---- what is kept of a line that came in pieces
 
-line-kept : (l : List ℕ) → lineOf (take 640 l) ≡ lineOf l
-line-kept l = ⊎-elim long short (lt-or 640 (length l))
+line-kept : (l : List ℕ) → lineOf (take 1152 l) ≡ lineOf l
+line-kept l = ⊎-elim long short (lt-or 1152 (length l))
   where
-    long : 640 < length l → lineOf (take 640 l) ≡ lineOf l
-    long h = long-unknown (take 640 l) (rw (length-take-le 640 l (omega arith)) (omega arith)) ∙ sym (long-unknown l (omega arith))
+    long : 1152 < length l → lineOf (take 1152 l) ≡ lineOf l
+    long h = long-unknown (take 1152 l) (rw (length-take-le 1152 l (omega arith)) (omega arith)) ∙ sym (long-unknown l (omega arith))
 
-    short : length l ≤ 640 → lineOf (take 640 l) ≡ lineOf l
-    short h = rw (take-all 640 l h)
+    short : length l ≤ 1152 → lineOf (take 1152 l) ≡ lineOf l
+    short h = rw (take-all 1152 l h)
 
 pub kept-none : noText ≡ textOf []
 unfolding noText textOf

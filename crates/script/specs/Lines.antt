@@ -9,7 +9,7 @@ use Rattle.places.specs.Held.{noPlace}
 use Rattle.desk.specs.declared.Event.the-variants as event
 use Rattle.lines.specs.Shape.{noBytes, hexAt}
 use Rattle.script.specs.Shape.{startsWith, numbersAt}
-use Rattle.script.specs.Profiles.{profileOf, pairsIn, isPairs, rowsOf}
+use Rattle.script.specs.Profiles.{profileOf, pairsIn, isProfile, isPairs, rowsOf}
 use Rattle.script.specs.declared.Line.{Line}
 use Rattle.script.specs.declared.Task.{Task}
 use Rattle.script.specs.declared.Task.the-variants as task
@@ -108,7 +108,7 @@ postLine n l =
 
 unfoldable pub profileLine : Numbers → Line
 profileLine n =
-    cond (leb 1 (pairsIn (n .count))) (record { task = task.Open; profile = profileOf (n .number) (pairsIn (n .count)); count = 0; bytes = noBytes })
+    cond (isProfile (getD (n .number) 20 0) (pairsIn (n .count))) (record { task = task.Open; profile = profileOf (n .number) (pairsIn (n .count)); count = 0; bytes = noBytes })
     (plainLine task.Unknown)
 
 unfoldable pub sharesLine : Numbers → Line
@@ -118,23 +118,23 @@ sharesLine n = cond (isPairs (n .count)) (record { task = task.Shares; profile =
 unfoldable pub taskOf : List ℕ → Task
 taskOf l =
     -- `setup `
-    cond (startsWith l (115 ∷ 101 ∷ 116 ∷ 117 ∷ 112 ∷ 32 ∷ [])) (setUpTask (numbersAt 38 l 6))
+    cond (startsWith l (115 ∷ 101 ∷ 116 ∷ 117 ∷ 112 ∷ 32 ∷ [])) (setUpTask (numbersAt 40 l 6))
     -- `reject `
-    (cond (startsWith l (114 ∷ 101 ∷ 106 ∷ 101 ∷ 99 ∷ 116 ∷ 32 ∷ [])) (rejectTask (numbersAt 38 l 7))
+    (cond (startsWith l (114 ∷ 101 ∷ 106 ∷ 101 ∷ 99 ∷ 116 ∷ 32 ∷ [])) (rejectTask (numbersAt 40 l 7))
     -- `cancel `
-    (cond (startsWith l (99 ∷ 97 ∷ 110 ∷ 99 ∷ 101 ∷ 108 ∷ 32 ∷ [])) (cancelTask (numbersAt 38 l 7))
+    (cond (startsWith l (99 ∷ 97 ∷ 110 ∷ 99 ∷ 101 ∷ 108 ∷ 32 ∷ [])) (cancelTask (numbersAt 40 l 7))
     -- `record `
-    (cond (startsWith l (114 ∷ 101 ∷ 99 ∷ 111 ∷ 114 ∷ 100 ∷ 32 ∷ [])) (recordTask (numbersAt 38 l 7))
+    (cond (startsWith l (114 ∷ 101 ∷ 99 ∷ 111 ∷ 114 ∷ 100 ∷ 32 ∷ [])) (recordTask (numbersAt 40 l 7))
     -- `out `
-    (cond (startsWith l (111 ∷ 117 ∷ 116 ∷ 32 ∷ [])) (outTask (numbersAt 38 l 4))
+    (cond (startsWith l (111 ∷ 117 ∷ 116 ∷ 32 ∷ [])) (outTask (numbersAt 40 l 4))
     -- `place `
-    (cond (startsWith l (112 ∷ 108 ∷ 97 ∷ 99 ∷ 101 ∷ 32 ∷ [])) (placeTask (numbersAt 38 l 6))
+    (cond (startsWith l (112 ∷ 108 ∷ 97 ∷ 99 ∷ 101 ∷ 32 ∷ [])) (placeTask (numbersAt 40 l 6))
     -- `unplace `
-    (cond (startsWith l (117 ∷ 110 ∷ 112 ∷ 108 ∷ 97 ∷ 99 ∷ 101 ∷ 32 ∷ [])) (unplaceTask (numbersAt 38 l 8))
+    (cond (startsWith l (117 ∷ 110 ∷ 112 ∷ 108 ∷ 97 ∷ 99 ∷ 101 ∷ 32 ∷ [])) (unplaceTask (numbersAt 40 l 8))
     -- `second `
-    (cond (startsWith l (115 ∷ 101 ∷ 99 ∷ 111 ∷ 110 ∷ 100 ∷ 32 ∷ [])) (secondTask (numbersAt 38 l 7))
+    (cond (startsWith l (115 ∷ 101 ∷ 99 ∷ 111 ∷ 110 ∷ 100 ∷ 32 ∷ [])) (secondTask (numbersAt 40 l 7))
     -- `cause `
-    (cond (startsWith l (99 ∷ 97 ∷ 117 ∷ 115 ∷ 101 ∷ 32 ∷ [])) (causeTask (numbersAt 38 l 6))
+    (cond (startsWith l (99 ∷ 97 ∷ 117 ∷ 115 ∷ 101 ∷ 32 ∷ [])) (causeTask (numbersAt 40 l 6))
     -- `dump`, the whole line
     (cond (startsWith l (100 ∷ 117 ∷ 109 ∷ 112 ∷ [])) (when (eqb (length l) 4) task.Dump) task.Unknown)))))))))
 
@@ -143,6 +143,6 @@ lineOf l =
     -- `post `
     cond (startsWith l (112 ∷ 111 ∷ 115 ∷ 116 ∷ 32 ∷ [])) (postLine (numbersAt 2 l 5) l)
     -- `profile `
-    (cond (startsWith l (112 ∷ 114 ∷ 111 ∷ 102 ∷ 105 ∷ 108 ∷ 101 ∷ 32 ∷ [])) (profileLine (numbersAt 38 l 8))
+    (cond (startsWith l (112 ∷ 114 ∷ 111 ∷ 102 ∷ 105 ∷ 108 ∷ 101 ∷ 32 ∷ [])) (profileLine (numbersAt 40 l 8))
     -- `shares `
-    (cond (startsWith l (115 ∷ 104 ∷ 97 ∷ 114 ∷ 101 ∷ 115 ∷ 32 ∷ [])) (sharesLine (numbersAt 38 l 7)) (plainLine (taskOf l))))
+    (cond (startsWith l (115 ∷ 104 ∷ 97 ∷ 114 ∷ 101 ∷ 115 ∷ 32 ∷ [])) (sharesLine (numbersAt 40 l 7)) (plainLine (taskOf l))))

@@ -36,10 +36,10 @@ digitsThen at seen value (b ∷ rest) =
 unfoldable pub numberAt : List ℕ → ℕ → Number
 numberAt l at = digitsThen at 0 0 (drop at l)
 
--- ---- numbers in a row of 38, zero beyond the count; no line has more than 37
+-- ---- numbers in a row of 40, zero beyond the count; no line has more than 39
 
 unfoldable pub noRow : List ℕ
-noRow = replicate 38 0
+noRow = replicate 40 0
 
 unfoldable pub noNumbers : Numbers
 noNumbers = record { count = 0; next = 0; number = noRow }

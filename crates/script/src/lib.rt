@@ -1,6 +1,6 @@
 // One line of a desk script (docs/REPLAY.md): from its bytes to what it asks for.
 //
-// `parse` equals `lineOf` for every line. Of a line that comes in pieces the first 640 bytes are kept (`blocks`), and `parse_kept` of these
+// `parse` equals `lineOf` for every line. Of a line that comes in pieces the first 1,152 bytes are kept (`blocks`), and `parse_kept` of these
 // is what the whole line asks for, however long it is (proofs/KeepLaws). The files: shape (keyword, numbers), tasks (the lines that
 // are numbers alone), profiles (the profile of a `profile` line, the rows of a `shares` line).
 ghost use mathlib.Core.Path.{_≡_};
@@ -38,7 +38,7 @@ pub struct Line {
     pub task: Task,
     pub profile: Profile,
     pub count: usize,
-    pub bytes: [u8; 256],
+    pub bytes: [u8; 512],
 }
 
 pub fn parse(line: &[u8]) -> Line
@@ -48,10 +48,10 @@ pub fn parse(line: &[u8]) -> Line
         return post_line(shape::numbers_at(line, 5, 2), line);
     }
     if shape::starts(line, b"profile ") {
-        return profile_line(shape::numbers_at(line, 8, 38));
+        return profile_line(shape::numbers_at(line, 8, 40));
     }
     if shape::starts(line, b"shares ") {
-        return shares_line(shape::numbers_at(line, 7, 38));
+        return shares_line(shape::numbers_at(line, 7, 40));
     }
     plain_line(task_of(line))
 }
@@ -64,11 +64,11 @@ pub fn parse_kept(kept: Text) -> Line
     parse_first(bytes, kept.len)
 }
 
-fn parse_first(bytes: [u8; 640], len: usize) -> Line
+fn parse_first(bytes: [u8; 1152], len: usize) -> Line
     ensures { λ r. ⌜ r ≡ lineOf (take len bytes) ⌝ }
 {
     let line: &[u8] = &bytes;
-    if len > 640 {
+    if len > 1152 {
         return parse(line);
     }
     parse(&line[..len])
@@ -78,31 +78,31 @@ fn task_of(line: &[u8]) -> Task
     ensures { λ r. ⌜ r ≡ taskOf (now (line .entry)) ⌝ }
 {
     if shape::starts(line, b"setup ") {
-        return tasks::set_up(shape::numbers_at(line, 6, 38));
+        return tasks::set_up(shape::numbers_at(line, 6, 40));
     }
     if shape::starts(line, b"reject ") {
-        return tasks::reject(shape::numbers_at(line, 7, 38));
+        return tasks::reject(shape::numbers_at(line, 7, 40));
     }
     if shape::starts(line, b"cancel ") {
-        return tasks::cancel(shape::numbers_at(line, 7, 38));
+        return tasks::cancel(shape::numbers_at(line, 7, 40));
     }
     if shape::starts(line, b"record ") {
-        return tasks::lend(shape::numbers_at(line, 7, 38));
+        return tasks::lend(shape::numbers_at(line, 7, 40));
     }
     if shape::starts(line, b"out ") {
-        return tasks::room(shape::numbers_at(line, 4, 38));
+        return tasks::room(shape::numbers_at(line, 4, 40));
     }
     if shape::starts(line, b"place ") {
-        return tasks::fill(shape::numbers_at(line, 6, 38));
+        return tasks::fill(shape::numbers_at(line, 6, 40));
     }
     if shape::starts(line, b"unplace ") {
-        return tasks::empty(shape::numbers_at(line, 8, 38));
+        return tasks::empty(shape::numbers_at(line, 8, 40));
     }
     if shape::starts(line, b"second ") {
-        return tasks::second(shape::numbers_at(line, 7, 38));
+        return tasks::second(shape::numbers_at(line, 7, 40));
     }
     if shape::starts(line, b"cause ") {
-        return tasks::cause(shape::numbers_at(line, 6, 38));
+        return tasks::cause(shape::numbers_at(line, 6, 40));
     }
     if shape::starts(line, b"dump") {
         return tasks::dump(line.len());
@@ -117,7 +117,7 @@ fn post_line(n: Numbers, line: &[u8]) -> Line
         return plain_line(Task::Unknown);
     }
     if n.next == 0 {
-        return message_line(n, 0, [0; 256]);
+        return message_line(n, 0, [0; 512]);
     }
     let hex = lines::hex_at(line, n.next);
     if hex.count < 1 {
@@ -127,7 +127,7 @@ fn post_line(n: Numbers, line: &[u8]) -> Line
     message_line(n, hex.count, bytes)
 }
 
-fn message_line(n: Numbers, count: usize, bytes: [u8; 256]) -> Line
+fn message_line(n: Numbers, count: usize, bytes: [u8; 512]) -> Line
     ensures { λ r. ⌜ r ≡ messageLine n count bytes ⌝ }
 {
     let number = n.number;
@@ -148,7 +148,7 @@ fn profile_line(n: Numbers) -> Line
 {
     let number = n.number;
     let pairs = profiles::pairs_in(n.count);
-    if pairs < 1 {
+    if profiles::is_profile(number[20], pairs) {} else {
         return plain_line(Task::Unknown);
     }
     let profile = profiles::profile_of(number, pairs);
@@ -156,7 +156,7 @@ fn profile_line(n: Numbers) -> Line
         task: Task::Open,
         profile: profile,
         count: 0,
-        bytes: [0; 256],
+        bytes: [0; 512],
     }
 }
 
@@ -172,7 +172,7 @@ fn shares_line(n: Numbers) -> Line
         task: Task::Shares,
         profile: profile,
         count: 0,
-        bytes: [0; 256],
+        bytes: [0; 512],
     }
 }
 
@@ -184,6 +184,6 @@ fn plain_line(task: Task) -> Line
         task: task,
         profile: profile,
         count: 0,
-        bytes: [0; 256],
+        bytes: [0; 512],
     }
 }

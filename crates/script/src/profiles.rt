@@ -1,8 +1,9 @@
 // The profile of a `profile` line and the rows of a `shares` line, from the line's row of numbers.
 ghost use mathlib.Core.Path.{_≡_};
 ghost use Prim.Native.Nat.{_≤_};
+ghost use lib.ListN.{getD};
 ghost use Rattle.profile.specs.Rules.{noProfile};
-ghost use Rattle.script.specs.Profiles.{byteOf, meaningBy, meaningsOf, airOf, shareOf, sharesAt, sharesOf, postsOf, profileOf, pairsIn, isPairs, rowsOf};
+ghost use Rattle.script.specs.Profiles.{byteOf, meaningBy, meaningsOf, hasReasons, reasonOf, airOf, shareOf, sharesAt, sharesOf, postsOf, profileOf, pairsIn, isProfile, isPairs, rowsOf};
 use profile::Air;
 use profile::Kind;
 use profile::Meaning;
@@ -10,20 +11,33 @@ use profile::Profile;
 use profile::Share;
 use profile::Shares;
 
-// How many pairs there are after 21 numbers, 1 to 8; 0 where they are no profile's.
+// How many pairs there are after 21 numbers, 1 to 9; 0 where they are no profile's.
 pub(crate) fn pairs_in(count: usize) -> u8
     ensures { λ r. ⌜ r ≡ pairsIn count ⌝ }
 {
     if count < 23 {
         return 0;
     }
-    if count > 37 {
+    if count > 39 {
         return 0;
     }
     if count % 2 == 1 {
         return ((count - 21) / 2) as u8;
     }
     0
+}
+
+// 1 to 8 pairs, or 9 with eight posts.
+pub(crate) fn is_profile(said: u32, pairs: u8) -> bool
+    ensures { λ r. ⌜ r ≡ isProfile said pairs ⌝ }
+{
+    if pairs < 1 {
+        return false;
+    }
+    if pairs <= 8 {
+        return true;
+    }
+    said == 8
 }
 
 // 1 to 8 pairs.
@@ -40,7 +54,7 @@ pub(crate) fn is_pairs(count: usize) -> bool
 }
 
 // The rows of new shares; a missing pair is 0 0, as the row is beyond its count. All else of the profile is zero.
-pub(crate) fn rows_of(number: [u32; 38]) -> Profile
+pub(crate) fn rows_of(number: [u32; 40]) -> Profile
     ensures { λ r. ⌜ r ≡ rowsOf number ⌝ }
 {
     let none = no_profile();
@@ -52,10 +66,10 @@ pub(crate) fn rows_of(number: [u32; 38]) -> Profile
     }
 }
 
-pub(crate) fn profile_of(number: [u32; 38], pairs: u8) -> Profile
+pub(crate) fn profile_of(number: [u32; 40], pairs: u8) -> Profile
     ensures { λ r. ⌜ r ≡ profileOf number pairs ⌝ }
 {
-    let air = air_of(number);
+    let air = air_of(number, pairs);
     let shares = shares_of(number, pairs);
     Profile {
         air: air,
@@ -76,6 +90,8 @@ pub(crate) fn no_profile() -> Profile
             }; 16],
             unknown: 0,
             other: 0,
+            unrecorded: 0,
+            elsewhere: 0,
         },
         shares: Shares {
             posts: 0,
@@ -87,25 +103,57 @@ pub(crate) fn no_profile() -> Profile
     }
 }
 
-fn air_of(number: [u32; 38]) -> Air
-    ensures { λ r. ⌜ r ≡ airOf number ⌝ }
+fn air_of(number: [u32; 40], pairs: u8) -> Air
+    ensures { λ r. ⌜ r ≡ airOf number pairs ⌝ }
 {
     let table = meanings_of(number);
     let meanings = table.meaning;
+    let more = has_reasons(number[20], pairs);
+    let at = 19 + 2 * (pairs as usize);
+    let unrecorded = reason_of(number, more, at, 1);
+    let elsewhere = reason_of(number, more, at + 1, 2);
     Air {
         ss: byte_of(number[0]),
         home: number[1],
         meanings: meanings,
         unknown: byte_of(number[2]),
         other: byte_of(number[3]),
+        unrecorded: unrecorded,
+        elsewhere: elsewhere,
     }
+}
+
+// The pairs are one more than the line's posts.
+fn has_reasons(said: u32, pairs: u8) -> bool
+    ensures { λ r. ⌜ r ≡ hasReasons said pairs ⌝ }
+{
+    said as u64 + 1 == pairs as u64
+}
+
+// The reason at a number of the row, if it is there.
+fn reason_of(number: [u32; 40], more: bool, at: usize, otherwise: u8) -> u8
+    ensures { λ r. ⌜ r ≡ reasonOf number more at otherwise ⌝ }
+{
+    if more {
+        return byte_of(number_in(number, at));
+    }
+    otherwise
+}
+
+fn number_in(number: [u32; 40], at: usize) -> u32
+    ensures { λ r. ⌜ r ≡ getD number at 0 ⌝ }
+{
+    if at < 40 {
+        return number[at];
+    }
+    0
 }
 
 struct Table {
     meaning: [Meaning; 16],
 }
 
-fn meanings_of(number: [u32; 38]) -> Table
+fn meanings_of(number: [u32; 40]) -> Table
     ensures { λ r. ⌜ r .meaning ≡ meaningsOf number ⌝ }
 {
     let m0 = meaning_of(number[4]);
@@ -162,14 +210,14 @@ fn byte_of(n: u32) -> u8
     n as u8
 }
 
-fn shares_of(number: [u32; 38], pairs: u8) -> Shares
+fn shares_of(number: [u32; 40], pairs: u8) -> Shares
     ensures { λ r. ⌜ r ≡ sharesOf number pairs ⌝ }
 {
     shares_at(number, 21, posts_of(number[20], pairs))
 }
 
 // Eight pairs from a number of the row on, for so many posts.
-fn shares_at(number: [u32; 38], at: usize, posts: u8) -> Shares
+fn shares_at(number: [u32; 40], at: usize, posts: u8) -> Shares
     requires { ⌜ at ≤ 22 ⌝ }
     ensures { λ r. ⌜ r ≡ sharesAt number at posts ⌝ }
 {
@@ -201,6 +249,9 @@ fn posts_of(said: u32, pairs: u8) -> u8
 {
     if said == pairs as u32 {
         return pairs;
+    }
+    if has_reasons(said, pairs) {
+        return byte_of(said);
     }
     0
 }

@@ -14,7 +14,7 @@ pub(crate) struct Number {
 pub(crate) struct Numbers {
     pub count: usize,
     pub next: usize,
-    pub number: [u32; 38],
+    pub number: [u32; 40],
 }
 
 // The line starts with this word.
@@ -34,12 +34,12 @@ pub(crate) fn starts(line: &[u8], word: &[u8]) -> bool
     true
 }
 
-// At most 38 numbers from a position on.
+// At most 40 numbers from a position on.
 pub(crate) fn numbers_at(line: &[u8], from: usize, most: usize) -> Numbers
-    requires { ⌜ most ≤ 38 ⌝ }
+    requires { ⌜ most ≤ 40 ⌝ }
     ensures { λ r. ⌜ r ≡ numbersAt most (now (line .entry)) from ⌝ }
 {
-    let mut number = [0u32; 38];
+    let mut number = [0u32; 40];
     let mut count: usize = 0;
     let mut at = from;
     while count < most {
@@ -123,6 +123,6 @@ fn no_numbers() -> Numbers
     Numbers {
         count: 0,
         next: 0,
-        number: [0; 38],
+        number: [0; 40],
     }
 }

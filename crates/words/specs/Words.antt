@@ -116,7 +116,7 @@ wordIn ((k, word) ∷ rest) e = cond (eqb e k) word (wordIn rest e)
 unfoldable pub elementWord : ℕ → List ℕ
 elementWord e = wordIn elementWords e
 
--- with a 4 ` at `, the position where the element that did not fit begins, a space and its name; reading gives no position over 2,048
+-- with a 4 ` at `, the position where the element that did not fit begins, a space and its name; reading gives no position over 4,096
 -- (`position-most`, message), so 32 bits are enough
 unfoldable pub brokeWords : Stop → List ℕ
 brokeWords s = cond (eqb (s .number) 4) ((32 ∷ 97 ∷ 116 ∷ 32 ∷ []) ++ (decimalOf (min (s .at) 4294967295) ++ ((32 ∷ []) ++ elementWord (s .element)))) []
@@ -127,6 +127,12 @@ stateWord k =
     cond (eqb k 0) (110 ∷ 111 ∷ 45 ∷ 114 ∷ 101 ∷ 99 ∷ 111 ∷ 114 ∷ 100 ∷ [])
     (cond (eqb k 1) (111 ∷ 116 ∷ 104 ∷ 101 ∷ 114 ∷ 45 ∷ 112 ∷ 111 ∷ 115 ∷ 116 ∷ [])
     (cond (eqb k 2) (97 ∷ 99 ∷ 116 ∷ 105 ∷ 118 ∷ 101 ∷ []) (110 ∷ 111 ∷ 116 ∷ 45 ∷ 97 ∷ 99 ∷ 116 ∷ 105 ∷ 118 ∷ 101 ∷ [])))
+
+-- the word, and INTERROGATE ACK: its bits and its bytes
+unfoldable pub stateWords : ℕ → Laid → List ℕ → List ℕ
+stateWords k laid area =
+    (115 ∷ 116 ∷ 97 ∷ 116 ∷ 101 ∷ 32 ∷ [])
+    ++ (stateWord k ++ ((32 ∷ []) ++ (decimalOf (bitsIn laid 0) ++ ((32 ∷ []) ++ messageHex area 0 (bitsIn laid 0)))))
 
 -- ACK k, if there are that many: a space and its bits, a space and its bytes
 unfoldable pub ackBits : Laid → ℕ → List ℕ
@@ -155,8 +161,7 @@ postWords post laid area = decimalOf post ++ ((32 ∷ []) ++ messageHex area 0 (
 unfoldable pub wordsOf : Answer → Laid → List ℕ → List ℕ
 wordsOf (answer.Refused s) laid area = refusedOf (s .number) ++ brokeWords s
 wordsOf answer.Acks laid area = acksWords laid area
--- `state `
-wordsOf (answer.State k) laid area = (115 ∷ 116 ∷ 97 ∷ 116 ∷ 101 ∷ 32 ∷ []) ++ stateWord k
+wordsOf (answer.State k) laid area = stateWords k laid area
 -- `free`
 wordsOf answer.Free laid area = 102 ∷ 114 ∷ 101 ∷ 101 ∷ []
 wordsOf (answer.Admitted post place) laid area = admittedWords post place laid area

@@ -5,7 +5,7 @@ ghost use Prim.Native.Nat.{min};
 ghost use lib.ListN.{getD};
 ghost use Rattle.profile.specs.Counting.{one};
 ghost use Rattle.blocks.specs.Texts.{Wrote};
-ghost use Rattle.words.specs.Words.{messageHex, bitsIn, refusedOf, elementWord, brokeWords, stateWord, ackBits, ackHex, acksWords, admittedWords, postWords, wordsOf, changeWords, secondWords, causeWords, placeWords, recordWords};
+ghost use Rattle.words.specs.Words.{messageHex, bitsIn, refusedOf, elementWord, brokeWords, stateWord, stateWords, ackBits, ackHex, acksWords, admittedWords, postWords, wordsOf, changeWords, secondWords, causeWords, placeWords, recordWords};
 use crate::texts;
 use blocks::Text;
 use codec::Stop;
@@ -21,7 +21,7 @@ pub(crate) fn answer(text: Text, answer: Answer, laid: Laid, area: &[u8]) -> Tex
     match answer {
         Answer::Refused(s) => broke(refused(text, s.number), s),
         Answer::Acks => acks(text, laid, area),
-        Answer::State(k) => state(texts::add(text, b"state "), k),
+        Answer::State(k) => told(text, k, laid, area),
         Answer::Free => texts::add(text, b"free"),
         Answer::Admitted { post, place } => admitted(text, post, place, laid, area),
         Answer::Proceed => message(texts::add(text, b"proceed "), laid, area, 0),
@@ -60,7 +60,7 @@ fn broke(text: Text, stop: Stop) -> Text
     text
 }
 
-// A position, as far as 32 bits go: reading gives none over 2,048.
+// A position, as far as 32 bits go: reading gives none over 4,096.
 fn up_to_32_bits(at: usize) -> u32
     ensures { λ r. ⌜ r ≡ min at 4294967295 ⌝ }
 {
@@ -149,6 +149,14 @@ fn state(text: Text, k: u8) -> Text
         return texts::add(text, b"active");
     }
     texts::add(text, b"not-active")
+}
+
+fn told(text: Text, k: u8, laid: Laid, area: &[u8]) -> Text
+    ensures { λ r. ⌜ Wrote text r (stateWords k laid (now (area .entry))) ⌝ }
+{
+    let named = state(texts::add(text, b"state "), k);
+    let counted = texts::add_number(texts::add(named, b" "), bits_in(laid, 0) as u32);
+    message(texts::add(counted, b" "), laid, area, 0)
 }
 
 fn acks(text: Text, laid: Laid, area: &[u8]) -> Text

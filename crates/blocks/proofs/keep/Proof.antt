@@ -12,7 +12,7 @@ use Rattle.blocks.proofs.keep.Statement.{statement}
 use Rattle.blocks.proofs.keep.Tie as tie
 
 abbrev Inv-loop : tie.InvT-loop
-Inv-loop piece start bytes₀ n i₀ bytes i = (i ≤ n) × ((length bytes ≡ 640) × (bytes ≡ sets bytes₀ start (take i piece)))
+Inv-loop piece start bytes₀ n i₀ bytes i = (i ≤ n) × ((length bytes ≡ 1152) × (bytes ≡ sets bytes₀ start (take i piece)))
 
 abbrev μ-loop : tie.MeasureT-loop
 μ-loop piece start bytes₀ n i₀ bytes i = n - i

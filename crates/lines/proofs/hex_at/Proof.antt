@@ -11,7 +11,7 @@ use Rattle.lines.proofs.hex_at.Statement.{statement}
 use Rattle.lines.proofs.hex_at.Tie as tie
 
 abbrev Inv-loop : tie.InvT-loop
-Inv-loop line from bytes₀ count₀ k₀ bytes count k = (count ≤ 256) × ((length bytes ≡ 256) × (hexAt line from ≡ hexThen (256 - count) count bytes (drop k line)))
+Inv-loop line from bytes₀ count₀ k₀ bytes count k = (count ≤ 512) × ((length bytes ≡ 512) × (hexAt line from ≡ hexThen (512 - count) count bytes (drop k line)))
 
 abbrev μ-loop : tie.MeasureT-loop
 μ-loop line from bytes₀ count₀ k₀ bytes count k = length line - k
@@ -27,13 +27,13 @@ no-hex-requires : tie.Need-no-hex-requires Inv-loop μ-loop
 no-hex-requires c κs = search needs
 
 returns : tie.Need-returns Inv-loop μ-loop
-returns c = c .no-hex .ensures ∙ sym (c .before .before .before .loop .inv .1 .1 ∙ hex-odd (now (c .before .before .before .before .before .args .line)) (c .before .before .before .loop .bytes) (c .before .before .before .loop .k) (256 - c .before .before .before .loop .count) (c .before .before .before .loop .count) (search needs) (search needs))
+returns c = c .no-hex .ensures ∙ sym (c .before .before .before .loop .inv .1 .1 ∙ hex-odd (now (c .before .before .before .before .before .args .line)) (c .before .before .before .loop .bytes) (c .before .before .before .loop .k) (512 - c .before .before .before .loop .count) (c .before .before .before .loop .count) (search needs) (search needs))
 
 no-hex-requires-2 : tie.Need-no-hex-requires-2 Inv-loop μ-loop
 no-hex-requires-2 c κs = search needs
 
 returns-2 : tie.Need-returns-2 Inv-loop μ-loop
-returns-2 c = c .no-hex2 .ensures ∙ sym (c .before .before .before .before .loop .inv .1 .1 ∙ hex-full (now (c .before .before .before .before .before .before .args .line)) (c .before .before .before .before .loop .bytes) (c .before .before .before .before .loop .k) (256 - c .before .before .before .before .loop .count) (c .before .before .before .before .loop .count) (omega arith) (omega arith))
+returns-2 c = c .no-hex2 .ensures ∙ sym (c .before .before .before .before .loop .inv .1 .1 ∙ hex-full (now (c .before .before .before .before .before .before .args .line)) (c .before .before .before .before .loop .bytes) (c .before .before .before .before .loop .k) (512 - c .before .before .before .before .loop .count) (c .before .before .before .before .loop .count) (omega arith) (omega arith))
 
 shared-slice-read-hex-digit : tie.Need-shared-slice-read-hex-digit Inv-loop μ-loop
 shared-slice-read-hex-digit c = search needs
@@ -54,13 +54,13 @@ no-hex-requires-3 : tie.Need-no-hex-requires-3 Inv-loop μ-loop
 no-hex-requires-3 c κs = search needs
 
 returns-3 : tie.Need-returns-3 Inv-loop μ-loop
-returns-3 c = c .no-hex3 .ensures ∙ sym (c .before .before .before .before .before .before .before .before .before .loop .inv .1 .1 ∙ hex-first (now (c .before .before .before .before .before .before .before .before .before .before .before .args .line)) (c .before .before .before .before .before .before .before .before .before .loop .bytes) (c .before .before .before .before .before .before .before .before .before .loop .k) (256 - c .before .before .before .before .before .before .before .before .before .loop .count) (c .before .before .before .before .before .before .before .before .before .loop .count) (omega arith) (256 - (c .before .before .before .before .before .before .before .before .before .loop .count + 1)) (omega arith) _ _ (c .before .before .before .before .hex-digit .ensures) (c .before .before .hex-digit2 .ensures) (search needs))
+returns-3 c = c .no-hex3 .ensures ∙ sym (c .before .before .before .before .before .before .before .before .before .loop .inv .1 .1 ∙ hex-first (now (c .before .before .before .before .before .before .before .before .before .before .before .args .line)) (c .before .before .before .before .before .before .before .before .before .loop .bytes) (c .before .before .before .before .before .before .before .before .before .loop .k) (512 - c .before .before .before .before .before .before .before .before .before .loop .count) (c .before .before .before .before .before .before .before .before .before .loop .count) (omega arith) (512 - (c .before .before .before .before .before .before .before .before .before .loop .count + 1)) (omega arith) _ _ (c .before .before .before .before .hex-digit .ensures) (c .before .before .hex-digit2 .ensures) (search needs))
 
 no-hex-requires-4 : tie.Need-no-hex-requires-4 Inv-loop μ-loop
 no-hex-requires-4 c κs = search needs
 
 returns-4 : tie.Need-returns-4 Inv-loop μ-loop
-returns-4 c = c .no-hex4 .ensures ∙ sym (c .before .before .before .before .before .before .before .before .before .before .loop .inv .1 .1 ∙ hex-second (now (c .before .before .before .before .before .before .before .before .before .before .before .before .args .line)) (c .before .before .before .before .before .before .before .before .before .before .loop .bytes) (c .before .before .before .before .before .before .before .before .before .before .loop .k) (256 - c .before .before .before .before .before .before .before .before .before .before .loop .count) (c .before .before .before .before .before .before .before .before .before .before .loop .count) (omega arith) (256 - (c .before .before .before .before .before .before .before .before .before .before .loop .count + 1)) (omega arith) _ _ (c .before .before .before .before .before .hex-digit .ensures) (c .before .before .before .hex-digit2 .ensures) (search needs) (search needs))
+returns-4 c = c .no-hex4 .ensures ∙ sym (c .before .before .before .before .before .before .before .before .before .before .loop .inv .1 .1 ∙ hex-second (now (c .before .before .before .before .before .before .before .before .before .before .before .before .args .line)) (c .before .before .before .before .before .before .before .before .before .before .loop .bytes) (c .before .before .before .before .before .before .before .before .before .before .loop .k) (512 - c .before .before .before .before .before .before .before .before .before .before .loop .count) (c .before .before .before .before .before .before .before .before .before .before .loop .count) (omega arith) (512 - (c .before .before .before .before .before .before .before .before .before .before .loop .count + 1)) (omega arith) _ _ (c .before .before .before .before .before .hex-digit .ensures) (c .before .before .before .hex-digit2 .ensures) (search needs) (search needs))
 
 mul-bytes : tie.Need-mul-bytes Inv-loop μ-loop
 mul-bytes c = search needs
@@ -85,12 +85,12 @@ loop-again c = (
   search needs,
   (
     search needs,
-    c .before .before .before .before .before .before .before .before .before .loop .inv .1 .1 ∙ hex-more (now (c .before .before .before .before .before .before .before .before .before .before .before .args .line)) (c .before .before .before .before .before .before .before .before .before .loop .bytes) (c .before .before .before .before .before .before .before .before .before .loop .k) (256 - c .before .before .before .before .before .before .before .before .before .loop .count) (c .before .before .before .before .before .before .before .before .before .loop .count) (omega arith) (256 - (c .before .before .before .before .before .before .before .before .before .loop .count + 1)) (omega arith) _ _ (c .before .before .before .before .hex-digit .ensures) (c .before .before .hex-digit2 .ensures) (search needs) (search needs),
+    c .before .before .before .before .before .before .before .before .before .loop .inv .1 .1 ∙ hex-more (now (c .before .before .before .before .before .before .before .before .before .before .before .args .line)) (c .before .before .before .before .before .before .before .before .before .loop .bytes) (c .before .before .before .before .before .before .before .before .before .loop .k) (512 - c .before .before .before .before .before .before .before .before .before .loop .count) (c .before .before .before .before .before .before .before .before .before .loop .count) (omega arith) (512 - (c .before .before .before .before .before .before .before .before .before .loop .count + 1)) (omega arith) _ _ (c .before .before .before .before .hex-digit .ensures) (c .before .before .hex-digit2 .ensures) (search needs) (search needs),
   ),
 )
 
 returns-5 : tie.Need-returns-5 Inv-loop μ-loop
-returns-5 c = sym (c .before .loop .inv .1 .1 ∙ hex-end (now (c .before .before .before .args .line)) (c .before .loop .bytes) (c .before .loop .k) (256 - c .before .loop .count) (c .before .loop .count) (search needs))
+returns-5 c = sym (c .before .loop .inv .1 .1 ∙ hex-end (now (c .before .before .before .args .line)) (c .before .loop .bytes) (c .before .loop .k) (512 - c .before .loop .count) (c .before .loop .count) (search needs))
 
 pub hex-at-spec : {M : Type 1} → statement M
 hex-at-spec =

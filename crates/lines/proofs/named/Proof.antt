@@ -167,20 +167,40 @@ returns-14 c =
 returns-15 : tie.Need-returns-15
 unfolding nameOf textOf
 returns-15 c =
-    let p1 = c .before .before .before .before .before .before .before .before .before .before .before .before .before in
-    let p2 = c .before .before .before .before .before .before .before .before .before .before .before .before in
-    let p3 = c .before .before .before .before .before .before .before .before .before .before .before in
-    let p4 = c .before .before .before .before .before .before .before .before .before .before in
-    let p5 = c .before .before .before .before .before .before .before .before .before in
-    let p6 = c .before .before .before .before .before .before .before .before in
-    let p7 = c .before .before .before .before .before .before .before in
-    let p8 = c .before .before .before .before .before .before in
-    let p9 = c .before .before .before .before .before in
-    let p10 = c .before .before .before .before in
-    let p11 = c .before .before .before in
-    let p12 = c .before .before in
-    let p13 = c .before in
-    rw (ne-eqb _ _ (p1 .if1 .left), ne-eqb _ _ (p2 .if2 .left), ne-eqb _ _ (p3 .if3 .left), ne-eqb _ _ (p4 .if4 .left), ne-eqb _ _ (p5 .if5 .left), ne-eqb _ _ (p6 .if6 .left), ne-eqb _ _ (p7 .if7 .left), ne-eqb _ _ (p8 .if8 .left), ne-eqb _ _ (p9 .if9 .left), ne-eqb _ _ (p10 .if10 .left), ne-eqb _ _ (p11 .if11 .left), ne-eqb _ _ (p12 .if12 .left), ne-eqb _ _ (p13 .if13 .left), ne-eqb _ _ (c .if14 .left))
+    let p1 = c .before .before .before .before .before .before .before .before .before .before .before .before .before .before in
+    let p2 = c .before .before .before .before .before .before .before .before .before .before .before .before .before in
+    let p3 = c .before .before .before .before .before .before .before .before .before .before .before .before in
+    let p4 = c .before .before .before .before .before .before .before .before .before .before .before in
+    let p5 = c .before .before .before .before .before .before .before .before .before .before in
+    let p6 = c .before .before .before .before .before .before .before .before .before in
+    let p7 = c .before .before .before .before .before .before .before .before in
+    let p8 = c .before .before .before .before .before .before .before in
+    let p9 = c .before .before .before .before .before .before in
+    let p10 = c .before .before .before .before .before in
+    let p11 = c .before .before .before .before in
+    let p12 = c .before .before .before in
+    let p13 = c .before .before in
+    let p14 = c .before in
+    rw (ne-eqb _ _ (p1 .if1 .left), ne-eqb _ _ (p2 .if2 .left), ne-eqb _ _ (p3 .if3 .left), ne-eqb _ _ (p4 .if4 .left), ne-eqb _ _ (p5 .if5 .left), ne-eqb _ _ (p6 .if6 .left), ne-eqb _ _ (p7 .if7 .left), ne-eqb _ _ (p8 .if8 .left), ne-eqb _ _ (p9 .if9 .left), ne-eqb _ _ (p10 .if10 .left), ne-eqb _ _ (p11 .if11 .left), ne-eqb _ _ (p12 .if12 .left), ne-eqb _ _ (p13 .if13 .left), ne-eqb _ _ (p14 .if14 .left), eq-eqb _ _ (c .if15 .taken))
+
+returns-16 : tie.Need-returns-16
+unfolding nameOf textOf
+returns-16 c =
+    let p1 = c .before .before .before .before .before .before .before .before .before .before .before .before .before .before in
+    let p2 = c .before .before .before .before .before .before .before .before .before .before .before .before .before in
+    let p3 = c .before .before .before .before .before .before .before .before .before .before .before .before in
+    let p4 = c .before .before .before .before .before .before .before .before .before .before .before in
+    let p5 = c .before .before .before .before .before .before .before .before .before .before in
+    let p6 = c .before .before .before .before .before .before .before .before .before in
+    let p7 = c .before .before .before .before .before .before .before .before in
+    let p8 = c .before .before .before .before .before .before .before in
+    let p9 = c .before .before .before .before .before .before in
+    let p10 = c .before .before .before .before .before in
+    let p11 = c .before .before .before .before in
+    let p12 = c .before .before .before in
+    let p13 = c .before .before in
+    let p14 = c .before in
+    rw (ne-eqb _ _ (p1 .if1 .left), ne-eqb _ _ (p2 .if2 .left), ne-eqb _ _ (p3 .if3 .left), ne-eqb _ _ (p4 .if4 .left), ne-eqb _ _ (p5 .if5 .left), ne-eqb _ _ (p6 .if6 .left), ne-eqb _ _ (p7 .if7 .left), ne-eqb _ _ (p8 .if8 .left), ne-eqb _ _ (p9 .if9 .left), ne-eqb _ _ (p10 .if10 .left), ne-eqb _ _ (p11 .if11 .left), ne-eqb _ _ (p12 .if12 .left), ne-eqb _ _ (p13 .if13 .left), ne-eqb _ _ (p14 .if14 .left), ne-eqb _ _ (c .if15 .left))
 
 pub named-spec : {M : Type 1} → statement M
 named-spec =
@@ -200,4 +220,5 @@ named-spec =
     returns-12
     returns-13
     returns-14
-    returns-15)
+    returns-15
+    returns-16)

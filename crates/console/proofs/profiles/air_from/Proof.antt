@@ -62,11 +62,17 @@ byte-at-requires-3 c κs = search needs
 byte-at-requires-4 : tie.Need-byte-at-requires-4 Inv-loop μ-loop
 byte-at-requires-4 c κs = search needs
 
+byte-at-requires-5 : tie.Need-byte-at-requires-5 Inv-loop μ-loop
+byte-at-requires-5 c κs = search needs
+
+byte-at-requires-6 : tie.Need-byte-at-requires-6 Inv-loop μ-loop
+byte-at-requires-6 c κs = search needs
+
 returns : tie.Need-returns Inv-loop μ-loop
 unfolding airFrom
 returns c =
-    let b = c .before .before .before in
-    rw (c .byte-at4 .ensures, c .before .byte-at3 .ensures, c .before .before .three-at .ensures, b .byte-at2 .ensures, rows-end _ _ _ _ _ _ _ _ (b .before .before .loop .inv .1 .1) (search needs))
+    let b = c .before .before .before .before .before in
+    rw (c .byte-at6 .ensures, c .before .byte-at5 .ensures, c .before .before .byte-at4 .ensures, c .before .before .before .byte-at3 .ensures, c .before .before .before .before .three-at .ensures, b .byte-at2 .ensures, rows-end _ _ _ _ _ _ _ _ (b .before .before .loop .inv .1 .1) (search needs))
 
 pub air-from-spec : {M : Type 1} → statement M
 air-from-spec =
@@ -87,4 +93,6 @@ air-from-spec =
     three-at-requires
     byte-at-requires-3
     byte-at-requires-4
+    byte-at-requires-5
+    byte-at-requires-6
     returns)

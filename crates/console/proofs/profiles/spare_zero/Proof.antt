@@ -1,16 +1,17 @@
 -- Written by tools/proofs from tools/console.conf. `console::profiles::spare_zero` meets its contract. Assumes nothing.
-use Prim.Native.Nat.{_+_, _-_, _*_}
+use Prim.Native.Nat.{_-_}
 use mathlib.Core.Path.{_≡_}
 use denote.Ref.{now}
-use lib.ListN.{length, getD, drop}
+use lib.ListN.{length, drop}
 use borrow.Author.Needs.{needs}
 use Rattle.console.proofs.ByteLaws.{zero-more, zero-not, zero-end}
 use Rattle.console.specs.Bytes.{areZero}
+use Rattle.console.specs.Profiles.{spareZero}
 use Rattle.console.proofs.profiles.spare_zero.Statement.{statement}
 use Rattle.console.proofs.profiles.spare_zero.Tie as tie
 
 abbrev Inv-loop : tie.InvT-loop
-Inv-loop l posts i₀ i = areZero (drop (23 + 2 * getD l 22 0) l) ≡ areZero (drop i l)
+Inv-loop l posts i₀ i = spareZero l ≡ areZero (drop i l)
 
 abbrev μ-loop : tie.MeasureT-loop
 μ-loop l posts i₀ i = length l - i
@@ -28,6 +29,7 @@ add-i : tie.Need-add-i Inv-loop μ-loop
 add-i c = search needs
 
 loop-holds : tie.Need-loop-holds Inv-loop μ-loop
+unfolding spareZero
 loop-holds c = rw (c .byte-at .ensures)
 
 shared-slice-read-if1 : tie.Need-shared-slice-read-if1 Inv-loop μ-loop

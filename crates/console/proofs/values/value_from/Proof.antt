@@ -62,8 +62,17 @@ cast-called-service c = search needs
 byte-at-requires-8 : tie.Need-byte-at-requires-8
 byte-at-requires-8 c κs = search needs
 
+cast-activation : tie.Need-cast-activation
+cast-activation c = search needs
+
 byte-at-requires-9 : tie.Need-byte-at-requires-9
 byte-at-requires-9 c κs = search needs
+
+cast-interception : tie.Need-cast-interception
+cast-interception c = search needs
+
+lists-from-requires : tie.Need-lists-from-requires
+lists-from-requires c κs = search needs
 
 byte-at-requires-10 : tie.Need-byte-at-requires-10
 byte-at-requires-10 c κs = search needs
@@ -86,11 +95,17 @@ byte-at-requires-15 c κs = search needs
 byte-at-requires-16 : tie.Need-byte-at-requires-16
 byte-at-requires-16 c κs = search needs
 
+byte-at-requires-17 : tie.Need-byte-at-requires-17
+byte-at-requires-17 c κs = search needs
+
+byte-at-requires-18 : tie.Need-byte-at-requires-18
+byte-at-requires-18 c κs = search needs
+
 number-at-requires : tie.Need-number-at-requires
 number-at-requires c κs = search needs
 
 returns : tie.Need-returns
-returns c = value-from-all (now (c .before .before .before .before .before .before .before .before .before .before .before .before .before .before .before .before .before .before .before .before .before .before .args .l)) _ _ _ _ _ _ _ _ _ _ _ _ _ _ _ _ _ _ _ _ _ (c .before .before .before .before .before .before .before .before .before .before .before .before .before .before .before .before .before .before .before .before .group-at .ensures) (c .before .before .before .before .before .before .before .before .before .before .before .before .before .before .before .before .before .before .before .group-at2 .ensures) (c .before .before .before .before .before .before .before .before .before .before .before .before .before .before .before .before .before .before .two-at .ensures) (c .before .before .before .before .before .before .before .before .before .before .before .before .before .before .before .before .before .byte-at .ensures) (c .before .before .before .before .before .before .before .before .before .before .before .before .before .before .before .before .byte-at2 .ensures) (c .before .before .before .before .before .before .before .before .before .before .before .before .before .before .before .byte-at3 .ensures) (c .before .before .before .before .before .before .before .before .before .before .before .before .before .before .three-at .ensures) (c .before .before .before .before .before .before .before .before .before .before .before .before .before .byte-at4 .ensures) (c .before .before .before .before .before .before .before .before .before .before .before .before .byte-at5 .ensures) (c .before .before .before .before .before .before .before .before .before .before .before .byte-at6 .ensures) (c .before .before .before .before .before .before .before .before .before .before .byte-at7 .ensures) (c .before .before .before .before .before .before .before .before .before .byte-at8 .ensures) (c .before .before .before .before .before .before .before .before .byte-at9 .ensures) (c .before .before .before .before .before .before .before .byte-at10 .ensures) (c .before .before .before .before .before .before .byte-at11 .ensures) (c .before .before .before .before .before .byte-at12 .ensures) (c .before .before .before .before .byte-at13 .ensures) (c .before .before .before .byte-at14 .ensures) (c .before .before .byte-at15 .ensures) (c .before .byte-at16 .ensures) (c .number-at .ensures .0)
+returns c = value-from-all (now (c .before .before .before .before .before .before .before .before .before .before .before .before .before .before .before .before .before .before .before .before .before .before .before .before .before .args .l)) _ _ _ _ _ _ _ _ _ _ _ _ _ _ _ _ _ _ _ _ _ _ _ _ (c .before .before .before .before .before .before .before .before .before .before .before .before .before .before .before .before .before .before .before .before .before .before .before .group-at .ensures) (c .before .before .before .before .before .before .before .before .before .before .before .before .before .before .before .before .before .before .before .before .before .before .group-at2 .ensures) (c .before .before .before .before .before .before .before .before .before .before .before .before .before .before .before .before .before .before .before .before .before .two-at .ensures) (c .before .before .before .before .before .before .before .before .before .before .before .before .before .before .before .before .before .before .before .before .byte-at .ensures) (c .before .before .before .before .before .before .before .before .before .before .before .before .before .before .before .before .before .before .before .byte-at2 .ensures) (c .before .before .before .before .before .before .before .before .before .before .before .before .before .before .before .before .before .before .byte-at3 .ensures) (c .before .before .before .before .before .before .before .before .before .before .before .before .before .before .before .before .before .three-at .ensures) (c .before .before .before .before .before .before .before .before .before .before .before .before .before .before .before .before .byte-at4 .ensures) (c .before .before .before .before .before .before .before .before .before .before .before .before .before .before .before .byte-at5 .ensures) (c .before .before .before .before .before .before .before .before .before .before .before .before .before .before .byte-at6 .ensures) (c .before .before .before .before .before .before .before .before .before .before .before .before .before .byte-at7 .ensures) (c .before .before .before .before .before .before .before .before .before .before .before .before .byte-at8 .ensures) (c .before .before .before .before .before .before .before .before .before .before .before .byte-at9 .ensures) (c .before .before .before .before .before .before .before .before .before .before .lists-from .ensures) (c .before .before .before .before .before .before .before .before .before .byte-at10 .ensures) (c .before .before .before .before .before .before .before .before .byte-at11 .ensures) (c .before .before .before .before .before .before .before .byte-at12 .ensures) (c .before .before .before .before .before .before .byte-at13 .ensures) (c .before .before .before .before .before .byte-at14 .ensures) (c .before .before .before .before .byte-at15 .ensures) (c .before .before .before .byte-at16 .ensures) (c .before .before .byte-at17 .ensures) (c .before .byte-at18 .ensures) (c .number-at .ensures .0)
 
 pub value-from-spec : {M : Type 1} → statement M
 value-from-spec =
@@ -115,7 +130,10 @@ value-from-spec =
     byte-at-requires-7
     cast-called-service
     byte-at-requires-8
+    cast-activation
     byte-at-requires-9
+    cast-interception
+    lists-from-requires
     byte-at-requires-10
     byte-at-requires-11
     byte-at-requires-12
@@ -123,5 +141,7 @@ value-from-spec =
     byte-at-requires-14
     byte-at-requires-15
     byte-at-requires-16
+    byte-at-requires-17
+    byte-at-requires-18
     number-at-requires
     returns)

@@ -12,7 +12,7 @@ use Rattle.script.proofs.shape.numbers_at.Statement.{statement}
 use Rattle.script.proofs.shape.numbers_at.Tie as tie
 
 abbrev Inv-loop : tie.InvT-loop
-Inv-loop line from most number₀ count₀ at₀ number count at = (count ≤ most) × ((length number ≡ 38) × (numbersAt most line from ≡ numbersFrom (most - count) count number line at))
+Inv-loop line from most number₀ count₀ at₀ number count at = (count ≤ most) × ((length number ≡ 40) × (numbersAt most line from ≡ numbersFrom (most - count) count number line at))
 
 abbrev μ-loop : tie.MeasureT-loop
 μ-loop line from most number₀ count₀ at₀ number count at = most - count

@@ -23,23 +23,17 @@ acks-requires c κs = search needs
 enum-known-answer-2 : tie.Need-enum-known-answer-2
 enum-known-answer-2 c = search needs
 
+told-requires : tie.Need-told-requires
+told-requires c κs = search needs
+
+enum-told-2 : tie.Need-enum-told-2
+enum-told-2 c = search needs
+
 slice-aggregate-add : tie.Need-slice-aggregate-add
 slice-aggregate-add c = search needs
 
 add-requires : tie.Need-add-requires
 add-requires c κs = search needs
-
-state-requires : tie.Need-state-requires
-state-requires c κs = search needs
-
-enum-told-2 : tie.Need-enum-told-2
-enum-told-2 c = search needs
-
-slice-aggregate-add-2 : tie.Need-slice-aggregate-add-2
-slice-aggregate-add-2 c = search needs
-
-add-requires-2 : tie.Need-add-requires-2
-add-requires-2 c κs = search needs
 
 enum-known-answer-3 : tie.Need-enum-known-answer-3
 enum-known-answer-3 c = search needs
@@ -50,11 +44,11 @@ admitted-requires c κs = search needs
 enum-told-3 : tie.Need-enum-told-3
 enum-told-3 c = search needs
 
-slice-aggregate-add-3 : tie.Need-slice-aggregate-add-3
-slice-aggregate-add-3 c = search needs
+slice-aggregate-add-2 : tie.Need-slice-aggregate-add-2
+slice-aggregate-add-2 c = search needs
 
-add-requires-3 : tie.Need-add-requires-3
-add-requires-3 c κs = search needs
+add-requires-2 : tie.Need-add-requires-2
+add-requires-2 c κs = search needs
 
 message-requires : tie.Need-message-requires
 message-requires c κs = search needs
@@ -62,11 +56,11 @@ message-requires c κs = search needs
 enum-told-4 : tie.Need-enum-told-4
 enum-told-4 c = search needs
 
-slice-aggregate-add-4 : tie.Need-slice-aggregate-add-4
-slice-aggregate-add-4 c = search needs
+slice-aggregate-add-3 : tie.Need-slice-aggregate-add-3
+slice-aggregate-add-3 c = search needs
 
-add-requires-4 : tie.Need-add-requires-4
-add-requires-4 c κs = search needs
+add-requires-3 : tie.Need-add-requires-3
+add-requires-3 c κs = search needs
 
 message-requires-2 : tie.Need-message-requires-2
 message-requires-2 c κs = search needs
@@ -74,11 +68,11 @@ message-requires-2 c κs = search needs
 enum-told-5 : tie.Need-enum-told-5
 enum-told-5 c = search needs
 
-slice-aggregate-add-5 : tie.Need-slice-aggregate-add-5
-slice-aggregate-add-5 c = search needs
+slice-aggregate-add-4 : tie.Need-slice-aggregate-add-4
+slice-aggregate-add-4 c = search needs
 
-add-requires-5 : tie.Need-add-requires-5
-add-requires-5 c κs = search needs
+add-requires-4 : tie.Need-add-requires-4
+add-requires-4 c κs = search needs
 
 message-requires-3 : tie.Need-message-requires-3
 message-requires-3 c κs = search needs
@@ -86,11 +80,11 @@ message-requires-3 c κs = search needs
 enum-known-answer-4 : tie.Need-enum-known-answer-4
 enum-known-answer-4 c = search needs
 
-slice-aggregate-add-6 : tie.Need-slice-aggregate-add-6
-slice-aggregate-add-6 c = search needs
+slice-aggregate-add-5 : tie.Need-slice-aggregate-add-5
+slice-aggregate-add-5 c = search needs
 
-add-requires-6 : tie.Need-add-requires-6
-add-requires-6 c κs = search needs
+add-requires-5 : tie.Need-add-requires-5
+add-requires-5 c κs = search needs
 
 posted-requires : tie.Need-posted-requires
 posted-requires c κs = search needs
@@ -98,11 +92,11 @@ posted-requires c κs = search needs
 enum-known-answer-5 : tie.Need-enum-known-answer-5
 enum-known-answer-5 c = search needs
 
-slice-aggregate-add-7 : tie.Need-slice-aggregate-add-7
-slice-aggregate-add-7 c = search needs
+slice-aggregate-add-6 : tie.Need-slice-aggregate-add-6
+slice-aggregate-add-6 c = search needs
 
-add-requires-7 : tie.Need-add-requires-7
-add-requires-7 c κs = search needs
+add-requires-6 : tie.Need-add-requires-6
+add-requires-6 c κs = search needs
 
 posted-requires-2 : tie.Need-posted-requires-2
 posted-requires-2 c κs = search needs
@@ -119,13 +113,13 @@ returns-2 c =
 
 returns-3 : tie.Need-returns-3
 unfolding wordsOf
-returns-3 c = rw (c .before .before .before .before .answer2 .given .1) (wrote-join (c .before .add .ensures) (c .state .ensures))
+returns-3 c = rw (c .before .before .answer2 .given .1) (c .told .ensures)
 
 returns-4 : tie.Need-returns-4
 unfolding wordsOf
 returns-4 c =
     let p1 = c .before .before in
-    rw (p1 .enum-told2 .given .1) (c .add2 .ensures)
+    rw (p1 .enum-told2 .given .1) (c .add .ensures)
 
 returns-5 : tie.Need-returns-5
 unfolding wordsOf
@@ -136,29 +130,29 @@ unfolding wordsOf
 returns-6 c =
     let p1 = c .before .before .before in
     let p2 = c .before in
-    rw (p1 .enum-told3 .given .1) (wrote-join (p2 .add3 .ensures) (c .message .ensures))
+    rw (p1 .enum-told3 .given .1) (wrote-join (p2 .add2 .ensures) (c .message .ensures))
 
 returns-7 : tie.Need-returns-7
 unfolding wordsOf
 returns-7 c =
     let p1 = c .before .before .before in
     let p2 = c .before in
-    rw (p1 .enum-told4 .given .1) (wrote-join (p2 .add4 .ensures) (c .message2 .ensures))
+    rw (p1 .enum-told4 .given .1) (wrote-join (p2 .add3 .ensures) (c .message2 .ensures))
 
 returns-8 : tie.Need-returns-8
 unfolding wordsOf
 returns-8 c =
     let p1 = c .before .before .before in
     let p2 = c .before in
-    rw (p1 .enum-told5 .given .1) (wrote-join (p2 .add5 .ensures) (c .message3 .ensures))
+    rw (p1 .enum-told5 .given .1) (wrote-join (p2 .add4 .ensures) (c .message3 .ensures))
 
 returns-9 : tie.Need-returns-9
 unfolding wordsOf
-returns-9 c = rw (c .before .before .before .before .answer4 .given .1) (wrote-join (c .before .add6 .ensures) (c .posted .ensures))
+returns-9 c = rw (c .before .before .before .before .answer4 .given .1) (wrote-join (c .before .add5 .ensures) (c .posted .ensures))
 
 returns-10 : tie.Need-returns-10
 unfolding wordsOf
-returns-10 c = rw (c .before .before .before .before .answer5 .given .1) (wrote-join (c .before .add7 .ensures) (c .posted2 .ensures))
+returns-10 c = rw (c .before .before .before .before .answer5 .given .1) (wrote-join (c .before .add6 .ensures) (c .posted2 .ensures))
 
 pub answer-spec : {M : Type 1} → statement M
 answer-spec =
@@ -170,33 +164,31 @@ answer-spec =
     enum-told
     acks-requires
     enum-known-answer-2
+    told-requires
+    enum-told-2
     slice-aggregate-add
     add-requires
-    state-requires
-    enum-told-2
-    slice-aggregate-add-2
-    add-requires-2
     enum-known-answer-3
     admitted-requires
     enum-told-3
-    slice-aggregate-add-3
-    add-requires-3
+    slice-aggregate-add-2
+    add-requires-2
     message-requires
     enum-told-4
-    slice-aggregate-add-4
-    add-requires-4
+    slice-aggregate-add-3
+    add-requires-3
     message-requires-2
     enum-told-5
-    slice-aggregate-add-5
-    add-requires-5
+    slice-aggregate-add-4
+    add-requires-4
     message-requires-3
     enum-known-answer-4
-    slice-aggregate-add-6
-    add-requires-6
+    slice-aggregate-add-5
+    add-requires-5
     posted-requires
     enum-known-answer-5
-    slice-aggregate-add-7
-    add-requires-7
+    slice-aggregate-add-6
+    add-requires-6
     posted-requires-2
     returns
     returns-2
