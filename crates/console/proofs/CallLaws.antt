@@ -10,17 +10,18 @@ use lib.Seq.{sets}
 use borrow.Author.Tests.{le-leb, lt-leb, eq-eqb, ne-eqb}
 use Rattle.codec.specs.Stops.{refusal, noStop}
 use Rattle.codec.specs.declared.Stop.{Stop}
-use Rattle.codec.specs.Codec.{Read, got, no}
+use Rattle.codec.specs.Codec.{Read, got, no, both}
 use Rattle.codec.proofs.Good.{not-both}
+use Rattle.profile.specs.Rules.{profileOk}
 use Rattle.profile.specs.declared.Profile.{Profile}
-use Rattle.message.specs.Reading.{readOf}
+use Rattle.message.specs.Reading.{readBits, readOf}
 use Rattle.message.specs.declared.Value.{Value}
 use Rattle.message.proofs.BreakLaws.{position-most}
 use Rattle.reading.specs.Answers.{readingOf}
 use Rattle.reading.specs.declared.Reading.{Reading}
 use Rattle.writing.specs.Writing.{Write, laid, refused, writeOf, writtenOf, areaOf}
 use Rattle.writing.specs.declared.Written.{Written}
-use Rattle.console.specs.Profiles.{passes, profileFrom}
+use Rattle.console.specs.Profiles.{isProfile, passes, profileFrom}
 use Rattle.console.specs.Values.{valueSize, valueBytes, valueFrom, isValue}
 use Rattle.console.specs.Console.{roomFor, cadRead, readNumber, readStop, readArea, cadReadStop, cadReadOf, cadReadArea, tells, cadReadPosition, cadReadElement, cadWrite, writeNumber, writeBits, cadWriteOf, cadWriteArea, cadWriteBits}
 
@@ -52,25 +53,36 @@ module _ (profile message : List ℕ) (n : ℕ) (l : List ℕ) where
   abbrev pub CadStop : Stop → List ℕ → Type 0
   CadStop s a = (s ≡ cadReadStop profile message n l) × (a ≡ cadReadArea profile message n l)
 
-  pub read-1 : passes profile ≡ false → CadStop (refusal 1) l
-  unfolding cadReadStop cadReadArea cadRead readStop readArea
+  -- a profile that breaks a rule is refused by `read`, with 1 too
+  by-shape : isProfile profile ≡ true → cadRead profile message n (length l) ≡ roomFor (length l) (readOf (profileFrom profile) message n)
+  unfolding cadRead passes readOf roomFor both
+  by-shape e = rw e (go (profileOk (profileFrom profile)))
+    where
+      go : (b : Bool)
+          → cond b (roomFor (length l) (cond b (readBits (profileFrom profile .air) message n) (no (refusal 1)))) (no (refusal 1))
+          ≡ roomFor (length l) (cond b (readBits (profileFrom profile .air) message n) (no (refusal 1)))
+      go true = refl
+      go false = refl
+
+  pub read-1 : isProfile profile ≡ false → CadStop (refusal 1) l
+  unfolding cadReadStop cadReadArea cadRead passes both readStop readArea
   read-1 e = rw e (refl, refl)
 
-  module _ (ok : passes profile ≡ true) (p : Profile) (is : p ≡ profileFrom profile) (r : Reading) (said : r ≡ readingOf (readOf p message n)) where
+  module _ (ok : isProfile profile ≡ true) (p : Profile) (is : p ≡ profileFrom profile) (r : Reading) (said : r ≡ readingOf (readOf p message n)) where
     same : readingOf (readOf p message n) ≡ readingOf (readOf (profileFrom profile) message n)
     same = ap (λ (x : Profile). readingOf (readOf x message n)) is
 
     pub read-14 : r .found ≡ true → length l < valueSize → CadStop (refusal 14) l
-    unfolding cadReadStop cadReadArea cadRead
-    read-14 f h = rw ok (found-short l r (readOf (profileFrom profile) message n) (said ∙ same) f h)
+    unfolding cadReadStop cadReadArea
+    read-14 f h = rw (by-shape ok) (found-short l r (readOf (profileFrom profile) message n) (said ∙ same) f h)
 
     pub read-0 : r .found ≡ true → valueSize ≤ length l → (a : List ℕ) → a ≡ sets l 0 (valueBytes (r .value)) → CadStop noStop a
-    unfolding cadReadStop cadReadArea cadRead
-    read-0 f h a w = rw ok (found-room l r (readOf (profileFrom profile) message n) (said ∙ same) f h a w)
+    unfolding cadReadStop cadReadArea
+    read-0 f h a w = rw (by-shape ok) (found-room l r (readOf (profileFrom profile) message n) (said ∙ same) f h a w)
 
     pub read-no : r .found ≡ false → CadStop (r .stop) l
-    unfolding cadReadStop cadReadArea cadRead
-    read-no f = rw ok (found-not l r (readOf (profileFrom profile) message n) (said ∙ same) f)
+    unfolding cadReadStop cadReadArea
+    read-no f = rw (by-shape ok) (found-not l r (readOf (profileFrom profile) message n) (said ∙ same) f)
 
   number-of : (x : Read Value) → readStop x .number ≡ readNumber x
   unfolding readStop readNumber noStop

@@ -3,6 +3,7 @@ pub mod PutLaws
 pub mod CallLaws
 pub mod RowLaws
 pub mod FitLaws
+pub mod ListLaws
 pub mod LayoutLaws
 pub mod RoundTrips
 pub mod Cases

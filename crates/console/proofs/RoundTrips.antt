@@ -13,7 +13,7 @@ use Rattle.bits.specs.Fields.{bitAt}
 use borrow.Author.Tests.{leb-true}
 use Rattle.codec.specs.Stops.{refusal, noStop, published}
 use Rattle.codec.specs.Codec.{Read, got, no}
-use Rattle.codec.proofs.Good.{Agree, not-both}
+use Rattle.codec.proofs.Good.{Agree, not-both, both-left}
 use Rattle.codec.specs.declared.Stop.{Stop}
 use Rattle.profile.specs.Rules.{profileOk}
 use Rattle.profile.specs.declared.Profile.{Profile}
@@ -178,14 +178,14 @@ module _ (profile : List ℕ) where
     Reads-back message n = (cadReadOf profile message n area ≡ 0) × (cadReadArea profile message n area ≡ sets area 0 value)
 
     laid-back : (a : List ℕ) (n : ℕ) → Wrote-by value l a n → Reads-back a n
-    unfolding writtenOf areaOf noStop
+    unfolding writtenOf areaOf noStop passes
     laid-back a n w =
         let v = valueFrom value in
         let r = readingOf (readOf p a n) in
         let trip : r ≡ record { found = true; stop = noStop; value = v } =
         read-write p v l a (writtenOf (laid a n)) r (ap (λ (x : Write). writtenOf x) (sym (w .write)), ap (λ (x : Write). areaOf l x) (sym (w .write))) refl refl in
         let back : valueBytes (r .value) ≡ value = ap (λ (x : Reading). valueBytes (x .value)) trip ∙ value-there value are (w .shape) in
-        let found = read-0 profile a n area (w .ok) p refl r refl (ap (λ (x : Reading). x .found) trip) room (sets area 0 (valueBytes (r .value))) refl in
+        let found = read-0 profile a n area (both-left _ _ (w .ok)) p refl r refl (ap (λ (x : Reading). x .found) trip) room (sets area 0 (valueBytes (r .value))) refl in
         (sym (read-number profile a n area noStop (found .0)), sym (found .1) ∙ ap (λ (x : List ℕ). sets area 0 x) back)
 
     pub c-write-read : cadWriteOf profile value l ≡ 0 → Reads-back (cadWriteArea profile value l) (cadWriteBits profile value l b)

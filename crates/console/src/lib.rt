@@ -47,7 +47,8 @@ fn read_into(profile: &[u8], message: &[u8], bits: usize, value: &mut [u8]) -> S
     ensures { λ r. ⌜ (r ≡ cadReadStop (now (profile .entry)) (now (message .entry)) bits (now (value .entry)))
         × (now (value .exit) ≡ cadReadArea (now (profile .entry)) (now (message .entry)) bits (now (value .entry))) ⌝ }
 {
-    if profiles::passes(profile) {} else {
+    // whether it keeps the rules is for `read` to say, which answers 1 too
+    if profiles::is_profile(profile) {} else {
         return codec::refuse(1);
     }
     let r = reading::read(profiles::profile_from(profile), message, bits);

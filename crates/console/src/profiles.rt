@@ -31,7 +31,7 @@ pub(crate) fn passes(l: &[u8]) -> bool
     false
 }
 
-fn is_profile(l: &[u8]) -> bool
+pub(crate) fn is_profile(l: &[u8]) -> bool
     ensures { λ r. ⌜ r ≡ isProfile (now (l .entry)) ⌝ }
 {
     if l.len() != 41 {

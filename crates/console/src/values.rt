@@ -1,8 +1,9 @@
 // A value from its bytes, and into them.
 ghost use mathlib.Core.Path.{_≡_};
 ghost use Prim.Native.Nat.{_≤_};
-ghost use lib.ListN.{length, drop};
+ghost use lib.ListN.{length, drop, replicate};
 ghost use lib.Seq.{sets};
+ghost use Rattle.message.specs.Values.{noLists};
 ghost use Rattle.console.specs.Bytes.{rowsBytes};
 ghost use Rattle.console.specs.Values.{addressBytes, addressFrom, groupBytes, groupFrom, byteBytes, areasBytes, areasFrom, firstBytes, moreBytes, typeBytes, listsBytes, listsFrom, valueBytes, valueFrom, isValue};
 use crate::number;
@@ -140,7 +141,9 @@ fn address_at(l: &[u8], at: usize) -> Address
 
 // ---- into bytes
 
+// No message but INTERROGATE ACK has lists, so that no other pays for them.
 pub(crate) fn put_value(out: &mut [u8], v: Value)
+    requires { ⌜ ((v .pdu ≡ 9 → ⊥) → v .lists ≡ noLists) ⌝ }
     ensures { λ _. ⌜ now (out .exit) ≡ sets (now (out .entry)) 0 (valueBytes v) ⌝ }
 {
     let users = v.users;
@@ -156,7 +159,7 @@ pub(crate) fn put_value(out: &mut [u8], v: Value)
     put_group(out, 122, dispatchers);
     put_more(out, numbers, given);
     put_types(out, numbers);
-    put_lists(out, lists);
+    put_last(out, v.pdu, lists);
 }
 
 // Result, reason, cause, identifier, and the first option of the row.
@@ -194,6 +197,32 @@ fn put_types(out: &mut [u8], numbers: [u32; 12])
 {
     number::put_low(out, 241, numbers[message::ACTIVATION_TYPE_AT as usize]);
     number::put_low(out, 242, numbers[message::INTERCEPTION_TYPE_AT as usize]);
+}
+
+fn put_last(out: &mut [u8], pdu: u8, lists: Lists)
+    requires { ⌜ ((pdu ≡ 9 → ⊥) → lists ≡ noLists) ⌝ }
+    ensures { λ _. ⌜ now (out .exit) ≡ sets (now (out .entry)) 243 (listsBytes lists) ⌝ }
+{
+    if pdu == 9 {
+        put_lists(out, lists);
+        return;
+    }
+    if out.len() < 471 {
+        put_lists(out, lists);
+        return;
+    }
+    put_zeros(out);
+}
+
+fn put_zeros(out: &mut [u8])
+    requires { ⌜ 471 ≤ length (now out) ⌝ }
+    ensures { λ _. ⌜ now (out .exit) ≡ sets (now (out .entry)) 243 (replicate 228 0) ⌝ }
+{
+    let mut i: usize = 0;
+    while i < 228 {
+        out[243 + i] = 0;
+        i += 1;
+    }
 }
 
 fn put_lists(out: &mut [u8], lists: Lists)

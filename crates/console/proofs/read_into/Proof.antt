@@ -3,17 +3,19 @@ use mathlib.Core.Path.{sym, _∙_}
 use borrow.Author.Needs.{needs}
 use borrow.Author.Tests.{not-true, not-false}
 use Rattle.console.proofs.CallLaws.{read-1, read-14, read-0, read-no}
+use Rattle.console.proofs.ListLaws.{no-lists}
+use Rattle.writing.proofs.RoundTrips.{read-valid}
 use Rattle.console.proofs.read_into.Statement.{statement}
 use Rattle.console.proofs.read_into.Tie as tie
 
-passes-requires : tie.Need-passes-requires
-passes-requires c κs = search needs
+is-profile-requires : tie.Need-is-profile-requires
+is-profile-requires c κs = search needs
 
 refuse-requires : tie.Need-refuse-requires
 refuse-requires c κs = search needs
 
 returns : tie.Need-returns
-returns c = rw (c .refuse .ensures) (read-1 _ _ _ _ (sym (c .before .before .passes .ensures) ∙ c .before .if1 .left))
+returns c = rw (c .refuse .ensures) (read-1 _ _ _ _ (sym (c .before .before .is-profile .ensures) ∙ c .before .if1 .left))
 
 profile-from-requires : tie.Need-profile-from-requires
 profile-from-requires c κs = search needs
@@ -26,7 +28,7 @@ returns-2 c =
     let r = c .before .before in
     let f = r .before in
     let t = f .before in
-    read-no _ _ _ _ (sym (t .before .passes .ensures) ∙ t .if1 .taken) _ (f .profile-from .ensures) (r .read .result) (r .read .ensures) (not-true _ (c .if2 .taken))
+    read-no _ _ _ _ (sym (t .before .is-profile .ensures) ∙ t .if1 .taken) _ (f .profile-from .ensures) (r .read .result) (r .read .ensures) (not-true _ (c .if2 .taken))
 
 refuse-requires-2 : tie.Need-refuse-requires-2
 refuse-requires-2 c κs = search needs
@@ -38,10 +40,13 @@ returns-3 c =
     let f = r .before in
     let t = f .before in
     rw (c .refuse2 .ensures)
-    (read-14 _ _ _ _ (sym (t .before .passes .ensures) ∙ t .if1 .taken) _ (f .profile-from .ensures) (r .read .result) (r .read .ensures) (not-false _ (i .if2 .left)) (c .before .if3 .taken))
+    (read-14 _ _ _ _ (sym (t .before .is-profile .ensures) ∙ t .if1 .taken) _ (f .profile-from .ensures) (r .read .result) (r .read .ensures) (not-false _ (i .if2 .left)) (c .before .if3 .taken))
 
 put-value-requires : tie.Need-put-value-requires
-put-value-requires c κs = search needs
+put-value-requires c κs =
+    let i = c .before .before .before in
+    let r = i .before .before in
+    no-lists _ _ (read-valid _ _ _ (r .read .result) (r .read .ensures) (not-false _ (i .if2 .left)))
 
 no-stop-requires : tie.Need-no-stop-requires
 no-stop-requires c κs = search needs
@@ -58,13 +63,13 @@ returns-4 c =
     let f = r .before in
     let t = f .before in
     rw (c .no-stop .ensures)
-    (read-0 _ _ _ _ (sym (t .before .passes .ensures) ∙ t .if1 .taken) _ (f .profile-from .ensures) (r .read .result) (r .read .ensures) (not-false _ (i .if2 .left)) (h .if3 .left) _ (w .put-value .ensures))
+    (read-0 _ _ _ _ (sym (t .before .is-profile .ensures) ∙ t .if1 .taken) _ (f .profile-from .ensures) (r .read .result) (r .read .ensures) (not-false _ (i .if2 .left)) (h .if3 .left) _ (w .put-value .ensures))
 
 pub read-into-spec : {M : Type 1} → statement M
 read-into-spec =
     tie.close
     (tie.spec
-    passes-requires
+    is-profile-requires
     refuse-requires
     returns
     profile-from-requires

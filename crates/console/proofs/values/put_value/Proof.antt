@@ -29,8 +29,8 @@ put-more-requires c κs = search needs
 put-types-requires : tie.Need-put-types-requires
 put-types-requires c κs = search needs
 
-put-lists-requires : tie.Need-put-lists-requires
-put-lists-requires c κs = search needs
+put-last-requires : tie.Need-put-last-requires
+put-last-requires c κs = c .before .before .before .before .before .before .before .before .before .before .before .before .before .before .before .before .before .before .before .before .before .before .before .before .before .before .before .before .before .before .before .before .before .before .before .before .before .before .before .pre
 
 same-length : tie.Need-same-length
 same-length c = search needs
@@ -38,7 +38,7 @@ same-length c = search needs
 returns : tie.Need-returns
 returns c =
     let s = c .before .before .before .before .before .before .before .before .before .before .before .before .before .before .before .before .before .before .before .before .before .before .before .before .before .before .before .before .before .before .before .before .before .before .before .before .before .before .before .before .before .before in
-    value-put (s .args .v) (c .before .before .before .before .before .before .before .before .before .before .before .before .before .before .before .before .before .before .before .before .before .before .before .before .before .before .before .before .before .before .put-group .ensures .1) (c .before .before .before .before .before .before .before .before .before .before .before .before .before .before .put-group2 .ensures .1) (now (s .args .out)) _ _ _ _ _ _ _ _ _ (c .before .before .before .before .before .before .before .before .before .before .before .before .before .before .before .before .before .before .before .before .before .before .before .before .before .before .before .before .before .before .before .before .before .before .put-byte .ensures) (c .before .before .before .before .before .before .before .before .before .before .before .before .before .before .before .before .before .before .before .before .before .before .before .before .before .before .before .before .before .before .put-group .ensures .0) (c .before .before .before .before .before .before .before .before .before .before .before .before .before .before .before .before .before .before .before .before .before .before .before .before .before .before .put-flag .ensures) (c .before .before .before .before .before .before .before .before .before .before .before .before .before .before .before .before .before .before .before .before .before .before .put-number .ensures) (c .before .before .before .before .before .before .before .before .before .before .before .before .before .before .before .before .before .before .put-first .ensures) (c .before .before .before .before .before .before .before .before .before .before .before .before .before .before .put-group2 .ensures .0) (c .before .before .before .before .before .before .before .before .before .before .put-more .ensures) (c .before .before .before .before .before .before .put-types .ensures) (c .before .before .put-lists .ensures)
+    value-put (s .args .v) (c .before .before .before .before .before .before .before .before .before .before .before .before .before .before .before .before .before .before .before .before .before .before .before .before .before .before .before .before .before .before .put-group .ensures .1) (c .before .before .before .before .before .before .before .before .before .before .before .before .before .before .put-group2 .ensures .1) (now (s .args .out)) _ _ _ _ _ _ _ _ _ (c .before .before .before .before .before .before .before .before .before .before .before .before .before .before .before .before .before .before .before .before .before .before .before .before .before .before .before .before .before .before .before .before .before .before .put-byte .ensures) (c .before .before .before .before .before .before .before .before .before .before .before .before .before .before .before .before .before .before .before .before .before .before .before .before .before .before .before .before .before .before .put-group .ensures .0) (c .before .before .before .before .before .before .before .before .before .before .before .before .before .before .before .before .before .before .before .before .before .before .before .before .before .before .put-flag .ensures) (c .before .before .before .before .before .before .before .before .before .before .before .before .before .before .before .before .before .before .before .before .before .before .put-number .ensures) (c .before .before .before .before .before .before .before .before .before .before .before .before .before .before .before .before .before .before .put-first .ensures) (c .before .before .before .before .before .before .before .before .before .before .before .before .before .before .put-group2 .ensures .0) (c .before .before .before .before .before .before .before .before .before .before .put-more .ensures) (c .before .before .before .before .before .before .put-types .ensures) (c .before .before .put-last .ensures)
 
 pub put-value-spec : {M : Type 1} → statement M
 put-value-spec =
@@ -52,6 +52,6 @@ put-value-spec =
     put-group-requires-2
     put-more-requires
     put-types-requires
-    put-lists-requires
+    put-last-requires
     same-length
     returns)
