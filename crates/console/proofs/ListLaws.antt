@@ -1,12 +1,12 @@
 -- No message but INTERROGATE ACK has lists: sources, destinations, areas. So of any other their bytes are zeros. Assumes nothing.
-use Prim.Native.Nat.{ℕ, zero, suc, _+_}
+use Prim.Native.Nat.{ℕ, zero, suc, _+_, _-_, _≤_, _<_}
 use mathlib.Core.Path.{_≡_, refl, sym, ap, _∙_}
 use mathlib.Core.Bool.{Bool, true, false, not, cond}
 use mathlib.Core.List.{List, [], _∷_}
 use native.Mathlib.Omega.{arith}
 use lib.Dec.{eqb}
 use lib.ListN.{length, set, replicate}
-use lib.Seq.{sets}
+use lib.Seq.{sets, length-sets, set-out}
 use borrow.Author.Tests.{ne-eqb, not-true}
 use Rattle.codec.specs.Codec.{both}
 use Rattle.codec.proofs.Good.{both-left, both-right, not-both}
@@ -15,6 +15,7 @@ use Rattle.message.specs.Areas.{noAreas}
 use Rattle.message.specs.Values.{noLists, blank}
 use Rattle.message.specs.Rows.{table, noRow, rowIn, rowOf, Holds, put, get, Tuple, puts, gets, Options, orElse, putOption, putOptions, getOptions, firstParts, partsOf, optionsOf}
 use Rattle.message.specs.Messages.{fill, taken, bodyC}
+use Rattle.message.specs.declared.Lists.{Lists}
 use Rattle.message.specs.declared.Part.{Part}
 use Rattle.message.specs.declared.Part.the-variants as part
 use Rattle.message.specs.declared.Row.{Row}
@@ -108,6 +109,9 @@ pub lists-zero : listsBytes noLists ≡ replicate 228 0
 unfolding listsBytes groupBytes areasBytes addressBytes numberBytes rowsBytes noLists noGroup noAreas nobodies
 lists-zero = refl
 
+pub none-put : (lists : Lists) (l m : List ℕ) → m ≡ sets l 243 (replicate 228 0) → lists ≡ noLists → m ≡ sets l 243 (listsBytes lists)
+none-put lists l m put none = put ∙ ap (λ (bs : List ℕ). sets l 243 bs) (sym (ap listsBytes none ∙ lists-zero))
+
 -- a loop that stores them, one more at each turn
 abbrev zeros : ℕ → List ℕ
 zeros k = replicate k 0
@@ -116,5 +120,26 @@ zeros-turn : (l : List ℕ) (at i : ℕ) → sets l at (zeros (suc i)) ≡ set (
 zeros-turn l at zero = let z : at ≡ at + 0 = omega arith in ap (λ (k : ℕ). set l k 0) z
 zeros-turn l at (suc i) = let z : suc at + i ≡ at + suc i = omega arith in zeros-turn (set l at 0) (suc at) i ∙ ap (λ (k : ℕ). set (sets l at (zeros (suc i))) k 0) z
 
-pub zeros-more : (l : List ℕ) (i : ℕ) → set (sets l 243 (replicate i 0)) (243 + i) 0 ≡ sets l 243 (replicate (i + 1) 0)
-zeros-more l i = let z : suc i ≡ i + 1 = omega arith in sym (zeros-turn l 243 i) ∙ ap (λ (k : ℕ). sets l 243 (zeros k)) z
+pub zeros-more : (l : List ℕ) (at : ℕ) → 243 ≤ at → set (sets l 243 (replicate (at - 243) 0)) at 0 ≡ sets l 243 (replicate (at + 1 - 243) 0)
+zeros-more l at e =
+    let i = at - 243 in
+    let here : at ≡ 243 + i = omega arith in
+    let more : suc i ≡ at + 1 - 243 = omega arith in
+    ap (λ (k : ℕ). set (sets l 243 (zeros i)) k 0) here ∙ sym (zeros-turn l 243 i) ∙ ap (λ (k : ℕ). sets l 243 (zeros k)) more
+
+-- past the area's end they change nothing
+zeros-past : (l : List ℕ) (at i j : ℕ) → length l ≤ at + i → sets l at (zeros (j + i)) ≡ sets l at (zeros i)
+zeros-past l at i zero e = let z : 0 + i ≡ i = omega arith in ap (λ (k : ℕ). sets l at (zeros k)) z
+zeros-past l at i (suc j) e =
+    let z : suc j + i ≡ suc (j + i) = omega arith in
+    ap (λ (k : ℕ). sets l at (zeros k)) z
+    ∙ zeros-turn l at (j + i)
+    ∙ set-out (sets l at (zeros (j + i))) (at + (j + i)) 0 (omega (arith, length-sets l at (zeros (j + i)), e))
+    ∙ zeros-past l at i j e
+
+pub zeros-all : (l : List ℕ) → length l < 471 → sets l 243 (replicate (length l - 243) 0) ≡ sets l 243 (replicate 228 0)
+zeros-all l e =
+    let i = length l - 243 in
+    let all : (228 - i) + i ≡ 228 = omega arith in
+    let past : length l ≤ 243 + i = omega arith in
+    sym (zeros-past l 243 i (228 - i) past) ∙ ap (λ (k : ℕ). sets l 243 (zeros k)) all

@@ -1,6 +1,6 @@
 // A value from its bytes, and into them.
 ghost use mathlib.Core.Path.{_≡_};
-ghost use Prim.Native.Nat.{_≤_};
+ghost use Prim.Native.Nat.{_≤_, _-_};
 ghost use lib.ListN.{length, drop, replicate};
 ghost use lib.Seq.{sets};
 ghost use Rattle.message.specs.Values.{noLists};
@@ -150,7 +150,6 @@ pub(crate) fn put_value(out: &mut [u8], v: Value)
     let dispatchers = v.dispatchers;
     let numbers = v.numbers;
     let given = v.given;
-    let lists = v.lists;
     number::put_byte(out, 0, v.pdu);
     put_group(out, 1, users);
     number::put_flag(out, 107, v.masked);
@@ -159,7 +158,12 @@ pub(crate) fn put_value(out: &mut [u8], v: Value)
     put_group(out, 122, dispatchers);
     put_more(out, numbers, given);
     put_types(out, numbers);
-    put_last(out, v.pdu, lists);
+    if v.pdu == 9 {
+        let lists = v.lists;
+        put_lists(out, lists);
+        return;
+    }
+    put_zeros(out);
 }
 
 // Result, reason, cause, identifier, and the first option of the row.
@@ -199,29 +203,26 @@ fn put_types(out: &mut [u8], numbers: [u32; 12])
     number::put_low(out, 242, numbers[message::INTERCEPTION_TYPE_AT as usize]);
 }
 
-fn put_last(out: &mut [u8], pdu: u8, lists: Lists)
-    requires { ⌜ ((pdu ≡ 9 → ⊥) → lists ≡ noLists) ⌝ }
-    ensures { λ _. ⌜ now (out .exit) ≡ sets (now (out .entry)) 243 (listsBytes lists) ⌝ }
-{
-    if pdu == 9 {
-        put_lists(out, lists);
-        return;
-    }
-    if out.len() < 471 {
-        put_lists(out, lists);
-        return;
-    }
-    put_zeros(out);
-}
-
+// Zeros in place of the lists, as far as the area goes.
 fn put_zeros(out: &mut [u8])
-    requires { ⌜ 471 ≤ length (now out) ⌝ }
     ensures { λ _. ⌜ now (out .exit) ≡ sets (now (out .entry)) 243 (replicate 228 0) ⌝ }
 {
-    let mut i: usize = 0;
-    while i < 228 {
-        out[243 + i] = 0;
-        i += 1;
+    if out.len() < BYTES {
+        let end = out.len();
+        zeros_to(out, end);
+        return;
+    }
+    zeros_to(out, BYTES);
+}
+
+fn zeros_to(out: &mut [u8], end: usize)
+    requires { ⌜ end ≤ length (now out) ⌝ }
+    ensures { λ _. ⌜ now (out .exit) ≡ sets (now (out .entry)) 243 (replicate (end - 243) 0) ⌝ }
+{
+    let mut at: usize = 243;
+    while at < end {
+        out[at] = 0;
+        at += 1;
     }
 }
 

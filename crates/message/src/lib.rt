@@ -463,33 +463,24 @@ pub fn no_group() -> Group
     }
 }
 
-fn no_lists() -> Lists
-    ensures { λ r. ⌜ r ≡ noLists ⌝ }
-{
-    let sources = no_group();
-    let destinations = no_group();
-    Lists {
-        sources: sources,
-        destinations: destinations,
-        areas: NO_AREAS,
-    }
-}
-
 // A message of this type with nothing in it.
 pub fn blank(pdu: u8) -> Value
     ensures { λ r. ⌜ r ≡ blank pdu ⌝ }
 {
-    let users = no_group();
-    let dispatchers = no_group();
-    let lists = no_lists();
+    let none = no_group();
+    let lists = Lists {
+        sources: none,
+        destinations: none,
+        areas: NO_AREAS,
+    };
     Value {
         pdu: pdu,
         numbers: [0; 12],
-        users: users,
+        users: none,
         masked: false,
         mask: 0,
         given: [false; 7],
-        dispatchers: dispatchers,
+        dispatchers: none,
         lists: lists,
     }
 }

@@ -17,7 +17,8 @@ use Rattle.codec.specs.declared.Stop.{Stop}
 use Rattle.profile.specs.declared.Air.{Air}
 use Rattle.message.specs.Elements as element
 use Rattle.message.specs.Numbers.{widthOf}
-use Rattle.message.specs.Values.{blank, withGiven}
+use Rattle.message.specs.Groups.{groupC}
+use Rattle.message.specs.Values.{blank, withUsers, withGiven}
 use Rattle.message.specs.Rows.{rowOf, Holds, Tuple, partC, put, partsC, puts, Options, putOption, putOptions, someOf, noneOf, eachC, optionsC, firstParts, partsOf, optionsOf}
 use Rattle.message.specs.Messages.{bodyC}
 use Rattle.message.specs.declared.Part.{Part}
@@ -234,3 +235,7 @@ body-row air t f n at =
 pub nothing-read : (air : Air) (v : Value) (f : ℕ → ℕ) (n at : ℕ) → partRead air v part.Nothing f n at ≡ got v at
 unfolding partRead
 nothing-read air v f n at = refl
+
+pub users-read : (air : Air) (v : Value) (f : ℕ → ℕ) (n at : ℕ) → partRead air v part.Users f n at ≡ bind (groupC air false false .read f n at) (λ g q. got (withUsers g v) q)
+unfolding partRead
+users-read air v f n at = refl

@@ -4,7 +4,7 @@ ghost use Prim.Native.Nat.{min};
 ghost use Rattle.bits.specs.Fields.{bitAt};
 ghost use Rattle.codec.specs.Codec.{got, no};
 ghost use Rattle.message.specs.Values.{noValue};
-ghost use Rattle.message.specs.declared.Part.the-variants.{Number, Users, User, Masked, Result, Dispatchers, Dispatcher, Interrogation, Sources, Destinations, Areas};
+ghost use Rattle.message.specs.declared.Part.the-variants.{Number, User, Masked, Result, Dispatchers, Dispatcher, Interrogation, Sources, Destinations, Areas};
 ghost use Rattle.reading.specs.Answers.{bodyOf};
 ghost use Rattle.reading.specs.Parts.{partRead};
 use crate::ack;
@@ -42,7 +42,16 @@ pub(crate) fn read_part(
     match part {
         Part::Nothing => carried(value, at),
         Part::Number(place) => number_part(air, value, place, buf, bits, at),
-        Part::Users => users_part(air, value, buf, bits, at),
+        // here and in no function of its own: what hands the value on copies it
+        Part::Users => {
+            let u = group::read_group(air, false, false, buf, bits, at);
+            if u.found {
+                let users = u.group;
+                return carried(message::with_users(value, users), u.next);
+            }
+            let s = u.stop;
+            no_body(s)
+        }
         Part::User(place) => user_part(air, value, place, buf, bits, at),
         Part::Masked => mask_part(air, value, buf, bits, at),
         Part::Result => result_part(air, value, buf, bits, at),
@@ -68,18 +77,6 @@ fn number_part(air: Air, value: Value, place: u8, buf: &[u8], bits: usize, at: u
         WordTook::Refused(s) => no_body(s),
         WordTook::Got(n, p) => carried(message::with_number(value, place, n), p),
     }
-}
-
-fn users_part(air: Air, value: Value, buf: &[u8], bits: usize, at: usize) -> Body
-    ensures { λ r. ⌜ r ≡ bodyOf (partRead air value Users (bitAt (now (buf .entry))) bits at) ⌝ }
-{
-    let u = group::read_group(air, false, false, buf, bits, at);
-    if u.found {
-        let users = u.group;
-        return carried(message::with_users(value, users), u.next);
-    }
-    let s = u.stop;
-    no_body(s)
 }
 
 fn user_part(air: Air, value: Value, place: u8, buf: &[u8], bits: usize, at: usize) -> Body

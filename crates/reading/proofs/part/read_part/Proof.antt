@@ -1,6 +1,7 @@
 -- Written by tools/proofs from tools/reading.conf. `reading::part::read_part` meets its contract. Assumes nothing.
 use borrow.Author.Needs.{needs}
-use Rattle.reading.proofs.RowLaws.{nothing-read}
+use Rattle.reading.proofs.AnswerLaws.{group-got, group-no}
+use Rattle.reading.proofs.RowLaws.{nothing-read, users-read}
 use Rattle.reading.proofs.part.read_part.Statement.{statement}
 use Rattle.reading.proofs.part.read_part.Tie as tie
 
@@ -19,8 +20,24 @@ number-part-requires c κs = search needs
 enum-told-2 : tie.Need-enum-told-2
 enum-told-2 c = search needs
 
-users-part-requires : tie.Need-users-part-requires
-users-part-requires c κs = search needs
+read-group-requires : tie.Need-read-group-requires
+read-group-requires c κs = search needs
+
+with-users-requires : tie.Need-with-users-requires
+with-users-requires c κs = search needs
+
+carried-requires-2 : tie.Need-carried-requires-2
+carried-requires-2 c κs = search needs
+
+returns : tie.Need-returns
+returns c =
+    let told = c .before .before .before .before .before in
+    let p1 = c .before .before .before .before in
+    let p2 = c .before .before .before in
+    rw (c .carried2 .ensures, c .before .with-users .ensures, told .enum-told2 .given .1, users-read _ _ _ _ _, group-got _ (p1 .read-group .result) (p1 .read-group .ensures) (p2 .if1 .taken))
+
+no-body-requires : tie.Need-no-body-requires
+no-body-requires c κs = search needs
 
 enum-known-part-2 : tie.Need-enum-known-part-2
 enum-known-part-2 c = search needs
@@ -76,57 +93,59 @@ enum-told-10 c = search needs
 areas-part-requires : tie.Need-areas-part-requires
 areas-part-requires c κs = search needs
 
-returns : tie.Need-returns
-returns c = rw (c .carried .ensures, c .before .enum-told .given .1, nothing-read _ _ _ _ _)
-
 returns-2 : tie.Need-returns-2
-returns-2 c = rw (c .before .before .part .given .1) (c .number-part .ensures)
+returns-2 c = rw (c .carried .ensures, c .before .enum-told .given .1, nothing-read _ _ _ _ _)
 
 returns-3 : tie.Need-returns-3
-returns-3 c =
-    let p1 = c .before in
-    rw (p1 .enum-told2 .given .1) (c .users-part .ensures)
+returns-3 c = rw (c .before .before .part .given .1) (c .number-part .ensures)
 
 returns-4 : tie.Need-returns-4
-returns-4 c = rw (c .before .before .part2 .given .1) (c .user-part .ensures)
+returns-4 c =
+    let told = c .before .before .before .before in
+    let p1 = c .before .before .before in
+    let p2 = c .before .before in
+    rw (c .no-body .ensures, told .enum-told2 .given .1, users-read _ _ _ _ _, group-no _ (p1 .read-group .result) (p1 .read-group .ensures) (p2 .if1 .left))
 
 returns-5 : tie.Need-returns-5
-returns-5 c =
-    let p1 = c .before in
-    rw (p1 .enum-told3 .given .1) (c .mask-part .ensures)
+returns-5 c = rw (c .before .before .part2 .given .1) (c .user-part .ensures)
 
 returns-6 : tie.Need-returns-6
 returns-6 c =
     let p1 = c .before in
-    rw (p1 .enum-told4 .given .1) (c .result-part .ensures)
+    rw (p1 .enum-told3 .given .1) (c .mask-part .ensures)
 
 returns-7 : tie.Need-returns-7
 returns-7 c =
     let p1 = c .before in
-    rw (p1 .enum-told5 .given .1) (c .dispatchers-part .ensures)
+    rw (p1 .enum-told4 .given .1) (c .result-part .ensures)
 
 returns-8 : tie.Need-returns-8
 returns-8 c =
     let p1 = c .before in
-    rw (p1 .enum-told6 .given .1) (c .dispatcher-part .ensures)
+    rw (p1 .enum-told5 .given .1) (c .dispatchers-part .ensures)
 
 returns-9 : tie.Need-returns-9
 returns-9 c =
     let p1 = c .before in
-    rw (p1 .enum-told7 .given .1) (c .state-part .ensures)
+    rw (p1 .enum-told6 .given .1) (c .dispatcher-part .ensures)
 
 returns-10 : tie.Need-returns-10
 returns-10 c =
     let p1 = c .before in
-    rw (p1 .enum-told8 .given .1) (c .sources-part .ensures)
+    rw (p1 .enum-told7 .given .1) (c .state-part .ensures)
 
 returns-11 : tie.Need-returns-11
 returns-11 c =
     let p1 = c .before in
-    rw (p1 .enum-told9 .given .1) (c .destinations-part .ensures)
+    rw (p1 .enum-told8 .given .1) (c .sources-part .ensures)
 
 returns-12 : tie.Need-returns-12
 returns-12 c =
+    let p1 = c .before in
+    rw (p1 .enum-told9 .given .1) (c .destinations-part .ensures)
+
+returns-13 : tie.Need-returns-13
+returns-13 c =
     let p1 = c .before in
     rw (p1 .enum-told10 .given .1) (c .areas-part .ensures)
 
@@ -139,7 +158,11 @@ read-part-spec =
     enum-known-part
     number-part-requires
     enum-told-2
-    users-part-requires
+    read-group-requires
+    with-users-requires
+    carried-requires-2
+    returns
+    no-body-requires
     enum-known-part-2
     user-part-requires
     enum-told-3
@@ -158,7 +181,6 @@ read-part-spec =
     destinations-part-requires
     enum-told-10
     areas-part-requires
-    returns
     returns-2
     returns-3
     returns-4
@@ -169,4 +191,5 @@ read-part-spec =
     returns-9
     returns-10
     returns-11
-    returns-12)
+    returns-12
+    returns-13)
