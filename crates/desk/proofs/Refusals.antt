@@ -157,3 +157,7 @@ module _ (d : Desk) (rows : List Record) (n : ℕ) (l area : List ℕ) (e : Even
   -- ACTIVATE
   pub exact-21 : Exact 21
   exact-21 = exact 21 (omega arith)
+
+  -- INTERROGATE
+  pub exact-26 : Exact 26
+  exact-26 = exact 26 (omega arith)
