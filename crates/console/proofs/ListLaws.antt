@@ -1,13 +1,13 @@
 -- No message but INTERROGATE ACK has lists: sources, destinations, areas. So of any other their bytes are zeros. Assumes nothing.
 use Prim.Native.Nat.{ℕ, zero, suc, _+_, _-_, _≤_, _<_}
 use mathlib.Core.Path.{_≡_, refl, sym, ap, _∙_}
-use mathlib.Core.Bool.{Bool, true, false, not, cond}
+use mathlib.Core.Bool.{Bool, true, false, cond}
 use mathlib.Core.List.{List, [], _∷_}
 use native.Mathlib.Omega.{arith}
 use lib.Dec.{eqb}
 use lib.ListN.{length, set, replicate}
 use lib.Seq.{sets, length-sets, set-out}
-use borrow.Author.Tests.{ne-eqb, not-true}
+use borrow.Author.Tests.{ne-eqb}
 use Rattle.codec.specs.Codec.{both}
 use Rattle.codec.proofs.Good.{both-left, both-right, not-both}
 use Rattle.message.specs.Groups.{noGroup, nobodies}
