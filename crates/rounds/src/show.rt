@@ -91,15 +91,7 @@ fn digit(x: u8) -> u8 {
     63
 }
 
-// In four parts, which are checked sooner than one.
 fn say_name(pdu: u8) {
-    say_marking(pdu);
-    say_asking(pdu);
-    say_going(pdu);
-    say_ending(pdu);
-}
-
-fn say_marking(pdu: u8) {
     if pdu == 2 {
         io::write_all(1, b"ACTIVATE");
     }
@@ -112,9 +104,6 @@ fn say_marking(pdu: u8) {
     if pdu == 5 {
         io::write_all(1, b"DEACTIVATE ACK");
     }
-}
-
-fn say_asking(pdu: u8) {
     if pdu == 8 {
         io::write_all(1, b"INTERROGATE");
     }
@@ -127,9 +116,6 @@ fn say_asking(pdu: u8) {
     if pdu == 11 {
         io::write_all(1, b"REQUEST");
     }
-}
-
-fn say_going(pdu: u8) {
     if pdu == 12 {
         io::write_all(1, b"ACCEPT");
     }
@@ -139,9 +125,6 @@ fn say_going(pdu: u8) {
     if pdu == 14 {
         io::write_all(1, b"CANCEL");
     }
-}
-
-fn say_ending(pdu: u8) {
     if pdu == 15 {
         io::write_all(1, b"DIVERT");
     }
