@@ -21,8 +21,8 @@ use Rattle.reading.specs.Answers.{readingOf}
 use Rattle.reading.specs.declared.Reading.{Reading}
 use Rattle.writing.specs.Writing.{Write, laid, refused, writeOf, writtenOf, areaOf}
 use Rattle.writing.specs.declared.Written.{Written}
-use Rattle.console.specs.Profiles.{isProfile, passes, profileFrom}
-use Rattle.console.specs.Values.{valueSize, valueBytes, valueFrom, isValue}
+use Rattle.layouts.specs.Profiles.{isProfile, passes, profileFrom}
+use Rattle.layouts.specs.Values.{valueSize, valueBytes, valueFrom, isValue}
 use Rattle.console.specs.Console.{roomFor, cadRead, readNumber, readStop, readArea, cadReadStop, cadReadOf, cadReadArea, tells, cadReadPosition, cadReadElement, cadWrite, writeNumber, writeBits, cadWriteOf, cadWriteArea, cadWriteBits}
 
 -- ---- reading

@@ -30,9 +30,9 @@ use Rattle.message.specs.declared.Value.{Value}
 use Rattle.validity.specs.Validity.{validOf}
 use Rattle.validity.proofs.Cases.{home, abroad, two, four, activateV, deactivate, ackOf, ackV, plainV, call}
 use Rattle.writing.specs.Writing.{bitsOf, padded, layOf, layIn, writeValid, writeOf}
-use Rattle.console.specs.Bytes.{numberFrom, numberBytes, rowsFrom, rowsBytes, areZero}
-use Rattle.console.specs.Profiles.{meaningBytes, shareBytes, shareFrom, profileBytes, airFrom, sharesFrom, profileFrom, spareZero, isProfile, passes}
-use Rattle.console.specs.Values.{addressBytes, addressFrom, groupBytes, groupFrom, areasBytes, areasFrom, firstBytes, moreBytes, typeBytes, listsBytes, listsFrom, valueBytes, valueFrom, isValue}
+use Rattle.layouts.specs.Bytes.{numberFrom, numberBytes, rowsFrom, rowsBytes, areZero}
+use Rattle.layouts.specs.Profiles.{meaningBytes, shareBytes, shareFrom, profileBytes, airFrom, sharesFrom, profileFrom, spareZero, isProfile, passes}
+use Rattle.layouts.specs.Values.{addressBytes, addressFrom, groupBytes, groupFrom, areasBytes, areasFrom, firstBytes, moreBytes, typeBytes, listsBytes, listsFrom, valueBytes, valueFrom, isValue}
 use Rattle.console.specs.Console.{roomFor, cadRead, readNumber, readStop, cadReadStop, cadReadOf, tells, cadReadPosition, cadReadElement, cadWrite, writeNumber, cadWriteOf}
 
 abbrev zeros : ℕ → List ℕ

@@ -1,9 +1,3 @@
-pub mod ByteLaws
-pub mod PutLaws
 pub mod CallLaws
-pub mod RowLaws
-pub mod FitLaws
-pub mod ListLaws
-pub mod LayoutLaws
 pub mod RoundTrips
 pub mod Cases

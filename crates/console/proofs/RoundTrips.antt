@@ -25,12 +25,12 @@ use Rattle.reading.specs.declared.Reading.{Reading}
 use Rattle.validity.specs.Validity.{validOf}
 use Rattle.writing.specs.Writing.{bitsOf, bytesFor, layOf, layIn, Write, laid, refused, writeValid, writeOf, writtenOf, areaOf}
 use Rattle.writing.proofs.RoundTrips.{read-write, write-read, read-valid}
-use Rattle.console.specs.Profiles.{passes, profileFrom}
-use Rattle.console.specs.Values.{valueSize, valueBytes, valueFrom, isValue}
+use Rattle.layouts.specs.Profiles.{passes, profileFrom}
+use Rattle.layouts.specs.Values.{valueSize, valueBytes, valueFrom, isValue}
 use Rattle.console.specs.Console.{roomFor, cadRead, readNumber, readArea, cadReadOf, cadReadArea, cadWrite, writeNumber, writeBits, cadWriteOf, cadWriteArea, cadWriteBits}
 use Rattle.console.proofs.CallLaws.{read-0, read-number, done-leaves}
-use Rattle.console.proofs.RowLaws.{AreBytes}
-use Rattle.console.proofs.LayoutLaws.{value-there, value-back, value-taken, area-value}
+use Rattle.layouts.proofs.RowLaws.{AreBytes}
+use Rattle.layouts.proofs.LayoutLaws.{value-there, value-back, value-taken, area-value}
 
 -- ---- no refusal has the number 0
 

@@ -12,8 +12,8 @@ use Rattle.codec.specs.Codec.{Read, got, no}
 use Rattle.message.specs.Reading.{readOf}
 use Rattle.message.specs.declared.Value.{Value}
 use Rattle.writing.specs.Writing.{Write, laid, refused, writeOf, areaOf}
-use Rattle.console.specs.Profiles.{passes, profileFrom}
-use Rattle.console.specs.Values.{valueSize, valueBytes, valueFrom, isValue}
+use Rattle.layouts.specs.Profiles.{passes, profileFrom}
+use Rattle.layouts.specs.Values.{valueSize, valueBytes, valueFrom, isValue}
 
 -- ---- reading: 1, then reading's own refusals, and 14 last
 

@@ -1,4 +1,1 @@
-pub mod Bytes
-pub mod Profiles
-pub mod Values
 pub mod Console

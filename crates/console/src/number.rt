@@ -5,7 +5,7 @@ ghost use lib.Dec.{leb};
 ghost use lib.ListN.{getD, drop, set};
 ghost use lib.Seq.{sets};
 ghost use Rattle.profile.specs.Counting.{one, every};
-ghost use Rattle.console.specs.Bytes.{numberFrom, numberBytes};
+ghost use Rattle.layouts.specs.Bytes.{numberFrom, numberBytes};
 
 // 0 past the end.
 pub(crate) fn byte_at(l: &[u8], i: usize) -> u8

@@ -2,7 +2,7 @@
 ghost use mathlib.Core.Path.{_≡_};
 ghost use Prim.Native.Nat.{_≤_};
 ghost use lib.ListN.{drop};
-ghost use Rattle.console.specs.Profiles.{shareFrom, airFrom, sharesFrom, profileFrom, spareZero, isProfile, passes};
+ghost use Rattle.layouts.specs.Profiles.{shareFrom, airFrom, sharesFrom, profileFrom, spareZero, isProfile, passes};
 use crate::number;
 use profile::Air;
 use profile::Kind;

@@ -3,7 +3,7 @@ use mathlib.Core.Path.{sym, _∙_}
 use borrow.Author.Needs.{needs}
 use borrow.Author.Tests.{not-true, not-false}
 use Rattle.console.proofs.CallLaws.{read-1, read-14, read-0, read-no}
-use Rattle.console.proofs.ListLaws.{no-lists}
+use Rattle.layouts.proofs.ListLaws.{no-lists}
 use Rattle.writing.proofs.RoundTrips.{read-valid}
 use Rattle.console.proofs.read_into.Statement.{statement}
 use Rattle.console.proofs.read_into.Tie as tie

@@ -5,8 +5,8 @@ use native.Mathlib.Omega.{arith}
 use denote.Ref.{now}
 use lib.ListN.{drop}
 use borrow.Author.Needs.{needs}
-use Rattle.console.proofs.ByteLaws.{number-none, number-more, more-lt, fewer-lt}
-use Rattle.console.specs.Bytes.{numberFrom}
+use Rattle.layouts.proofs.ByteLaws.{number-none, number-more, more-lt, fewer-lt}
+use Rattle.layouts.specs.Bytes.{numberFrom}
 use Rattle.console.proofs.number.number_at.Statement.{statement}
 use Rattle.console.proofs.number.number_at.Tie as tie
 

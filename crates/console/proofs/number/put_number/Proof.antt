@@ -4,8 +4,8 @@ use mathlib.Core.Path.{_≡_, refl}
 use native.Mathlib.Omega.{arith}
 use lib.Seq.{sets}
 use borrow.Author.Needs.{needs}
-use Rattle.console.proofs.ByteLaws.{put-more, put-end, put-same}
-use Rattle.console.specs.Bytes.{numberBytes}
+use Rattle.layouts.proofs.ByteLaws.{put-turn, put-end, put-same}
+use Rattle.layouts.specs.Bytes.{numberBytes}
 use Rattle.console.proofs.number.put_number.Statement.{statement}
 use Rattle.console.proofs.number.put_number.Tie as tie
 
@@ -37,7 +37,7 @@ loop-again : tie.Need-loop-again Inv-loop μ-loop
 loop-again c =
     let p = c .before .before in
     let l = p .before .before .before in
-    (search needs, put-more _ _ _ _ _ _ (l .loop .k) _ _ _ (l .loop .inv .1) (omega arith) refl (p .put-byte .ensures))
+    (search needs, put-turn _ _ _ _ _ _ (l .loop .k) _ _ _ (l .loop .inv .1) (omega arith) refl (p .put-byte .ensures))
 
 same-length : tie.Need-same-length Inv-loop μ-loop
 same-length c = put-same _ _ _ _ _ _ _ (c .before .loop .inv .1)

@@ -5,9 +5,9 @@ use native.Mathlib.Omega.{arith}
 use denote.Ref.{now}
 use lib.ListN.{length, drop}
 use borrow.Author.Needs.{needs}
-use Rattle.console.proofs.ByteLaws.{byte-here, rowsLeft, rows-start, rows-more, rows-end}
-use Rattle.console.specs.Bytes.{rowsFrom}
-use Rattle.console.specs.Profiles.{meaningFrom, airFrom}
+use Rattle.layouts.proofs.ByteLaws.{byte-here, rowsLeft, rows-start, rows-more, rows-end}
+use Rattle.layouts.specs.Bytes.{rowsFrom}
+use Rattle.layouts.specs.Profiles.{meaningFrom, airFrom}
 use Rattle.profile.specs.Rules.{meaningOf}
 use Rattle.console.proofs.profiles.air_from.Statement.{statement}
 use Rattle.console.proofs.profiles.air_from.Tie as tie

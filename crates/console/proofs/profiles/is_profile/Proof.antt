@@ -10,7 +10,7 @@ use lib.Seq.{length-take-le}
 use borrow.Author.Needs.{needs}
 use borrow.Author.Tests.{eq-eqb, ne-eqb}
 use Rattle.codec.specs.Codec.{both}
-use Rattle.console.specs.Profiles.{isProfile}
+use Rattle.layouts.specs.Profiles.{isProfile}
 use Rattle.profile.specs.Counting.{every}
 use Rattle.console.proofs.profiles.is_profile.Statement.{statement}
 use Rattle.console.proofs.profiles.is_profile.Tie as tie

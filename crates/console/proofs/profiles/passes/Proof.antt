@@ -2,7 +2,7 @@
 use mathlib.Core.Path.{sym, _∙_}
 use borrow.Author.Needs.{needs}
 use Rattle.codec.specs.Codec.{both}
-use Rattle.console.specs.Profiles.{passes}
+use Rattle.layouts.specs.Profiles.{passes}
 use Rattle.console.proofs.profiles.passes.Statement.{statement}
 use Rattle.console.proofs.profiles.passes.Tie as tie
 

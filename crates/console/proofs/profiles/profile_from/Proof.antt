@@ -1,6 +1,6 @@
 -- Written by tools/proofs from tools/console.conf. `console::profiles::profile_from` meets its contract. Assumes nothing.
 use borrow.Author.Needs.{needs}
-use Rattle.console.specs.Profiles.{profileFrom}
+use Rattle.layouts.specs.Profiles.{profileFrom}
 use Rattle.console.proofs.profiles.profile_from.Statement.{statement}
 use Rattle.console.proofs.profiles.profile_from.Tie as tie
 

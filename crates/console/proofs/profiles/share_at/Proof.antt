@@ -1,8 +1,8 @@
 -- Written by tools/proofs from tools/console.conf. `console::profiles::share_at` meets its contract. Assumes nothing.
 use lib.Seq.{getD-drop}
 use borrow.Author.Needs.{needs}
-use Rattle.console.proofs.ByteLaws.{byte-here}
-use Rattle.console.specs.Profiles.{shareFrom}
+use Rattle.layouts.proofs.ByteLaws.{byte-here}
+use Rattle.layouts.specs.Profiles.{shareFrom}
 use Rattle.console.proofs.profiles.share_at.Statement.{statement}
 use Rattle.console.proofs.profiles.share_at.Tie as tie
 

@@ -3,9 +3,9 @@ use Prim.Native.Nat.{_+_, _-_, _*_, _≤_}
 use mathlib.Core.Path.{_≡_, refl}
 use lib.ListN.{length, drop}
 use borrow.Author.Needs.{needs}
-use Rattle.console.proofs.ByteLaws.{rowsLeft, rows-start, rows-more, rows-end}
-use Rattle.console.specs.Bytes.{rowsFrom}
-use Rattle.console.specs.Profiles.{shareFrom, sharesFrom}
+use Rattle.layouts.proofs.ByteLaws.{rowsLeft, rows-start, rows-more, rows-end}
+use Rattle.layouts.specs.Bytes.{rowsFrom}
+use Rattle.layouts.specs.Profiles.{shareFrom, sharesFrom}
 use Rattle.console.proofs.profiles.shares_from.Statement.{statement}
 use Rattle.console.proofs.profiles.shares_from.Tie as tie
 

@@ -4,9 +4,9 @@ use mathlib.Core.Path.{_≡_}
 use denote.Ref.{now}
 use lib.ListN.{length, drop}
 use borrow.Author.Needs.{needs}
-use Rattle.console.proofs.ByteLaws.{zero-more, zero-not, zero-end}
-use Rattle.console.specs.Bytes.{areZero}
-use Rattle.console.specs.Profiles.{spareZero}
+use Rattle.layouts.proofs.ByteLaws.{zero-more, zero-not, zero-end}
+use Rattle.layouts.specs.Bytes.{areZero}
+use Rattle.layouts.specs.Profiles.{spareZero}
 use Rattle.console.proofs.profiles.spare_zero.Statement.{statement}
 use Rattle.console.proofs.profiles.spare_zero.Tie as tie
 

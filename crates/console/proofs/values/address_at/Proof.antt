@@ -1,8 +1,8 @@
 -- Written by tools/proofs from tools/console.conf. `console::values::address_at` meets its contract. Assumes nothing.
 use lib.Seq.{drop-drop}
 use borrow.Author.Needs.{needs}
-use Rattle.console.proofs.ByteLaws.{byte-here}
-use Rattle.console.specs.Values.{addressFrom}
+use Rattle.layouts.proofs.ByteLaws.{byte-here}
+use Rattle.layouts.specs.Values.{addressFrom}
 use Rattle.console.proofs.values.address_at.Statement.{statement}
 use Rattle.console.proofs.values.address_at.Tie as tie
 

@@ -6,9 +6,9 @@ use denote.Ref.{now}
 use lib.ListN.{length, drop}
 use lib.Seq.{drop-drop}
 use borrow.Author.Needs.{needs}
-use Rattle.console.proofs.ByteLaws.{byte-here, rowsLeft, rows-start, rows-more, rows-end}
-use Rattle.console.specs.Bytes.{rowsFrom}
-use Rattle.console.specs.Values.{byteFrom, areasFrom}
+use Rattle.layouts.proofs.ByteLaws.{byte-here, rowsLeft, rows-start, rows-more, rows-end}
+use Rattle.layouts.specs.Bytes.{rowsFrom}
+use Rattle.layouts.specs.Values.{byteFrom, areasFrom}
 use Rattle.console.proofs.values.areas_at.Statement.{statement}
 use Rattle.console.proofs.values.areas_at.Tie as tie
 

@@ -4,9 +4,9 @@ use mathlib.Core.Path.{_≡_, refl}
 use lib.ListN.{length, drop}
 use lib.Seq.{drop-drop}
 use borrow.Author.Needs.{needs}
-use Rattle.console.proofs.ByteLaws.{byte-here, rowsLeft, rows-start, rows-more, rows-end}
-use Rattle.console.specs.Bytes.{rowsFrom}
-use Rattle.console.specs.Values.{addressFrom, groupFrom}
+use Rattle.layouts.proofs.ByteLaws.{byte-here, rowsLeft, rows-start, rows-more, rows-end}
+use Rattle.layouts.specs.Bytes.{rowsFrom}
+use Rattle.layouts.specs.Values.{addressFrom, groupFrom}
 use Rattle.console.proofs.values.group_at.Statement.{statement}
 use Rattle.console.proofs.values.group_at.Tie as tie
 

@@ -2,7 +2,7 @@
 use borrow.Author.Needs.{needs}
 use borrow.Author.Tests.{eq-eqb, ne-eqb, le-leb, lt-leb}
 use Rattle.codec.specs.Codec.{both}
-use Rattle.console.specs.Values.{isValue}
+use Rattle.layouts.specs.Values.{isValue}
 use Rattle.console.proofs.values.is_value.Statement.{statement}
 use Rattle.console.proofs.values.is_value.Tie as tie
 

@@ -1,6 +1,6 @@
 -- Written by tools/proofs from tools/console.conf. `console::values::lists_from` meets its contract. Assumes nothing.
 use borrow.Author.Needs.{needs}
-use Rattle.console.specs.Values.{listsFrom}
+use Rattle.layouts.specs.Values.{listsFrom}
 use Rattle.console.proofs.values.lists_from.Statement.{statement}
 use Rattle.console.proofs.values.lists_from.Tie as tie
 

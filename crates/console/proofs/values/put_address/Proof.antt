@@ -1,6 +1,6 @@
 -- Written by tools/proofs from tools/console.conf. `console::values::put_address` meets its contract. Assumes nothing.
 use borrow.Author.Needs.{needs}
-use Rattle.console.proofs.PutLaws.{address-put}
+use Rattle.layouts.proofs.PutLaws.{address-put}
 use Rattle.console.proofs.values.put_address.Statement.{statement}
 use Rattle.console.proofs.values.put_address.Tie as tie
 

@@ -5,10 +5,10 @@ use native.Mathlib.Omega.{arith}
 use lib.ListN.{length}
 use lib.Seq.{sets}
 use borrow.Author.Needs.{needs}
-use Rattle.console.proofs.ByteLaws.{bytesLeft, bytes-start, bytes-more, bytes-end, bytes-same}
-use Rattle.console.proofs.PutLaws.{length-address}
-use Rattle.console.specs.Bytes.{rowsBytes}
-use Rattle.console.specs.Values.{addressBytes}
+use Rattle.layouts.proofs.ByteLaws.{bytesLeft, bytes-start, bytes-more, bytes-end, bytes-same}
+use Rattle.layouts.proofs.PutLaws.{length-address}
+use Rattle.layouts.specs.Bytes.{rowsBytes}
+use Rattle.layouts.specs.Values.{addressBytes}
 use Rattle.message.specs.Addresses.{nobody}
 use Rattle.console.proofs.values.put_addresses.Statement.{statement}
 use Rattle.console.proofs.values.put_addresses.Tie as tie

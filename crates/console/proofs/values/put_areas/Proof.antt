@@ -1,6 +1,6 @@
 -- Written by tools/proofs from tools/console.conf. `console::values::put_areas` meets its contract. Assumes nothing.
 use borrow.Author.Needs.{needs}
-use Rattle.console.proofs.PutLaws.{areas-put}
+use Rattle.layouts.proofs.PutLaws.{areas-put}
 use Rattle.console.proofs.values.put_areas.Statement.{statement}
 use Rattle.console.proofs.values.put_areas.Tie as tie
 

@@ -6,9 +6,9 @@ use native.Mathlib.Omega.{arith}
 use lib.ListN.{length}
 use lib.Seq.{sets}
 use borrow.Author.Needs.{needs}
-use Rattle.console.proofs.ByteLaws.{bytesLeft, bytes-start, bytes-more, bytes-end, bytes-same}
-use Rattle.console.specs.Bytes.{rowsBytes}
-use Rattle.console.specs.Values.{byteBytes}
+use Rattle.layouts.proofs.ByteLaws.{bytesLeft, bytes-start, bytes-more, bytes-end, bytes-same}
+use Rattle.layouts.specs.Bytes.{rowsBytes}
+use Rattle.layouts.specs.Values.{byteBytes}
 use Rattle.console.proofs.values.put_bytes.Statement.{statement}
 use Rattle.console.proofs.values.put_bytes.Tie as tie
 

@@ -1,7 +1,7 @@
 -- Written by tools/proofs from tools/console.conf. `console::values::put_first` meets its contract. Assumes nothing.
 use denote.Ref.{now}
 use borrow.Author.Needs.{needs}
-use Rattle.console.proofs.PutLaws.{numbers-put}
+use Rattle.layouts.proofs.PutLaws.{numbers-put}
 use Rattle.console.proofs.values.put_first.Statement.{statement}
 use Rattle.console.proofs.values.put_first.Tie as tie
 

@@ -1,6 +1,6 @@
 -- Written by tools/proofs from tools/console.conf. `console::values::put_group` meets its contract. Assumes nothing.
 use borrow.Author.Needs.{needs}
-use Rattle.console.proofs.PutLaws.{group-put}
+use Rattle.layouts.proofs.PutLaws.{group-put}
 use Rattle.console.proofs.values.put_group.Statement.{statement}
 use Rattle.console.proofs.values.put_group.Tie as tie
 

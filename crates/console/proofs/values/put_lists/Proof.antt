@@ -1,7 +1,7 @@
 -- Written by tools/proofs from tools/console.conf. `console::values::put_lists` meets its contract. Assumes nothing.
 use denote.Ref.{now}
 use borrow.Author.Needs.{needs}
-use Rattle.console.proofs.PutLaws.{lists-put}
+use Rattle.layouts.proofs.PutLaws.{lists-put}
 use Rattle.console.proofs.values.put_lists.Statement.{statement}
 use Rattle.console.proofs.values.put_lists.Tie as tie
 

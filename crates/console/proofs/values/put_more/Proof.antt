@@ -1,8 +1,8 @@
 -- Written by tools/proofs from tools/console.conf. `console::values::put_more` meets its contract. Assumes nothing.
 use denote.Ref.{now}
 use borrow.Author.Needs.{needs}
-use Rattle.console.proofs.PutLaws.{same-sets, more-put}
-use Rattle.console.specs.Values.{moreBytes}
+use Rattle.layouts.proofs.PutLaws.{same-sets, more-put}
+use Rattle.layouts.specs.Values.{moreBytes}
 use Rattle.console.proofs.values.put_more.Statement.{statement}
 use Rattle.console.proofs.values.put_more.Tie as tie
 

@@ -2,7 +2,7 @@
 use mathlib.Core.List.{[]}
 use denote.Ref.{now}
 use borrow.Author.Needs.{needs}
-use Rattle.console.proofs.PutLaws.{types-put}
+use Rattle.layouts.proofs.PutLaws.{types-put}
 use Rattle.console.proofs.values.put_types.Statement.{statement}
 use Rattle.console.proofs.values.put_types.Tie as tie
 

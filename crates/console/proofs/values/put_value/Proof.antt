@@ -1,9 +1,9 @@
 -- Written by tools/proofs from tools/console.conf. `console::values::put_value` meets its contract. Assumes nothing.
 use denote.Ref.{now}
 use borrow.Author.Needs.{needs}
-use Rattle.console.proofs.ListLaws.{none-put}
-use Rattle.console.proofs.PutLaws.{same-sets, value-put}
-use Rattle.console.specs.Values.{valueBytes}
+use Rattle.layouts.proofs.ListLaws.{none-put}
+use Rattle.layouts.proofs.PutLaws.{same-sets, value-put}
+use Rattle.layouts.specs.Values.{valueBytes}
 use Rattle.console.proofs.values.put_value.Statement.{statement}
 use Rattle.console.proofs.values.put_value.Tie as tie
 

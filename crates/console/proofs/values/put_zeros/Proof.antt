@@ -2,7 +2,7 @@
 use mathlib.Core.Path.{_∙_}
 use denote.Ref.{now}
 use borrow.Author.Needs.{needs}
-use Rattle.console.proofs.ListLaws.{zeros-all}
+use Rattle.layouts.proofs.ListLaws.{zeros-all}
 use Rattle.console.proofs.values.put_zeros.Statement.{statement}
 use Rattle.console.proofs.values.put_zeros.Tie as tie
 

@@ -1,7 +1,7 @@
 -- Written by tools/proofs from tools/console.conf. `console::values::value_from` meets its contract. Assumes nothing.
 use denote.Ref.{now}
 use borrow.Author.Needs.{needs}
-use Rattle.console.proofs.ByteLaws.{value-from-all}
+use Rattle.layouts.proofs.ByteLaws.{value-from-all}
 use Rattle.console.proofs.values.value_from.Statement.{statement}
 use Rattle.console.proofs.values.value_from.Tie as tie
 

@@ -6,7 +6,7 @@ use denote.Ref.{now}
 use lib.ListN.{length, replicate}
 use lib.Seq.{sets}
 use borrow.Author.Needs.{needs}
-use Rattle.console.proofs.ListLaws.{zeros-more}
+use Rattle.layouts.proofs.ListLaws.{zeros-more}
 use Rattle.console.proofs.values.zeros_to.Statement.{statement}
 use Rattle.console.proofs.values.zeros_to.Tie as tie
 

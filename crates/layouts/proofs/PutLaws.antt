@@ -13,9 +13,9 @@ use Rattle.message.specs.declared.Group.{Group}
 use Rattle.message.specs.declared.Areas.{Areas}
 use Rattle.message.specs.declared.Lists.{Lists}
 use Rattle.message.specs.declared.Value.{Value}
-use Rattle.console.specs.Bytes.{numberBytes, rowsBytes}
-use Rattle.console.specs.Values.{addressBytes, groupBytes, byteBytes, areasBytes, firstBytes, moreBytes, typeBytes, listsBytes, valueBytes}
-use Rattle.console.proofs.ByteLaws.{sets-append, length-number}
+use Rattle.layouts.specs.Bytes.{numberBytes, rowsBytes}
+use Rattle.layouts.specs.Values.{addressBytes, groupBytes, byteBytes, areasBytes, firstBytes, moreBytes, typeBytes, listsBytes, valueBytes}
+use Rattle.layouts.proofs.ByteLaws.{sets-append, length-number}
 
 -- ---- a run of stores after a run
 

@@ -15,8 +15,8 @@ use Rattle.codec.specs.Codec.{both}
 use Rattle.message.specs.declared.Group.{Group}
 use Rattle.message.specs.declared.Lists.{Lists}
 use Rattle.message.specs.declared.Value.{Value}
-use Rattle.console.specs.Bytes.{numberFrom, numberBytes, rowsFrom, rowsBytes, areZero}
-use Rattle.console.specs.Values.{groupFrom, valueFrom, listsFrom}
+use Rattle.layouts.specs.Bytes.{numberFrom, numberBytes, rowsFrom, rowsBytes, areZero}
+use Rattle.layouts.specs.Values.{groupFrom, valueFrom, listsFrom}
 
 -- ---- the first byte, and the next, from position at on
 
@@ -74,10 +74,10 @@ unfolding numberBytes
 length-number zero v = refl
 length-number (suc n) v = length-append (numberBytes n (v / 256)) (v % 256 ∷ []) ∙ ap (λ (k : ℕ). k + 1) (length-number n (v / 256)) ∙ add-one n
 
-pub put-more : (l out m : List ℕ) (at n w k j v b : ℕ) → sets l at (numberBytes n w) ≡ sets out at (numberBytes k v) → k ≡ suc j → b ≡ v % 256
+pub put-turn : (l out m : List ℕ) (at n w k j v b : ℕ) → sets l at (numberBytes n w) ≡ sets out at (numberBytes k v) → k ≡ suc j → b ≡ v % 256
     → m ≡ set out (at + j) b → sets l at (numberBytes n w) ≡ sets m at (numberBytes j (v / 256))
 unfolding numberBytes
-put-more l out m at n w k j v b e d f g =
+put-turn l out m at n w k j v b e d f g =
     let s = numberBytes j (v / 256) in
     let z : at + length s ≡ at + j = ap (λ (i : ℕ). at + i) (length-number j (v / 256)) in
     e

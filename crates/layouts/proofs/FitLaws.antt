@@ -42,7 +42,7 @@ use Rattle.validity.specs.Validity.{validOf}
 use Rattle.validity.specs.Parts.{acceptedOk, notAcceptedOk}
 use Rattle.validity.proofs.ValidLaws.{masked-there, masked-none, state-by}
 use Rattle.writing.proofs.LengthLaws.{valid-body}
-use Rattle.console.proofs.RowLaws.{All, none, more}
+use Rattle.layouts.proofs.RowLaws.{All, none, more}
 
 pub record Address-fits (a : Address) : Type 0 where
   pub ssi : a .ssi < 2 ^ 24

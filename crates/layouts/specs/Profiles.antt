@@ -15,7 +15,7 @@ use Rattle.profile.specs.declared.Air.{Air}
 use Rattle.profile.specs.declared.Share.{Share}
 use Rattle.profile.specs.declared.Shares.{Shares}
 use Rattle.profile.specs.declared.Profile.{Profile}
-use Rattle.console.specs.Bytes.{numberFrom, numberBytes, rowsFrom, rowsBytes, areZero}
+use Rattle.layouts.specs.Bytes.{numberFrom, numberBytes, rowsFrom, rowsBytes, areZero}
 
 -- ---- a meaning: 0 reserved, 1 to 15 a list of that many, 16 nobody, 17 first and last
 

@@ -25,8 +25,8 @@ use Rattle.message.proofs.ValueLaws.{value-one}
 use Rattle.profile.specs.declared.Air.{Air}
 use Rattle.validity.specs.Validity.{validOf}
 use Rattle.writing.proofs.LengthLaws.{valid-body}
-use Rattle.console.specs.Bytes.{numberBytes, rowsBytes}
-use Rattle.console.specs.Values.{addressBytes, groupBytes, areasBytes, listsBytes}
+use Rattle.layouts.specs.Bytes.{numberBytes, rowsBytes}
+use Rattle.layouts.specs.Values.{addressBytes, groupBytes, areasBytes, listsBytes}
 
 -- ---- the parts that have none
 

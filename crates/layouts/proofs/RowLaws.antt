@@ -6,8 +6,8 @@ use native.Mathlib.Omega.{arith}
 use lib.ListN.{length, getD, take, drop, length-append, take-append-drop, List·getD-append}
 use lib.Pow.{pow-add}
 use lib.Seq.{take-add, take-suc, drop-cons, drop-drop, drop-at, getD-at, getD-drop, getD-append-add, drop-append-add}
-use Rattle.console.specs.Bytes.{numberFrom, numberBytes, rowsFrom, rowsBytes}
-use Rattle.console.proofs.ByteLaws.{length-number}
+use Rattle.layouts.specs.Bytes.{numberFrom, numberBytes, rowsFrom, rowsBytes}
+use Rattle.layouts.proofs.ByteLaws.{length-number}
 
 -- ---- bytes
 

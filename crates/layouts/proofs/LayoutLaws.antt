@@ -33,13 +33,13 @@ use Rattle.message.specs.declared.Group.{Group}
 use Rattle.message.specs.declared.Areas.{Areas}
 use Rattle.message.specs.declared.Value.{Value}
 use Rattle.validity.specs.Validity.{validOf}
-use Rattle.console.specs.Bytes.{numberFrom, numberBytes, rowsFrom, rowsBytes, areZero}
-use Rattle.console.specs.Profiles.{byteBy, meaningBytes, meaningFrom, shareBytes, shareFrom, profileBytes, airFrom, sharesFrom, profileFrom, spareZero, isProfile}
-use Rattle.console.specs.Values.{addressBytes, addressFrom, groupBytes, groupFrom, byteFrom, byteBytes, areasBytes, areasFrom, valueSize, firstBytes, moreBytes, typeBytes, listsBytes, listsFrom, valueBytes, valueFrom, isValue}
-use Rattle.console.proofs.ByteLaws.{byte-here, length-number}
-use Rattle.console.proofs.PutLaws.{length-address, length-group, length-more, length-types}
-use Rattle.console.proofs.RowLaws.{AreBytes, bytes-drop, low-byte, number-there, number-back, rows-there, rows-back, byte-front, run-front, past-byte, past-run, all-of, rows-length}
-use Rattle.console.proofs.FitLaws.{Address-fits, Group-fits, sizes, sizeOf, Numbers-fit, Value-fits, valid-fits}
+use Rattle.layouts.specs.Bytes.{numberFrom, numberBytes, rowsFrom, rowsBytes, areZero}
+use Rattle.layouts.specs.Profiles.{byteBy, meaningBytes, meaningFrom, shareBytes, shareFrom, profileBytes, airFrom, sharesFrom, profileFrom, spareZero, isProfile}
+use Rattle.layouts.specs.Values.{addressBytes, addressFrom, groupBytes, groupFrom, byteFrom, byteBytes, areasBytes, areasFrom, valueSize, firstBytes, moreBytes, typeBytes, listsBytes, listsFrom, valueBytes, valueFrom, isValue}
+use Rattle.layouts.proofs.ByteLaws.{byte-here, length-number}
+use Rattle.layouts.proofs.PutLaws.{length-address, length-group, length-more, length-types}
+use Rattle.layouts.proofs.RowLaws.{AreBytes, bytes-drop, low-byte, number-there, number-back, rows-there, rows-back, byte-front, run-front, past-byte, past-run, all-of, rows-length}
+use Rattle.layouts.proofs.FitLaws.{Address-fits, Group-fits, sizes, sizeOf, Numbers-fit, Value-fits, valid-fits}
 
 -- ---- addresses and groups
 

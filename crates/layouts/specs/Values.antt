@@ -17,7 +17,7 @@ use Rattle.message.specs.declared.Group.{Group}
 use Rattle.message.specs.declared.Areas.{Areas}
 use Rattle.message.specs.declared.Lists.{Lists}
 use Rattle.message.specs.declared.Value.{Value}
-use Rattle.console.specs.Bytes.{numberFrom, numberBytes, rowsFrom, rowsBytes}
+use Rattle.layouts.specs.Bytes.{numberFrom, numberBytes, rowsFrom, rowsBytes}
 
 -- ---- addresses and groups
 
