@@ -63,7 +63,7 @@ sets-set {A} (x ∷ xs) l i j b h =
     sets-set xs (set l i x) (suc i) j b (omega arith) ∙ ap (λ (m : List A). sets m (suc i) xs) (set-comm l i j x b (λ e. omega arith))
 
 -- as many as there are places
-sets-all : {A : Type 0} (xs l : List A) → length xs ≡ length l → sets l 0 xs ≡ xs
+pub sets-all : {A : Type 0} (xs l : List A) → length xs ≡ length l → sets l 0 xs ≡ xs
 sets-all {A} xs l e =
     sets-eq xs l 0 (omega arith) ∙ ap (λ (m : List A). xs ++ m) (drop-of-length-le l {i = 0 + length xs} (omega arith)) ∙ append-nil xs
 

@@ -84,7 +84,7 @@ nobody-fits = record { ssi = omega arith; extension = omega arith }
 zero-fits : (a : Address) → isNobody a ≡ true → Address-fits a
 zero-fits a e = subst (λ (x : Address). Address-fits x) (sym (is-nobody a e)) nobody-fits
 
-address-fits : (external : Bool) (a : Address) → addressC external .ok a ≡ true → Address-fits a
+pub address-fits : (external : Bool) (a : Address) → addressC external .ok a ≡ true → Address-fits a
 unfolding addressC extensionC number
 address-fits external a e =
     let s = both-right (kindC external .ok (a .kind)) _ (both-right true _ e) in
@@ -140,7 +140,7 @@ places-fit external k l h e =
 group-of : (g : Group) → Run 15 (g .addresses) → Group-fits g
 group-of g r = record { places = r .long; each = r .each }
 
-group-fits : (air : Air) (may external : Bool) (g : Group) → groupC air may external .ok g ≡ true → Group-fits g
+pub group-fits : (air : Air) (may external : Bool) (g : Group) → groupC air may external .ok g ≡ true → Group-fits g
 unfolding groupC addressesC
 group-fits air may external g e =
     let m = meaningIn (air .meanings) (g .range) in
@@ -180,7 +180,7 @@ none-long zero (a ∷ l) e = not-both e
 none-long (suc n) [] e = not-both e
 none-long (suc n) (a ∷ l) e = ap suc (none-long n l (both-right (isZero a) _ e))
 
-areas-fit : (air : Air) (a : Areas) → areasC air .ok a ≡ true → length (a .areas) ≡ 15
+pub areas-fit : (air : Air) (a : Areas) → areasC air .ok a ≡ true → length (a .areas) ≡ 15
 unfolding areasC areaListC areaPlacesC
 areas-fit air a e =
     let m = meaningIn (air .meanings) (a .range) in
@@ -218,7 +218,7 @@ masked-fits n false m h e = let z = zero-is m (sym (masked-none n m false refl) 
 -- ---- parts
 
 -- a part that the layout has bytes for
-abbrev hasBytes : Part → Bool
+abbrev pub hasBytes : Part → Bool
 hasBytes part.Nothing = true
 hasBytes (part.Number k) = leb (widthOf k) (8 * sizeOf k)
 hasBytes part.Users = true
@@ -244,7 +244,7 @@ set-number : (l : List ℕ) (k x : ℕ) → Numbers-fit l → x < 2 ^ (8 * sizeO
 set-number l k x n h =
     record { long = length-set l k x ∙ n .long; each = set-each 0 (λ i y. y < 2 ^ (8 * sizeOf i)) l k x h (n .each) }
 
-number-fits : (k x : ℕ) (v : Value) → Value-fits v → x < 2 ^ (8 * sizeOf k) → Value-fits (withNumber k x v)
+pub number-fits : (k x : ℕ) (v : Value) → Value-fits v → x < 2 ^ (8 * sizeOf k) → Value-fits (withNumber k x v)
 number-fits k x v f h =
     record { numbers = set-number (v .numbers) k x (f .numbers) h; users = f .users; mask = f .mask; given = f .given; dispatchers = f .dispatchers; lists = f .lists }
 
@@ -294,7 +294,7 @@ state-small s e = go (eqb (s .result) 1) (sym (state-by s) ∙ e)
         let w₃ = both-right (isZero (s .interception)) _ w₂ in
         (below _ 1 (omega arith) (both-left _ _ z), (below _ 7 (omega arith) (both-left _ _ w), (zero-below _ (both-left _ _ w₁), (zero-below _ (both-left _ _ w₂), (zero-below _ (both-left _ _ w₃), zero-below _ (both-right (isZero (s .called)) _ w₃))))))
 
-part-fits : (air : Air) (u : Value) (p : Part) (x : Holds p) (v : Value) → Value-fits v → hasBytes p ≡ true → partC air u p .ok x ≡ true → Value-fits (put p x v)
+pub part-fits : (air : Air) (u : Value) (p : Part) (x : Holds p) (v : Value) → Value-fits v → hasBytes p ≡ true → partC air u p .ok x ≡ true → Value-fits (put p x v)
 unfolding number sizeOf sizes
 part-fits air u part.Nothing x v f b e = f
 part-fits air u (part.Number k) x v f b e = number-fits k x v f (lt-of-lt-of-le (ltb-true _ _ e) (pow-mono {j = 8 * sizeOf k} (leb-true _ _ b)))
@@ -339,7 +339,7 @@ each-same d zero i = refl
 each-same d (suc n) zero = refl
 each-same d (suc n) (suc i) = each-same d n i
 
-blank-fits : (t : ℕ) → Value-fits (blank t)
+pub blank-fits : (t : ℕ) → Value-fits (blank t)
 unfolding blank
 blank-fits t =
     record {
@@ -351,7 +351,7 @@ blank-fits t =
       lists = no-lists-fit;
     }
 
-with-given : (v : Value) (i : ℕ) (b : Bool) → Value-fits v → Value-fits (withGiven i b v)
+pub with-given : (v : Value) (i : ℕ) (b : Bool) → Value-fits v → Value-fits (withGiven i b v)
 with-given v i b f =
     record { numbers = f .numbers; users = f .users; mask = f .mask; given = length-set (v .given) i b ∙ f .given; dispatchers = f .dispatchers; lists = f .lists }
 

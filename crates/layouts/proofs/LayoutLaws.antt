@@ -289,7 +289,7 @@ module _ (v : Value) (p : Value-fits v) where
   more-at : (k : ℕ) → getD bytes (227 + k) 0 ≡ getD (afterDispatchers v) k 0
   more-at k = sym (getD-drop 227 bytes k 0) ∙ ap (λ (x : List ℕ). getD x k 0) past-dispatchers
 
-  fits-back : valueFrom (valueBytes v) ≡ v
+  pub fits-back : valueFrom (valueBytes v) ≡ v
   unfolding valueFrom moreBytes typeBytes sizeOf sizes
   fits-back =
       let small = p .numbers .each in

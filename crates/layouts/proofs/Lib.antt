@@ -4,3 +4,5 @@ pub mod RowLaws
 pub mod FitLaws
 pub mod ListLaws
 pub mod LayoutLaws
+pub mod LaidLaws
+pub mod PartLaws
