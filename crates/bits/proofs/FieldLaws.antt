@@ -1,9 +1,10 @@
 -- Laws of bits and fields, each over any width. Assumes nothing.
-use Prim.Native.Nat.{ℕ, zero, suc, _+_, _*_, _/_, _^_, _≤_, _<_}
+use Prim.Native.Nat.{ℕ, zero, suc, _+_, _-_, _*_, _/_, _%_, _^_, _≤_, _<_}
 use mathlib.Core.Path.{_≡_, refl}
 use mathlib.Core.List.{List}
-use native.Mathlib.Nat.{mod-lt, pow-suc, pow-zero, zero-lt-suc, lt-of-lt-of-le, add-zero, add-suc, add-assoc, add-mul, mul-assoc, mul-one}
+use native.Mathlib.Nat.{mod-lt, pow-suc, pow-zero, zero-lt-suc, lt-of-lt-of-le, add-zero, add-suc, add-assoc, add-mul, mul-assoc, mul-one, zero-div}
 use native.Mathlib.Omega.{arith}
+use lib.ListN.{length, getD, List·getD-eq-default}
 use lib.Pow.{pow-mono, high}
 use borrow.Author.Tests.{le-leb, lt-leb}
 use Rattle.bits.specs.Fields.{bitAt, fieldAt, fieldOf}
@@ -39,6 +40,19 @@ pub field-same : (f g : ℕ → ℕ) (at w : ℕ) → ((i : ℕ) → at ≤ i �
 unfolding fieldAt
 field-same f g at zero e = refl
 field-same f g at (suc w) e = rw (field-same f g at w (λ i h k. e i h (omega arith)), e (at + w) (omega arith) (omega arith))
+
+-- past the end every bit is 0, and so is every field
+bit-past : (l : List ℕ) (i : ℕ) → 8 * length l ≤ i → bitAt l i ≡ 0
+unfolding bitAt
+bit-past l i h =
+    let d : getD l (i / 8) 0 ≡ 0 = List·getD-eq-default l 0 {n = i / 8} (omega arith) in
+    let z : 0 / 2 ^ (7 - i % 8) ≡ 0 = zero-div (2 ^ (7 - i % 8)) in
+    rw (d, z)
+
+pub field-past : (l : List ℕ) (at w : ℕ) → 8 * length l ≤ at → fieldAt (bitAt l) at w ≡ 0
+unfolding fieldAt
+field-past l at zero h = refl
+field-past l at (suc w) h = rw (field-past l at w h, bit-past l (at + w) (omega arith))
 
 -- what the code's definition says, by the width
 pub field-is : (l : List ℕ) (at w : ℕ) → w ≤ 64 → fieldOf l at w ≡ fieldAt (bitAt l) at w

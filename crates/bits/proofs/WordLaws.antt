@@ -4,10 +4,10 @@ use mathlib.Core.Path.{_≡_, sym, ap, _∙_}
 use mathlib.Core.List.{List}
 use native.Mathlib.Nat.{div-one, mul-assoc, add-mul}
 use native.Mathlib.Omega.{arith}
-use lib.ListN.{getD}
+use lib.ListN.{length, getD}
 use lib.Pow.{pow-add, low, shl-lt, shl-shr, shr-shr}
 use Rattle.bits.specs.Fields.{bitAt, fieldAt}
-use Rattle.bits.proofs.FieldLaws.{bit-lt, field-lt, field-below, field-split, field-front}
+use Rattle.bits.proofs.FieldLaws.{bit-lt, field-lt, field-below, field-split, field-front, field-past}
 
 -- ---- bytes
 
@@ -72,6 +72,17 @@ module _ (f : ℕ → ℕ) (hf : (i : ℕ) → f i < 2) (at r : ℕ) (hr : r ≤
       let d : 64 - r + r ≡ 64 = omega arith in
       let p : at + r + (64 - r) ≡ at + 64 = omega arith in
       rw shifted (sym (ap (λ (n : ℕ). fieldAt f (at + r) n) (sym d) ∙ field-split f (at + r) (64 - r) r ∙ ap (λ (n : ℕ). fieldAt f (at + r) (64 - r) * 2 ^ r + fieldAt f n r) p))
+
+-- where they reach past the end, they are the last eight bytes, moved up
+pub last-word : (l : List ℕ) (i : ℕ) → 8 ≤ length l → length l ≤ i + 8 → i ≤ length l
+    → fieldAt (bitAt l) (8 * (length l - 8)) 64 * 2 ^ (8 * (i - (length l - 8))) % 2 ^ 64 ≡ fieldAt (bitAt l) (8 * i) 64
+last-word l i h k m =
+    let r = 8 * (i - (length l - 8)) in
+    let at = 8 * (length l - 8) in
+    let p : at + r ≡ 8 * i = omega arith in
+    let z : fieldAt (bitAt l) (at + 64) r ≡ 0 = field-past l (at + 64) r (omega arith) in
+    let j : fieldAt (bitAt l) at 64 * 2 ^ r % 2 ^ 64 + fieldAt (bitAt l) (at + 64) r ≡ fieldAt (bitAt l) (at + r) 64 = joined (bitAt l) (bit-lt l) at r (omega arith) in
+    omega (arith, z, j) ∙ ap (λ (n : ℕ). fieldAt (bitAt l) n 64) p
 
 -- ---- as the code has it: the position at, its byte at / 8 and its bit at % 8
 

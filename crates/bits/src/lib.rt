@@ -71,6 +71,9 @@ fn word(buf: &[u8], i: usize) -> u64
     if i + 8 <= buf.len() {
         return word_inside(buf, i);
     }
+    if buf.len() >= 8 {
+        return word_of_last(buf, i);
+    }
     word_at_end(buf, i)
 }
 
@@ -82,7 +85,19 @@ fn word_inside(buf: &[u8], i: usize) -> u64
     half_word(buf, i) * 0x1_0000_0000 + half_word(buf, i + 4)
 }
 
-// The same where some may lie past the end.
+// The same where some lie past the end of eight bytes or more: the last eight, moved up, since what is past the end is 0.
+fn word_of_last(buf: &[u8], i: usize) -> u64
+    requires { ⌜ (8 ≤ length (now buf)) × (length (now buf) < i + 8) ⌝ }
+    ensures { λ r. ⌜ r ≡ fieldAt (bitAt (now (buf .entry))) (8 * i) 64 ⌝ }
+{
+    if i >= buf.len() {
+        return 0;
+    }
+    let last = buf.len() - 8;
+    word_inside(buf, last) << (8 * (i - last))
+}
+
+// The same byte by byte, where any may lie past the end: for slices of fewer than eight.
 fn word_at_end(buf: &[u8], i: usize) -> u64
     requires { ⌜ i + 8 < 2 ^ 64 ⌝ }
     ensures { λ r. ⌜ r ≡ fieldAt (bitAt (now (buf .entry))) (8 * i) 64 ⌝ }
