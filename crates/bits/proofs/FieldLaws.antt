@@ -7,7 +7,7 @@ use native.Mathlib.Omega.{arith}
 use lib.ListN.{length, getD, List·getD-eq-default}
 use lib.Pow.{pow-mono, high}
 use borrow.Author.Tests.{le-leb, lt-leb}
-use Rattle.bits.specs.Fields.{bitAt, fieldAt, fieldOf}
+use Rattle.bits.specs.Fields.{bitAt, fieldAt, fieldOf, eightOf}
 
 pub bit-lt : (l : List ℕ) (i : ℕ) → bitAt l i < 2
 unfolding bitAt
@@ -66,3 +66,13 @@ field-wide l at w h = rw (lt-leb w 64 h)
 pub field-none : (l : List ℕ) (at w : ℕ) → w ≡ 0 → fieldOf l at w ≡ 0
 unfolding fieldAt
 field-none l at w e = rw e (field-is l at 0 (omega arith))
+
+-- ---- eight bytes
+
+pub eight-there : (l : List ℕ) (i : ℕ) → i + 8 ≤ length l → eightOf l i ≡ fieldAt (bitAt l) (8 * i) 64
+unfolding eightOf
+eight-there l i h = rw (le-leb (i + 8) (length l) h)
+
+pub eight-not : (l : List ℕ) (i : ℕ) → length l < i + 8 → eightOf l i ≡ 0
+unfolding eightOf
+eight-not l i h = rw (lt-leb (i + 8) (length l) h)

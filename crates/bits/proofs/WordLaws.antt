@@ -84,6 +84,20 @@ last-word l i h k m =
     let j : fieldAt (bitAt l) at 64 * 2 ^ r % 2 ^ 64 + fieldAt (bitAt l) (at + 64) r ≡ fieldAt (bitAt l) (at + r) 64 = joined (bitAt l) (bit-lt l) at r (omega arith) in
     omega (arith, z, j) ∙ ap (λ (n : ℕ). fieldAt (bitAt l) n 64) p
 
+-- and so is a field that begins in them or just after them
+pub last-field : (l : List ℕ) (at w : ℕ) → 8 ≤ length l → 8 * (length l - 8) ≤ at → at ≤ 8 * length l → w ≤ 64
+    → fieldAt (bitAt l) (8 * (length l - 8)) 64 * 2 ^ (at - 8 * (length l - 8)) % 2 ^ 64 / 2 ^ (64 - w) ≡ fieldAt (bitAt l) at w
+last-field l at w h k m hw =
+    let from = 8 * (length l - 8) in
+    let r = at - from in
+    let p : from + r ≡ at = omega arith in
+    let u : w + (64 - w) ≡ 64 = omega arith in
+    let z : fieldAt (bitAt l) (from + 64) r ≡ 0 = field-past l (from + 64) r (omega arith) in
+    let j : fieldAt (bitAt l) from 64 * 2 ^ r % 2 ^ 64 + fieldAt (bitAt l) (from + 64) r ≡ fieldAt (bitAt l) (from + r) 64 = joined (bitAt l) (bit-lt l) from r (omega arith) in
+    let moved : fieldAt (bitAt l) from 64 * 2 ^ r % 2 ^ 64 ≡ fieldAt (bitAt l) at (w + (64 - w)) =
+    omega (arith, z, j) ∙ ap (λ (n : ℕ). fieldAt (bitAt l) n 64) p ∙ ap (λ (n : ℕ). fieldAt (bitAt l) at n) (sym u) in
+    ap (λ (x : ℕ). x / 2 ^ (64 - w)) moved ∙ field-front (bitAt l) (bit-lt l) at w (64 - w)
+
 -- ---- as the code has it: the position at, its byte at / 8 and its bit at % 8
 
 module _ (l : List ℕ) (at w : ℕ) (hw : w ≤ 64) where

@@ -6,7 +6,7 @@
 ghost use mathlib.Core.Path.{_≡_};
 ghost use Prim.Native.Nat.{_+_, _*_, _<_, _≤_, _^_};
 ghost use lib.ListN.{length, getD, set};
-ghost use Rattle.bits.specs.Fields.{bitAt, fieldAt, fieldOf};
+ghost use Rattle.bits.specs.Fields.{bitAt, fieldAt, fieldOf, eightOf};
 ghost use Rattle.bits.specs.Puts.{withDigit, putBits, binary, putOf, padOf};
 
 // The number in `width` bits from position `at` on. Bits past the end are 0; a width over 64 reads as 0.
@@ -25,6 +25,20 @@ pub fn field(buf: &[u8], at: usize, width: usize) -> u64
         return top >> (64 - width);
     }
     (top + (byte_at(buf, at / 8 + 8) >> (8 - first))) >> (64 - width)
+}
+
+// The 64 bits of the eight bytes from an index on; 0 where they are not all there.
+pub fn eight(buf: &[u8], i: usize) -> u64
+    ensures { λ r. ⌜ r ≡ eightOf (now (buf .entry)) i ⌝ }
+{
+    let n = buf.len();
+    if n < 8 {
+        return 0;
+    }
+    if i > n - 8 {
+        return 0;
+    }
+    word_inside(buf, i)
 }
 
 // The low `width` bits of `value`, written from position `at` on; nothing where they are over 64 or reach past the end.

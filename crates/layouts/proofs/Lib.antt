@@ -6,3 +6,5 @@ pub mod ListLaws
 pub mod LayoutLaws
 pub mod LaidLaws
 pub mod PartLaws
+pub mod RunLaws
+pub mod PlaceLaws

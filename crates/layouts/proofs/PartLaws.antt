@@ -49,9 +49,10 @@ pub record Laid (a : List ℕ) (v : Value) : Type 0 where
   pub bytes : a ≡ valueBytes v
   pub fits : Value-fits v
 
--- what is read up to position r, of any length that reaches so far, has the bytes b
-pub record Lays (rd : ℕ → Read Value) (b : List ℕ) (r : ℕ) : Type 0 where
+-- what is read from position at up to position r, of any length that reaches so far, has the bytes b
+pub record Lays (rd : ℕ → Read Value) (at : ℕ) (b : List ℕ) (r : ℕ) : Type 0 where
   pub value : Value
+  pub after : at ≤ r
   pub laid : Laid b value
   pub read : (n : ℕ) → r ≤ n → rd n ≡ got value r
 
@@ -112,11 +113,12 @@ module _ {A : Type 0} {C : Codec A} (good : Good C) (f : ℕ → ℕ) (binary : 
 
 module _ (air : Air) (f : ℕ → ℕ) (binary : Binary f) (a b : List ℕ) (at r : ℕ) where
   pub part-lays : (v : Value) → Laid a v → (p : Part) → hasBytes p ≡ true → (x : Holds p) → ((n : ℕ) → r ≤ n → partC air v p .read f n at ≡ got x r)
-      → b ≡ valueBytes (put p x v) → Lays (λ n. partRead air v p f n at) b r
+      → b ≡ valueBytes (put p x v) → Lays (λ n. partRead air v p f n at) at b r
   unfolding partRead
   part-lays v l p h x e w =
       record {
         value = put p x v;
+        after = after-of (good-part air v p) f binary r at x r (e r (omega arith));
         laid = record { bytes = w; fits = part-fits air v p x v (l .fits) h (ok-of (good-part air v p) f binary r at x r (e r (omega arith))) };
         read = λ n k. ap (λ (y : Read (Holds p)). bind y (λ z q. got (put p z v) q)) (e n k);
       }
@@ -135,22 +137,22 @@ module _ (air : Air) (f : ℕ → ℕ) (binary : Binary f) (a b : List ℕ) (at 
     in-value : (o : ℕ) (bs : List ℕ) → b ≡ sets a o bs → b ≡ sets (valueBytes v) o bs
     in-value o bs e = e ∙ ap (λ (x : List ℕ). sets x o bs) (l .bytes)
 
-    pub users-lay : Grouped false 1 → Lays (λ n. partRead air v part.Users f n at) b r
+    pub users-lay : Grouped false 1 → Lays (λ n. partRead air v part.Users f n at) at b r
     users-lay g = part-lays v l part.Users refl (g .group) (g .read false) (in-value 1 (groupBytes (g .group)) (g .area) ∙ sym (group-users v (l .fits) (g .group) (fifteen false 1 g)))
 
-    pub dispatchers-lay : Grouped true 122 → Lays (λ n. partRead air v part.Dispatchers f n at) b r
+    pub dispatchers-lay : Grouped true 122 → Lays (λ n. partRead air v part.Dispatchers f n at) at b r
     dispatchers-lay g = part-lays v l part.Dispatchers refl (g .group) (g .read false) (in-value 122 (groupBytes (g .group)) (g .area) ∙ sym (group-dispatchers v (l .fits) (g .group) (fifteen true 122 g)))
 
-    pub sources-lay : Grouped true 243 → Lays (λ n. partRead air v part.Sources f n at) b r
+    pub sources-lay : Grouped true 243 → Lays (λ n. partRead air v part.Sources f n at) at b r
     sources-lay g = part-lays v l part.Sources refl (g .group) (g .read false) (in-value 243 (groupBytes (g .group)) (g .area) ∙ sym (group-sources v (l .fits) (g .group) (fifteen true 243 g)))
 
-    pub destinations-lay : Grouped true 349 → Lays (λ n. partRead air v part.Destinations f n at) b r
+    pub destinations-lay : Grouped true 349 → Lays (λ n. partRead air v part.Destinations f n at) at b r
     destinations-lay g = part-lays v l part.Destinations refl (g .group) (g .read true) (in-value 349 (groupBytes (g .group)) (g .area) ∙ sym (group-destinations v (l .fits) (g .group) (fifteen true 349 g)))
 
     -- ---- a number in c bytes from byte o on
 
     number-lay : (k o c : ℕ) → ((x : ℕ) → valueBytes (withNumber k x v) ≡ sets (valueBytes v) o (numberBytes c x)) → hasBytes (part.Number k) ≡ true
-        → r ≡ at + widthOf k → b ≡ sets a o (numberBytes c (fieldAt f at (widthOf k))) → Lays (λ n. partRead air v (part.Number k) f n at) b r
+        → r ≡ at + widthOf k → b ≡ sets a o (numberBytes c (fieldAt f at (widthOf k))) → Lays (λ n. partRead air v (part.Number k) f n at) at b r
     number-lay k o c bytes h e w =
         part-lays v l (part.Number k) h (fieldAt f at (widthOf k))
         (λ n i. number-got (elementOf k) f n at (widthOf k) (omega (arith, e, i)) ∙ ap (λ (q : ℕ). got (fieldAt f at (widthOf k)) q) (sym e))
@@ -164,37 +166,37 @@ module _ (air : Air) (f : ℕ → ℕ) (binary : Binary f) (a b : List ℕ) (at 
         let same : x ≡ fieldAt f at w % 256 = is ∙ sym (mod-eq-of-lt few) in
         e ∙ ap (λ (y : ℕ). set a o y) same
 
-    pub identifier-lay : r ≡ at + 14 → b ≡ sets a 119 (numberBytes 2 (fieldAt f at 14)) → Lays (λ n. partRead air v (part.Number 0) f n at) b r
+    pub identifier-lay : r ≡ at + 14 → b ≡ sets a 119 (numberBytes 2 (fieldAt f at 14)) → Lays (λ n. partRead air v (part.Number 0) f n at) at b r
     unfolding widthOf widths sizeOf sizes
     identifier-lay e w = number-lay 0 119 2 (λ x. identifier-bytes v (l .fits) x) refl e w
 
-    pub mni-lay : r ≡ at + 24 → b ≡ sets a 234 (numberBytes 3 (fieldAt f at 24)) → Lays (λ n. partRead air v (part.Number 4) f n at) b r
+    pub mni-lay : r ≡ at + 24 → b ≡ sets a 234 (numberBytes 3 (fieldAt f at 24)) → Lays (λ n. partRead air v (part.Number 4) f n at) at b r
     unfolding widthOf widths sizeOf sizes
     mni-lay e w = number-lay 4 234 3 (λ x. mni-bytes v (l .fits) x) refl e w
 
-    pub cause-lay : (x : ℕ) → x ≡ fieldAt f at 5 → r ≡ at + 5 → b ≡ set a 118 x → Lays (λ n. partRead air v (part.Number 1) f n at) b r
+    pub cause-lay : (x : ℕ) → x ≡ fieldAt f at 5 → r ≡ at + 5 → b ≡ set a 118 x → Lays (λ n. partRead air v (part.Number 1) f n at) at b r
     unfolding widthOf widths sizeOf sizes
     cause-lay x is e w = number-lay 1 118 1 (λ y. cause-bytes v (l .fits) y) refl e (byte-lay 118 5 x is (omega arith) w)
 
-    calling-area-lay : (x : ℕ) → x ≡ fieldAt f at 4 → r ≡ at + 4 → b ≡ set a 237 x → Lays (λ n. partRead air v (part.Number 5) f n at) b r
+    calling-area-lay : (x : ℕ) → x ≡ fieldAt f at 4 → r ≡ at + 4 → b ≡ set a 237 x → Lays (λ n. partRead air v (part.Number 5) f n at) at b r
     unfolding widthOf widths sizeOf sizes
     calling-area-lay x is e w = number-lay 5 237 1 (λ y. calling-area-bytes v (l .fits) y) refl e (byte-lay 237 4 x is (omega arith) w)
 
-    called-area-lay : (x : ℕ) → x ≡ fieldAt f at 4 → r ≡ at + 4 → b ≡ set a 238 x → Lays (λ n. partRead air v (part.Number 6) f n at) b r
+    called-area-lay : (x : ℕ) → x ≡ fieldAt f at 4 → r ≡ at + 4 → b ≡ set a 238 x → Lays (λ n. partRead air v (part.Number 6) f n at) at b r
     unfolding widthOf widths sizeOf sizes
     called-area-lay x is e w = number-lay 6 238 1 (λ y. called-area-bytes v (l .fits) y) refl e (byte-lay 238 4 x is (omega arith) w)
 
-    calling-service-lay : (x : ℕ) → x ≡ fieldAt f at 2 → r ≡ at + 2 → b ≡ set a 239 x → Lays (λ n. partRead air v (part.Number 7) f n at) b r
+    calling-service-lay : (x : ℕ) → x ≡ fieldAt f at 2 → r ≡ at + 2 → b ≡ set a 239 x → Lays (λ n. partRead air v (part.Number 7) f n at) at b r
     unfolding widthOf widths sizeOf sizes
     calling-service-lay x is e w = number-lay 7 239 1 (λ y. calling-service-bytes v (l .fits) y) refl e (byte-lay 239 2 x is (omega arith) w)
 
-    called-service-lay : (x : ℕ) → x ≡ fieldAt f at 2 → r ≡ at + 2 → b ≡ set a 240 x → Lays (λ n. partRead air v (part.Number 8) f n at) b r
+    called-service-lay : (x : ℕ) → x ≡ fieldAt f at 2 → r ≡ at + 2 → b ≡ set a 240 x → Lays (λ n. partRead air v (part.Number 8) f n at) at b r
     unfolding widthOf widths sizeOf sizes
     called-service-lay x is e w = number-lay 8 240 1 (λ y. called-service-bytes v (l .fits) y) refl e (byte-lay 240 2 x is (omega arith) w)
 
     -- ---- nothing
 
-    pub nothing-lay : b ≡ a → r ≡ at → Lays (λ n. partRead air v part.Nothing f n at) b r
+    pub nothing-lay : b ≡ a → r ≡ at → Lays (λ n. partRead air v part.Nothing f n at) at b r
     nothing-lay e h = part-lays v l part.Nothing refl tt (λ n i. ap (λ (q : ℕ). got tt q) (sym h)) (e ∙ l .bytes)
 
     -- ---- result and reason
@@ -208,12 +210,12 @@ module _ (air : Air) (f : ℕ → ℕ) (binary : Binary f) (a b : List ℕ) (at 
         let l₁ = byte-laid a v l place.result x 116 refl (result-bytes v (l .fits) x) h in
         byte-laid (set a 116 x) (withNumber place.result x v) l₁ place.reason y 117 refl (reason-bytes (withNumber place.result x v) (l₁ .fits) y) k
 
-    pub accepted-lay : fieldAt f at 1 ≡ 1 → r ≡ at + 1 → b ≡ set (set a 116 1) 117 0 → Lays (λ n. partRead air v part.Result f n at) b r
+    pub accepted-lay : fieldAt f at 1 ≡ 1 → r ≡ at + 1 → b ≡ set (set a 116 1) 117 0 → Lays (λ n. partRead air v part.Result f n at) at b r
     unfolding resultC
     accepted-lay bit e w =
         part-lays v l part.Result refl (1, 0) (λ n i. rw (number-got element.result f n at 1 (omega (arith, e, i)), bit, ← e)) (w ∙ two-numbers 1 0 (omega arith) (omega arith) .bytes)
 
-    pub rejected-lay : (x : ℕ) → fieldAt f at 1 ≡ 0 → x ≡ fieldAt f (at + 1) 7 → r ≡ at + 8 → b ≡ set (set a 116 0) 117 x → Lays (λ n. partRead air v part.Result f n at) b r
+    pub rejected-lay : (x : ℕ) → fieldAt f at 1 ≡ 0 → x ≡ fieldAt f (at + 1) 7 → r ≡ at + 8 → b ≡ set (set a 116 0) 117 x → Lays (λ n. partRead air v part.Result f n at) at b r
     unfolding resultC
     rejected-lay x bit is e w =
         let few : x < 2 ^ 8 = omega (arith, is, field-lt f binary (at + 1) 7) in
@@ -242,7 +244,7 @@ module _ (air : Air) (f : ℕ → ℕ) (binary : Binary f) (a b : List ℕ) (at 
       first-of : w ≡ fieldAt f at 1 * 64 + fieldAt f (at + 1) 6
       first-of = is ∙ field-split f at 1 6
 
-      pub state-lay : 64 ≤ w → r ≡ at + 7 → b ≡ stored 1 0 (w / 32 % 2) (w / 16 % 2) (w / 4 % 4) (w % 4) → Lays (λ n. partRead air v part.Interrogation f n at) b r
+      pub state-lay : 64 ≤ w → r ≡ at + 7 → b ≡ stored 1 0 (w / 32 % 2) (w / 16 % 2) (w / 4 % 4) (w % 4) → Lays (λ n. partRead air v part.Interrogation f n at) at b r
       unfolding stateC whyNotC ifAcceptedC
       state-lay h e area =
           let p₂ : at + 1 + 1 ≡ at + 2 = omega arith in
@@ -275,7 +277,7 @@ module _ (air : Air) (f : ℕ → ℕ) (binary : Binary f) (a b : List ℕ) (at 
           (area ∙ six-numbers (record { result = 1; reason = 0; activation = w / 32 % 2; interception = w / 16 % 2; called = w / 4 % 4; calling = w % 4 })
           (omega arith) (omega arith) (omega arith) (omega arith) (omega arith) (omega arith) .bytes)
 
-      pub no-state-lay : w < 64 → r ≡ at + 4 → b ≡ stored 0 (w / 8) 0 0 0 0 → Lays (λ n. partRead air v part.Interrogation f n at) b r
+      pub no-state-lay : w < 64 → r ≡ at + 4 → b ≡ stored 0 (w / 8) 0 0 0 0 → Lays (λ n. partRead air v part.Interrogation f n at) at b r
       unfolding stateC whyNotC ifAcceptedC
       no-state-lay h e area =
           let p₄ : at + 1 + 3 ≡ r = omega (arith, e) in
@@ -289,14 +291,14 @@ module _ (air : Air) (f : ℕ → ℕ) (binary : Binary f) (a b : List ℕ) (at 
 
     -- ---- the mask
 
-    pub no-mask-lay : fieldAt f at 1 ≡ 0 → r ≡ at + 1 → b ≡ sets a 107 (0 ∷ numberBytes 8 0) → Lays (λ n. partRead air v part.Masked f n at) b r
+    pub no-mask-lay : fieldAt f at 1 ≡ 0 → r ≡ at + 1 → b ≡ sets a 107 (0 ∷ numberBytes 8 0) → Lays (λ n. partRead air v part.Masked f n at) at b r
     unfolding maskedC flag
     no-mask-lay bit e w =
         part-lays v l part.Masked refl (false, 0) (λ n i. rw (number-got element.maskPresent f n at 1 (omega (arith, e, i)), bit, ← e))
         (in-value 107 (0 ∷ numberBytes 8 0) w ∙ sym (whole-mask v (l .fits) false 0))
 
     pub mask-lay : (k m : ℕ) → k ≡ min (spanOf air (v .users)) 64 → fieldAt f at 1 ≡ 1 → m ≡ fieldAt f (at + 1) k * 2 ^ (64 - k) → r ≡ at + 1 + k
-        → b ≡ sets a 107 (1 ∷ numberBytes 8 m) → Lays (λ n. partRead air v part.Masked f n at) b r
+        → b ≡ sets a 107 (1 ∷ numberBytes 8 m) → Lays (λ n. partRead air v part.Masked f n at) at b r
     unfolding maskedC maskC flag
     mask-lay k m few bit is e w =
         part-lays v l part.Masked refl (true, m)
@@ -310,7 +312,7 @@ module _ (air : Air) (f : ℕ → ℕ) (binary : Binary f) (a b : List ℕ) (at 
       pub area : b ≡ sets a 455 (areasBytes areas)
       pub read : (n : ℕ) → r ≤ n → areasC air .read f n at ≡ got areas r
 
-    pub areas-lay : Area-list → Lays (λ n. partRead air v part.Areas f n at) b r
+    pub areas-lay : Area-list → Lays (λ n. partRead air v part.Areas f n at) at b r
     areas-lay g =
         let long = areas-fit air (g .areas) (ok-of (good-areas air) f binary r at (g .areas) r (g .read r (omega arith))) in
         part-lays v l part.Areas refl (g .areas) (g .read) (in-value 455 (areasBytes (g .areas)) (g .area) ∙ sym (all-areas v (l .fits) (g .areas) long))
@@ -322,6 +324,7 @@ pub record Addresses (f : ℕ → ℕ) (k at : ℕ) (a b : List ℕ) (p r : ℕ)
   pub long : length list ≡ k
   pub area : b ≡ sets a p (rowsBytes addressBytes list)
   pub read : (external : Bool) (n : ℕ) → r ≤ n → vecRead (addressC external) k f n at ≡ got list r
+  pub after : at ≤ r
 
 abbrev firstIn : Read (List Address) → Read Address
 firstIn (got l q) = got (getD l 0 nobody) q
@@ -345,13 +348,13 @@ module _ (air : Air) (f : ℕ → ℕ) (binary : Binary f) (a b : List ℕ) (at 
   one-read : (p : ℕ) (d : Addresses f 1 at a b p r) (n : ℕ) → r ≤ n → addressC false .read f n at ≡ got (getD (d .list) 0 nobody) r
   one-read p d n h = sym (vec-one false f n at) ∙ ap firstIn (d .read false n h)
 
-  pub user-lay : (i : ℕ) → i < 15 → Addresses f 1 at a b (2 + 7 * i) r → Lays (λ n. partRead air v (part.User i) f n at) b r
+  pub user-lay : (i : ℕ) → i < 15 → Addresses f 1 at a b (2 + 7 * i) r → Lays (λ n. partRead air v (part.User i) f n at) at b r
   user-lay i h d =
       let x = getD (d .list) 0 nobody in
       part-lays air f binary a b at r v l (part.User i) refl x (one-read (2 + 7 * i) d)
       (in-value air f binary a b at r v l (2 + 7 * i) (addressBytes x) (d .area ∙ ap (λ (m : List ℕ). sets a (2 + 7 * i) m) (one-row (d .list) (d .long))) ∙ sym (user-bytes v (l .fits) i x h))
 
-  pub dispatcher-lay : Addresses f 1 at a b 123 r → Lays (λ n. partRead air v part.Dispatcher f n at) b r
+  pub dispatcher-lay : Addresses f 1 at a b 123 r → Lays (λ n. partRead air v part.Dispatcher f n at) at b r
   dispatcher-lay d =
       let x = getD (d .list) 0 nobody in
       part-lays air f binary a b at r v l part.Dispatcher refl x (one-read 123 d)
