@@ -100,11 +100,11 @@ address-fits external a e =
 -- ---- groups
 
 -- n addresses that fit
-record Run (n : ℕ) (l : List Address) : Type 0 where
-  long : length l ≡ n
-  each : All Address-fits l
+pub record Run (n : ℕ) (l : List Address) : Type 0 where
+  pub long : length l ≡ n
+  pub each : All Address-fits l
 
-ok-run : (external : Bool) (n : ℕ) (l : List Address) → vecOk (addressC external) n l ≡ true → Run n l
+pub ok-run : (external : Bool) (n : ℕ) (l : List Address) → vecOk (addressC external) n l ≡ true → Run n l
 ok-run external zero [] e = record { long = refl; each = none }
 ok-run external zero (a ∷ l) e = not-both e
 ok-run external (suc n) [] e = not-both e

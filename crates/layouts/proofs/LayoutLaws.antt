@@ -52,7 +52,7 @@ address-there l h k =
     rw (number-there 3 (drop 1 l) (bytes-drop 1 l h) a, number-there 3 (drop 4 l) (bytes-drop 4 l h) b)
     (ap (λ (x : List ℕ). getD l 0 0 ∷ x) (sym (take-add 3 3 (drop 1 l) ∙ rw (drop-drop 3 1 l))) ∙ sym (ap (λ (x : List ℕ). take 7 x) c))
 
-address-back : (a : Address) (ys : List ℕ) → Address-fits a → addressFrom (addressBytes a ++ ys) ≡ a
+pub address-back : (a : Address) (ys : List ℕ) → Address-fits a → addressFrom (addressBytes a ++ ys) ≡ a
 unfolding addressBytes addressFrom
 address-back a ys p =
     let xs = numberBytes 3 (a .ssi) in

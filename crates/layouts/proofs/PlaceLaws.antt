@@ -4,16 +4,17 @@ use mathlib.Core.Path.{_≡_, refl, sym, ap, _∙_}
 use mathlib.Core.Bool.{Bool, true, false, cond}
 use mathlib.Core.List.{List, [], _∷_, _++_, append-assoc, append-nil}
 use native.Mathlib.Nat.{sub-zero, suc-sub-suc, add-zero}
+use native.Mathlib.Numerals.{add-one}
 use native.Mathlib.Omega.{arith}
 use lib.Dec.{eqb, leb}
-use lib.ListN.{length, getD, drop, set, replicate, length-append, length-replicate}
-use lib.Seq.{sets, sets-eq, length-sets, drop-drop}
+use lib.ListN.{length, getD, take, drop, set, replicate, length-append, length-replicate}
+use lib.Seq.{sets, sets-eq, length-sets, drop-drop, drop-at, length-take-le}
 use borrow.Author.Tests.{eq-eqb, ne-eqb, le-leb}
 use Rattle.bits.specs.Fields.{fieldAt}
 use Rattle.bits.proofs.FieldLaws.{field-lt}
 use Rattle.codec.specs.Codec.{Read, got, no, bind, both, vecRead}
 use Rattle.codec.proofs.Good.{Binary, both-true}
-use Rattle.codec.proofs.Combinators.{number-got}
+use Rattle.codec.proofs.Combinators.{number-got, good-vec}
 use Rattle.profile.specs.Rules.{reserved, meaningOf, meaningIn}
 use Rattle.profile.specs.declared.Kind.the-variants as kind
 use Rattle.profile.specs.declared.Meaning.{Meaning}
@@ -31,9 +32,11 @@ use Rattle.layouts.specs.Profiles.{meaningFrom, airFrom}
 use Rattle.layouts.specs.Values.{addressBytes, addressFrom, groupBytes, groupFrom, byteBytes, areasBytes, valueBytes, valueFrom}
 use Rattle.layouts.proofs.ByteLaws.{byte-here, sets-append}
 use Rattle.layouts.proofs.PutLaws.{length-address}
-use Rattle.layouts.proofs.RowLaws.{rows-length, number-back}
-use Rattle.layouts.proofs.LayoutLaws.{fits-back}
-use Rattle.layouts.proofs.PartLaws.{Laid, Grouped, Area-list, Addresses}
+use Rattle.message.proofs.AddressLaws.{good-address}
+use Rattle.layouts.proofs.RowLaws.{All, none, more, rows-length, number-back}
+use Rattle.layouts.proofs.FitLaws.{Address-fits, ok-run}
+use Rattle.layouts.proofs.LayoutLaws.{address-back, fits-back}
+use Rattle.layouts.proofs.PartLaws.{ok-of, Laid, Grouped, Area-list, Addresses}
 
 abbrev zeros : ℕ → List ℕ
 zeros n = replicate n 0
@@ -128,8 +131,14 @@ pub record Places (f : ℕ → ℕ) (k at : ℕ) (a b : List ℕ) (p r : ℕ) : 
   pub list : List Address
   pub area : b ≡ sets a p (rowsBytes addressBytes list)
   pub read : (external : Bool) (n : ℕ) → r ≤ n → placesC external k .read f n at ≡ got list r
+  pub after : at ≤ r
+  -- those that are there
+  pub some : List Address
+  pub long : length some ≡ k
+  pub first : list ≡ sets (replicate 15 nobody) 0 some
+  pub each : All Address-fits some
 
-module _ (f : ℕ → ℕ) (k at : ℕ) (few : k ≤ 15) (a b c : List ℕ) (p r : ℕ) where
+module _ (f : ℕ → ℕ) (binary : Binary f) (k at : ℕ) (few : k ≤ 15) (a b c : List ℕ) (p r : ℕ) where
   pub places-of : Addresses f k at a b p r → c ≡ sets b (p + 7 * k) (zeros (105 - 7 * k)) → Places f k at a c p r
   unfolding placesC nobodies
   places-of d w =
@@ -141,6 +150,11 @@ module _ (f : ℕ → ℕ) (k at : ℕ) (few : k ≤ 15) (a b c : List ℕ) (p r
             placed addressBytes nobody 7 length-address nobody-bytes a b c p (d .list) (omega (arith, d .long, few)) (d .area)
             (w ∙ ap (λ (i : ℕ). sets b i (zeros (105 - 7 * k))) e ∙ ap (λ (i : ℕ). sets b (p + 7 * length (d .list)) (zeros i)) n);
         read = λ external n h. rw (d .read external n h);
+        after = d .after;
+        some = d .list;
+        long = d .long;
+        first = refl;
+        each = ok-run false k (d .list) (ok-of (good-vec (addressC false) (good-address false) k) f binary r at (d .list) r (d .read false r (omega arith))) .each;
       }
 
   -- none of them: the position stays
@@ -151,4 +165,99 @@ module _ (f : ℕ → ℕ) (k at : ℕ) (few : k ≤ 15) (a b c : List ℕ) (p r
         list = replicate 15 nobody;
         area = w ∙ ap (λ (bs : List ℕ). sets a p bs) (sym (rows-none addressBytes nobody 7 length-address nobody-bytes 15));
         read = λ external n i. rw (z, h);
+        after = omega (arith, h);
+        some = [];
+        long = sym z;
+        first = refl;
+        each = none;
       }
+
+-- ---- the ends of a range, where they lie
+
+module _ (l bs : List ℕ) (p : ℕ) (room : p + length bs ≤ length l) where
+  drop-sets : drop p (sets l p bs) ≡ bs ++ drop (p + length bs) l
+  drop-sets =
+      ap (λ (x : List ℕ). drop p x) (sets-eq bs l p room ∙ append-assoc (take p l) bs (drop (p + length bs) l))
+      ∙ drop-at (take p l) (bs ++ drop (p + length bs) l) p (length-take-le p l (omega arith))
+
+module _ (a b : List ℕ) (p : ℕ) (x y : Address) (rest : List Address) (fx : Address-fits x) (fy : Address-fits y)
+    (e : b ≡ sets a p (rowsBytes addressBytes (x ∷ y ∷ rest))) (room : p + length (rowsBytes addressBytes (x ∷ y ∷ rest)) ≤ length a) where
+  behind-first : List ℕ
+  behind-first = rowsBytes addressBytes rest ++ drop (p + length (rowsBytes addressBytes (x ∷ y ∷ rest))) a
+
+  both-there : drop p b ≡ addressBytes x ++ (addressBytes y ++ behind-first)
+  unfolding rowsBytes behind-first
+  both-there =
+      ap (λ (l : List ℕ). drop p l) e ∙ drop-sets a (rowsBytes addressBytes (x ∷ y ∷ rest)) p room
+      ∙ append-assoc (addressBytes x) (addressBytes y ++ rowsBytes addressBytes rest) _
+      ∙ ap (λ (l : List ℕ). addressBytes x ++ l) (append-assoc (addressBytes y) (rowsBytes addressBytes rest) _)
+
+  first-there : addressFrom (drop p b) ≡ x
+  first-there = ap addressFrom both-there ∙ address-back x (addressBytes y ++ behind-first) fx
+
+  second-there : addressFrom (drop (p + 7) b) ≡ y
+  second-there =
+      ap addressFrom (sym (drop-drop 7 p b) ∙ ap (λ (l : List ℕ). drop 7 l) both-there ∙ drop-at (addressBytes x) (addressBytes y ++ behind-first) 7 (length-address x))
+      ∙ address-back y behind-first fy
+
+-- two addresses that were laid
+two-laid : (f : ℕ → ℕ) (at : ℕ) (a b : List ℕ) (p r : ℕ) (d : Places f 2 at a b p r) → p + 105 ≤ length a
+    → rangeOk (addressFrom (drop p b)) (addressFrom (drop (p + 7) b)) ≡ rangeOk (getD (d .list) 0 nobody) (getD (d .list) 1 nobody)
+two-laid f at a b p r d room = go (d .some) (d .long) (d .each) (d .first)
+  where
+    go : (l : List Address) → length l ≡ 2 → All Address-fits l → d .list ≡ sets (replicate 15 nobody) 0 l
+        → rangeOk (addressFrom (drop p b)) (addressFrom (drop (p + 7) b)) ≡ rangeOk (getD (d .list) 0 nobody) (getD (d .list) 1 nobody)
+    go [] e q s = absurd (omega (arith, e))
+    go (x ∷ []) e q s = absurd (omega (arith, e))
+    go (x ∷ y ∷ z ∷ l) e q s = absurd (omega (arith, e))
+    go (x ∷ y ∷ []) e (more fx (more fy none)) s =
+        let area : b ≡ sets a p (rowsBytes addressBytes (x ∷ y ∷ replicate 13 nobody)) = d .area ∙ ap (λ (l : List Address). sets a p (rowsBytes addressBytes l)) s in
+        let long : length (rowsBytes addressBytes (x ∷ y ∷ replicate 13 nobody)) ≡ 105 = rows-row addressBytes nobody 7 length-address nobody-bytes (x ∷ y ∷ replicate 13 nobody) in
+        let fit : p + length (rowsBytes addressBytes (x ∷ y ∷ replicate 13 nobody)) ≤ length a = omega (arith, long, room) in
+        rw (first-there a b p x y (replicate 13 nobody) fx fy area fit, second-there a b p x y (replicate 13 nobody) fx fy area fit, s)
+
+-- ---- groups
+
+module _ (profile : List ℕ) (f : ℕ → ℕ) (binary : Binary f) (at : ℕ) (a a₁ b : List ℕ) (o r range m : ℕ) (is : range ≡ fieldAt f at 4) (ranged : a₁ ≡ set a o range)
+    (meant : m ≡ getD profile (6 + range) 0) where
+  abbrev air : Air
+  air = airFrom profile
+
+  small : fieldAt f at 4 < 16
+  small = field-lt f binary at 4
+
+  meaning : meaningIn (air .meanings) (fieldAt f at 4) ≡ meaningOf m
+  meaning = means profile (fieldAt f at 4) small ∙ ap meaningOf (sym (meant ∙ ap (λ (x : ℕ). getD profile (6 + x) 0) is))
+
+  grouped : (may : Bool) (list : List Address) → allowedIn may (meaningOf m) ≡ true → b ≡ sets a₁ (o + 1) (rowsBytes addressBytes list) → at + 4 ≤ r
+      → ((external : Bool) (n : ℕ) → r ≤ n → addressesC external (meaningOf m) .read f n (at + 4) ≡ got list r) → Grouped air f binary a b at r may o
+  unfolding groupC rangeC groupBytes
+  grouped may list ok area fore read =
+      record {
+        group = record { range = fieldAt f at 4; addresses = list };
+        area =
+            area ∙ ap (λ (l : List ℕ). sets l (o + 1) (rowsBytes addressBytes list)) (ranged ∙ ap (λ (x : ℕ). set a o x) is)
+            ∙ ap (λ (i : ℕ). sets (set a o (fieldAt f at 4)) i (rowsBytes addressBytes list)) (add-one o);
+        read = λ external n h. rw (number-got element.range f n at 4 (omega (arith, fore, h)), meaning, ok, meaning, read external n h);
+      }
+
+  pub list-grouped : (may : Bool) → (m ≡ 0 → ⊥) → m < 16 → Places f m (at + 4) a₁ b (o + 1) r → Grouped air f binary a b at r may o
+  unfolding addressesC addressesIn endsOk allowedIn
+  list-grouped may z h d =
+      grouped may (d .list)
+      (rw (list-meant m z h) (both-true (leb 1 m) (leb m 15) (le-leb 1 m (one-or-more z)) (le-leb m 15 (omega arith)))) (d .area) (d .after)
+      (λ external n i. rw (list-meant m z h, d .read external n i))
+    where
+      one-or-more : (m ≡ 0 → ⊥) → 1 ≤ m
+      one-or-more z = omega (arith, z)
+
+  pub none-grouped : m ≡ 16 → Places f 0 (at + 4) a₁ b (o + 1) r → Grouped air f binary a b at r true o
+  unfolding addressesC addressesIn endsOk allowedIn
+  none-grouped e d = grouped true (d .list) (rw (none-meant m e)) (d .area) (d .after) (λ external n i. rw (none-meant m e, d .read external n i))
+
+  pub ends-grouped : (may : Bool) → m ≡ 17 → (d : Places f 2 (at + 4) a₁ b (o + 1) r) → o + 1 + 105 ≤ length a₁
+      → rangeOk (addressFrom (drop (o + 1) b)) (addressFrom (drop (o + 1 + 7) b)) ≡ true → Grouped air f binary a b at r may o
+  unfolding addressesC addressesIn endsOk allowedIn
+  ends-grouped may e d room ok =
+      let ends = sym (two-laid f (at + 4) a₁ b (o + 1) r d room) ∙ ok in
+      grouped may (d .list) (rw (ends-meant m e)) (d .area) (d .after) (λ external n i. rw (ends-meant m e, d .read external n i, ends))
