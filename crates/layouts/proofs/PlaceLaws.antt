@@ -8,8 +8,8 @@ use native.Mathlib.Numerals.{add-one}
 use native.Mathlib.Omega.{arith}
 use lib.Dec.{eqb, leb}
 use lib.ListN.{length, getD, take, drop, set, replicate, length-append, length-replicate}
-use lib.Seq.{sets, sets-eq, length-sets, drop-drop, drop-at, length-take-le}
-use borrow.Author.Tests.{eq-eqb, ne-eqb, le-leb}
+use lib.Seq.{sets, sets-eq, length-sets, drop-drop, getD-drop, drop-at, length-take-le}
+use borrow.Author.Tests.{eq-eqb, ne-eqb, le-leb, eqb-true, eqb-false}
 use Rattle.bits.specs.Fields.{fieldAt}
 use Rattle.bits.proofs.FieldLaws.{field-lt}
 use Rattle.codec.specs.Codec.{Read, got, no, bind, both, vecRead}
@@ -70,6 +70,10 @@ firstAndLast = record { kind = kind.FirstLast; count = 0 }
 list-meant : (m : ℕ) → (m ≡ 0 → ⊥) → m < 16 → meaningOf m ≡ listOf m
 unfolding meaningOf
 list-meant m z h = rw (ne-eqb m 0 z, ne-eqb m 16 (λ e. omega (arith, e)), ne-eqb m 17 (λ e. omega (arith, e)))
+
+none-listed : (m : ℕ) → m ≡ 0 → meaningOf m ≡ reserved
+unfolding meaningOf
+none-listed m e = rw e
 
 none-meant : (m : ℕ) → m ≡ 16 → meaningOf m ≡ noneAtAll
 unfolding meaningOf
@@ -261,3 +265,149 @@ module _ (profile : List ℕ) (f : ℕ → ℕ) (binary : Binary f) (at : ℕ) (
   ends-grouped may e d room ok =
       let ends = sym (two-laid f (at + 4) a₁ b (o + 1) r d room) ∙ ok in
       grouped may (d .list) (rw (ends-meant m e)) (d .area) (d .after) (λ external n i. rw (ends-meant m e, d .read external n i, ends))
+
+-- ---- areas
+
+-- k areas from position at on
+unfoldable pub fours : (ℕ → ℕ) → ℕ → ℕ → List ℕ
+fours f at zero = []
+fours f at (suc k) = fieldAt f at 4 ∷ fours f (at + 4) k
+
+length-fours : (f : ℕ → ℕ) (at k : ℕ) → length (fours f at k) ≡ k
+unfolding fours
+length-fours f at zero = refl
+length-fours f at (suc k) = ap suc (length-fours f (at + 4) k)
+
+fours-read : (f : ℕ → ℕ) (at k n : ℕ) → at + 4 * k ≤ n → vecRead areaC k f n at ≡ got (fours f at k) (at + 4 * k)
+unfolding fours vecRead
+fours-read f at zero n h = let z : at + 4 * 0 ≡ at = omega arith in rw z
+fours-read f at (suc k) n h =
+    let e : at + 4 + 4 * k ≡ at + 4 * suc k = omega arith in
+    rw (number-got element.area f n at 4 (omega arith), fours-read f (at + 4) k n (omega arith), e)
+
+-- the loop: area i goes to its byte, and the others after it
+pub fours-start : (f : ℕ → ℕ) (at k : ℕ) (a : List ℕ) → sets a 456 (fours f at k) ≡ sets a (456 + 0) (fours f (at + 4 * 0) (k - 0))
+fours-start f at k a = let z : at + 4 * 0 ≡ at = omega arith in rw (z, sub-zero)
+
+pub fours-turn : (f : ℕ → ℕ) (at k i x : ℕ) (a m new : List ℕ) → i < k → sets a 456 (fours f at k) ≡ sets m (456 + i) (fours f (at + 4 * i) (k - i)) → x ≡ fieldAt f (at + 4 * i) 4
+    → new ≡ set m (456 + i) x → sets a 456 (fours f at k) ≡ sets new (456 + (i + 1)) (fours f (at + 4 * (i + 1)) (k - (i + 1)))
+unfolding fours
+fours-turn f at k i x a m new h e is w =
+    let n : k - i ≡ suc (k - (i + 1)) = omega arith in
+    let p : at + 4 * i + 4 ≡ at + 4 * (i + 1) = omega arith in
+    let q : suc (456 + i) ≡ 456 + (i + 1) = omega arith in
+    let others = k - (i + 1) in
+    e ∙ ap (λ (j : ℕ). sets m (456 + i) (fours f (at + 4 * i) j)) n
+    ∙ ap (λ (y : ℕ). sets (set m (456 + i) y) (suc (456 + i)) (fours f (at + 4 * i + 4) others)) (sym is)
+    ∙ ap (λ (l : List ℕ). sets l (suc (456 + i)) (fours f (at + 4 * i + 4) others)) (sym w)
+    ∙ ap (λ (j : ℕ). sets new j (fours f (at + 4 * i + 4) others)) q
+    ∙ ap (λ (j : ℕ). sets new (456 + (i + 1)) (fours f j others)) p
+
+pub fours-end : (f : ℕ → ℕ) (at k i : ℕ) (a m : List ℕ) → k ≤ i → sets a 456 (fours f at k) ≡ sets m (456 + i) (fours f (at + 4 * i) (k - i)) → m ≡ sets a 456 (fours f at k)
+unfolding fours
+fours-end f at k i a m h e = let z : k - i ≡ 0 = omega arith in sym (e ∙ rw z)
+
+pub record Area-places (f : ℕ → ℕ) (k at : ℕ) (a b : List ℕ) (r : ℕ) : Type 0 where
+  pub area : b ≡ sets a 456 (rowsBytes byteBytes (sets (replicate 15 0) 0 (fours f at k)))
+  pub next : r ≡ at + 4 * k
+
+rows-bytes : (l : List ℕ) → rowsBytes byteBytes l ≡ l
+unfolding rowsBytes
+rows-bytes [] = refl
+rows-bytes (x ∷ l) = ap (λ (m : List ℕ). x ∷ m) (rows-bytes l)
+
+pub area-places : (f : ℕ → ℕ) (k at : ℕ) → k ≤ 15 → (a m c : List ℕ) (r : ℕ) → m ≡ sets a 456 (fours f at k) → c ≡ sets m (456 + k) (zeros (15 - k)) → r ≡ at + 4 * k
+    → Area-places f k at a c r
+area-places f k at few a m c r e w h =
+    let l : length (fours f at k) ≡ k = length-fours f at k in
+    let i : 456 + k ≡ 456 + 1 * length (fours f at k) = omega (arith, l) in
+    let n : 15 - k ≡ 1 * (15 - length (fours f at k)) = omega (arith, l) in
+    record {
+      area =
+          placed byteBytes 0 1 (λ b. refl) refl a m c 456 (fours f at k) (omega (arith, l, few)) (e ∙ ap (λ (x : List ℕ). sets a 456 x) (sym (rows-bytes (fours f at k))))
+          (w ∙ ap (λ (j : ℕ). sets m j (zeros (15 - k))) i ∙ ap (λ (j : ℕ). sets m (456 + 1 * length (fours f at k)) (zeros j)) n);
+      next = h;
+    }
+
+module _ (profile : List ℕ) (f : ℕ → ℕ) (binary : Binary f) (at : ℕ) (a a₁ b : List ℕ) (r range m : ℕ) (is : range ≡ fieldAt f at 4) (ranged : a₁ ≡ set a 455 range)
+    (meant : m ≡ getD profile (6 + range) 0) (v : Value) (l : Laid a v) where
+  abbrev areas-air : Air
+  areas-air = airFrom profile
+
+  area-meaning : meaningIn (areas-air .meanings) (fieldAt f at 4) ≡ meaningOf m
+  area-meaning = means profile (fieldAt f at 4) (field-lt f binary at 4) ∙ ap meaningOf (sym (meant ∙ ap (λ (x : ℕ). getD profile (6 + x) 0) is))
+
+  area-list : (k : ℕ) → allowedIn true (meaningOf m) ≡ true → addressesIn (meaningOf m) ≡ k → Area-places f k (at + 4) a₁ b r
+      → rises (meaningOf m) (sets (replicate 15 0) 0 (fours f (at + 4) k)) ≡ true → Area-list areas-air f binary a b at r v l
+  unfolding areasC rangeC areaListC areaPlacesC areasBytes
+  area-list k ok many d up =
+      let list = sets (replicate 15 0) 0 (fours f (at + 4) k) in
+      record {
+        areas = record { range = fieldAt f at 4; areas = list };
+        area = d .area ∙ ap (λ (y : List ℕ). sets y 456 (rowsBytes byteBytes list)) (ranged ∙ ap (λ (x : ℕ). set a 455 x) is);
+        read = λ n h.
+        rw (number-got element.range f n at 4 (omega (arith, d .next, h)), area-meaning, ok, area-meaning, many,
+        fours-read f (at + 4) k n (omega (arith, d .next, h)), up, ← d .next);
+      }
+
+  pub list-areas : (m ≡ 0 → ⊥) → m < 16 → Area-places f m (at + 4) a₁ b r → Area-list areas-air f binary a b at r v l
+  unfolding addressesIn rises allowedIn
+  list-areas z h d =
+      area-list m (rw (list-meant m z h) (both-true (leb 1 m) (leb m 15) (le-leb 1 m (omega (arith, z))) (le-leb m 15 (omega arith)))) (rw (list-meant m z h)) d (rw (list-meant m z h))
+
+  pub none-areas : m ≡ 16 → Area-places f 0 (at + 4) a₁ b r → Area-list areas-air f binary a b at r v l
+  unfolding addressesIn rises allowedIn
+  none-areas e d = area-list 0 (rw (none-meant m e)) (rw (none-meant m e)) d (rw (none-meant m e))
+
+  pub ends-areas : m ≡ 17 → Area-places f 2 (at + 4) a₁ b r → 471 ≤ length a₁ → getD b 456 0 ≤ getD b 457 0 → Area-list areas-air f binary a b at r v l
+  unfolding addressesIn rises allowedIn fours
+  ends-areas e d room up =
+      let list = sets (replicate 15 0) 0 (fours f (at + 4) 2) in
+      let bytes : drop 456 b ≡ list ++ drop (456 + length list) a₁ =
+      ap (λ (y : List ℕ). drop 456 y) (d .area ∙ ap (λ (y : List ℕ). sets a₁ 456 y) (rows-bytes list)) ∙ drop-sets a₁ list 456 (omega arith) in
+      let first : getD b 456 0 ≡ fieldAt f (at + 4) 4 = sym (byte-here b 456) ∙ ap (λ (y : List ℕ). getD y 0 0) bytes in
+      let second : getD b 457 0 ≡ fieldAt f (at + 4 + 4) 4 = sym (getD-drop 456 b 1 0) ∙ ap (λ (y : List ℕ). getD y 1 0) bytes in
+      area-list 2 (rw (ends-meant m e)) (rw (ends-meant m e)) d (rw (ends-meant m e) (le-leb (fieldAt f (at + 4) 4) (fieldAt f (at + 4 + 4) 4) (omega (arith, first, second, up))))
+
+-- ---- how many identities the users are, from their bytes
+
+module _ (profile a : List ℕ) (v : Value) (l : Laid a v) where
+  users-there : groupFrom (drop 1 a) ≡ v .users
+  unfolding valueFrom
+  users-there = ap (λ (x : List ℕ). groupFrom (drop 1 x)) (l .bytes) ∙ ap (λ (w : Value). w .users) (fits-back v (l .fits))
+
+  range-there : v .users .range ≡ getD a 1 0
+  unfolding groupFrom
+  range-there = sym (ap (λ (g : Group). g .range) users-there) ∙ byte-here a 1
+
+  ssi-there : (i : ℕ) → i < 15 → getD (v .users .addresses) i nobody .ssi ≡ numberFrom 3 (drop (3 + 7 * i) a)
+  unfolding groupFrom addressFrom
+  ssi-there i h =
+      let p : 2 + 7 * i + 1 ≡ 3 + 7 * i = omega arith in
+      sym (ap (λ (g : Group). getD (g .addresses) i nobody .ssi) users-there)
+      ∙ ap (λ (x : Address). x .ssi) (row-at addressFrom 7 nobody 15 (drop 1 (drop 1 a)) i h)
+      ∙ rw (drop-drop 1 1 a, drop-drop (7 * i) 2 a, drop-drop 1 (2 + 7 * i) a, p)
+
+  module _ (m : ℕ) (small : getD a 1 0 < 16) (meant : m ≡ getD profile (6 + getD a 1 0) 0) where
+    users-mean : meaningIn (airFrom profile .meanings) (v .users .range) ≡ meaningOf m
+    users-mean = ap (λ (x : ℕ). meaningIn (airFrom profile .meanings) x) range-there ∙ means profile (getD a 1 0) small ∙ ap meaningOf (sym meant)
+
+    pub list-spans : m < 16 → m ≡ min (spanOf (airFrom profile) (v .users)) 64
+    unfolding spanOf spanIn
+    list-spans h = rw users-mean (go (eqb m 0) refl)
+      where
+        go : (b : Bool) → eqb m 0 ≡ b → m ≡ min (spanIn (meaningOf m) (v .users .addresses)) 64
+        go true e = let z = eqb-true m 0 e in rw (none-listed m z) (omega (arith, z))
+        go false e = rw (list-meant m (eqb-false m 0 e) h) (omega (arith, h))
+
+    pub none-spans : m ≡ 16 → 0 ≡ min (spanOf (airFrom profile) (v .users)) 64
+    unfolding spanOf spanIn
+    none-spans e = rw (users-mean, none-meant m e) (omega arith)
+
+    pub ends-span : m ≡ 17 → (k first last : ℕ) → first ≡ numberFrom 3 (drop 3 a) → last ≡ numberFrom 3 (drop 10 a) → k ≡ min (last - first + 1) 64
+        → k ≡ min (spanOf (airFrom profile) (v .users)) 64
+    unfolding spanOf spanIn
+    ends-span e k first last f t is =
+        let x : getD (v .users .addresses) 0 nobody .ssi ≡ first = ssi-there 0 (omega arith) ∙ sym f in
+        let y : getD (v .users .addresses) 1 nobody .ssi ≡ last = ssi-there 1 (omega arith) ∙ sym t in
+        rw (users-mean, ends-meant m e, x, y) is
