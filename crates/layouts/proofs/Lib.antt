@@ -8,3 +8,4 @@ pub mod LaidLaws
 pub mod PartLaws
 pub mod RunLaws
 pub mod PlaceLaws
+pub mod RowReads
