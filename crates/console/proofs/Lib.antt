@@ -1,3 +1,4 @@
 pub mod CallLaws
+pub mod LayLaws
 pub mod RoundTrips
 pub mod Cases

@@ -5,9 +5,14 @@ ghost use mathlib.Core.Path.{_≡_};
 ghost use Rattle.console.specs.Console.{cadReadStop, cadReadOf, cadReadArea, cadReadPosition, cadReadElement, cadWriteOf, cadWriteArea, cadWriteBits};
 use codec::Stop;
 
+mod area;
+mod group;
+mod lay;
 mod number;
+mod part;
 mod profiles;
 mod values;
+mod word;
 
 // Reads the first `bits` bits of the message and lays the value's bytes in `value`.
 #[no_mangle]

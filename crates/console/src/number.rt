@@ -2,7 +2,7 @@
 ghost use mathlib.Core.Path.{_≡_};
 ghost use Prim.Native.Nat.{_+_, _*_, _%_, _≤_, _<_, _^_};
 ghost use lib.Dec.{leb};
-ghost use lib.ListN.{getD, drop, set};
+ghost use lib.ListN.{length, getD, drop, set};
 ghost use lib.Seq.{sets};
 ghost use Rattle.profile.specs.Counting.{one, every};
 ghost use Rattle.layouts.specs.Bytes.{numberFrom, numberBytes};
@@ -44,7 +44,7 @@ pub(crate) fn number_at(l: &[u8], at: usize, count: usize) -> u64
     v
 }
 
-fn wide(x: u8) -> u64
+pub(crate) fn wide(x: u8) -> u64
     ensures { λ r. ⌜ (r ≡ x) × (r < 256) ⌝ }
 {
     x as u64
@@ -105,4 +105,26 @@ pub(crate) fn put_number(out: &mut [u8], at: usize, count: usize, v: u64)
         put_byte(out, at + k, (rest % 256) as u8);
         rest = rest / 256;
     }
+}
+
+// The same in bytes that are there.
+pub(crate) fn put_run(out: &mut [u8], at: usize, count: usize, v: u64)
+    requires { ⌜ at + count ≤ length (now out) ⌝ }
+    ensures { λ _. ⌜ now (out .exit) ≡ sets (now (out .entry)) at (numberBytes count v) ⌝ }
+{
+    let mut k = count;
+    let mut rest = v;
+    while k > 0 {
+        k -= 1;
+        out[at + k] = (rest % 256) as u8;
+        rest = rest / 256;
+    }
+}
+
+// The number in three bytes that are there.
+pub(crate) fn triple(l: &[u8], at: usize) -> u64
+    requires { ⌜ at + 3 ≤ length (now l) ⌝ }
+    ensures { λ r. ⌜ (r ≡ numberFrom 3 (drop at (now (l .entry)))) × (r < 2 ^ 24) ⌝ }
+{
+    wide(l[at]) * 65536 + wide(l[at + 1]) * 256 + wide(l[at + 2])
 }

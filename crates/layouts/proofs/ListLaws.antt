@@ -116,7 +116,7 @@ none-put lists l m put none = put ∙ ap (λ (bs : List ℕ). sets l 243 bs) (sy
 abbrev zeros : ℕ → List ℕ
 zeros k = replicate k 0
 
-zeros-turn : (l : List ℕ) (at i : ℕ) → sets l at (zeros (suc i)) ≡ set (sets l at (zeros i)) (at + i) 0
+pub zeros-turn : (l : List ℕ) (at i : ℕ) → sets l at (zeros (suc i)) ≡ set (sets l at (zeros i)) (at + i) 0
 zeros-turn l at zero = let z : at ≡ at + 0 = omega arith in ap (λ (k : ℕ). set l k 0) z
 zeros-turn l at (suc i) = let z : suc at + i ≡ at + suc i = omega arith in zeros-turn (set l at 0) (suc at) i ∙ ap (λ (k : ℕ). set (sets l at (zeros (suc i))) k 0) z
 

@@ -14,8 +14,8 @@ use Rattle.codec.specs.Options.{flag}
 use Rattle.codec.specs.declared.Stop.{Stop}
 use Rattle.codec.proofs.Good.{Good, Binary, View, found, refused, Came, Ended, came, failed, broke, not-both}
 use Rattle.codec.proofs.Combinators.{number-got}
-use Rattle.bits.specs.Fields.{fieldAt}
-use Rattle.bits.proofs.FieldLaws.{field-lt, field-split}
+use Rattle.bits.specs.Fields.{bitAt, fieldAt}
+use Rattle.bits.proofs.FieldLaws.{bit-lt, field-lt, field-split}
 use Rattle.profile.specs.Counting.{one}
 use Rattle.profile.specs.declared.Air.{Air}
 use Rattle.message.specs.Elements as element
@@ -178,19 +178,19 @@ module _ (air : Air) (f : ℕ → ℕ) (binary : Binary f) (a b : List ℕ) (at 
     unfolding widthOf widths sizeOf sizes
     cause-lay x is e w = number-lay 1 118 1 (λ y. cause-bytes v (l .fits) y) refl e (byte-lay 118 5 x is (omega arith) w)
 
-    calling-area-lay : (x : ℕ) → x ≡ fieldAt f at 4 → r ≡ at + 4 → b ≡ set a 237 x → Lays (λ n. partRead air v (part.Number 5) f n at) at b r
+    pub calling-area-lay : (x : ℕ) → x ≡ fieldAt f at 4 → r ≡ at + 4 → b ≡ set a 237 x → Lays (λ n. partRead air v (part.Number 5) f n at) at b r
     unfolding widthOf widths sizeOf sizes
     calling-area-lay x is e w = number-lay 5 237 1 (λ y. calling-area-bytes v (l .fits) y) refl e (byte-lay 237 4 x is (omega arith) w)
 
-    called-area-lay : (x : ℕ) → x ≡ fieldAt f at 4 → r ≡ at + 4 → b ≡ set a 238 x → Lays (λ n. partRead air v (part.Number 6) f n at) at b r
+    pub called-area-lay : (x : ℕ) → x ≡ fieldAt f at 4 → r ≡ at + 4 → b ≡ set a 238 x → Lays (λ n. partRead air v (part.Number 6) f n at) at b r
     unfolding widthOf widths sizeOf sizes
     called-area-lay x is e w = number-lay 6 238 1 (λ y. called-area-bytes v (l .fits) y) refl e (byte-lay 238 4 x is (omega arith) w)
 
-    calling-service-lay : (x : ℕ) → x ≡ fieldAt f at 2 → r ≡ at + 2 → b ≡ set a 239 x → Lays (λ n. partRead air v (part.Number 7) f n at) at b r
+    pub calling-service-lay : (x : ℕ) → x ≡ fieldAt f at 2 → r ≡ at + 2 → b ≡ set a 239 x → Lays (λ n. partRead air v (part.Number 7) f n at) at b r
     unfolding widthOf widths sizeOf sizes
     calling-service-lay x is e w = number-lay 7 239 1 (λ y. calling-service-bytes v (l .fits) y) refl e (byte-lay 239 2 x is (omega arith) w)
 
-    called-service-lay : (x : ℕ) → x ≡ fieldAt f at 2 → r ≡ at + 2 → b ≡ set a 240 x → Lays (λ n. partRead air v (part.Number 8) f n at) at b r
+    pub called-service-lay : (x : ℕ) → x ≡ fieldAt f at 2 → r ≡ at + 2 → b ≡ set a 240 x → Lays (λ n. partRead air v (part.Number 8) f n at) at b r
     unfolding widthOf widths sizeOf sizes
     called-service-lay x is e w = number-lay 8 240 1 (λ y. called-service-bytes v (l .fits) y) refl e (byte-lay 240 2 x is (omega arith) w)
 
@@ -271,9 +271,23 @@ module _ (air : Air) (f : ℕ → ℕ) (binary : Binary f) (a b : List ℕ) (at 
           part-lays v l part.Interrogation refl
           (record { result = 1; reason = 0; activation = w / 32 % 2; interception = w / 16 % 2; called = w / 4 % 4; calling = w % 4 })
           (λ n i.
-          rw (number-got element.result f n at 1 (omega (arith, e, i)), one-bit, number-got element.activationType f n (at + 1) 1 (omega (arith, e, i)), p₂,
-          number-got element.interceptionType f n (at + 2) 1 (omega (arith, e, i)), p₃, number-got element.basicService f n (at + 3) 2 (omega (arith, e, i)), p₅,
-          number-got element.basicService f n (at + 5) 2 (omega (arith, e, i)), p₇, activation, interception, called, calling, e))
+          rw (
+            number-got element.result f n at 1 (omega (arith, e, i)),
+            one-bit,
+            number-got element.activationType f n (at + 1) 1 (omega (arith, e, i)),
+            p₂,
+            number-got element.interceptionType f n (at + 2) 1 (omega (arith, e, i)),
+            p₃,
+            number-got element.basicService f n (at + 3) 2 (omega (arith, e, i)),
+            p₅,
+            number-got element.basicService f n (at + 5) 2 (omega (arith, e, i)),
+            p₇,
+            activation,
+            interception,
+            called,
+            calling,
+            e,
+          ))
           (area ∙ six-numbers (record { result = 1; reason = 0; activation = w / 32 % 2; interception = w / 16 % 2; called = w / 4 % 4; calling = w % 4 })
           (omega arith) (omega arith) (omega arith) (omega arith) (omega arith) (omega arith) .bytes)
 
@@ -359,3 +373,7 @@ module _ (air : Air) (f : ℕ → ℕ) (binary : Binary f) (a b : List ℕ) (at 
       let x = getD (d .list) 0 nobody in
       part-lays air f binary a b at r v l part.Dispatcher refl x (one-read 123 d)
       (in-value air f binary a b at r v l 123 (addressBytes x) (d .area ∙ ap (λ (m : List ℕ). sets a 123 m) (one-row (d .list) (d .long))) ∙ sym (dispatcher-bytes v (l .fits) x))
+
+-- by the contract of `lay_group`
+abbrev pub Group-lays : Air → List ℕ → Bool → ℕ → List ℕ → List ℕ → ℕ → ℕ → Type 0
+Group-lays air l none at a b o r = Grouped air (bitAt l) (bit-lt l) a b at r none o

@@ -7,7 +7,7 @@ use native.Mathlib.Nat.{sub-zero, suc-sub-suc, add-zero}
 use native.Mathlib.Numerals.{add-one}
 use native.Mathlib.Omega.{arith}
 use lib.Dec.{eqb, leb}
-use lib.ListN.{length, getD, take, drop, set, replicate, length-append, length-replicate}
+use lib.ListN.{length, getD, take, drop, set, replicate, length-append, length-replicate, length-set}
 use lib.Seq.{sets, sets-eq, length-sets, drop-drop, getD-drop, drop-at, length-take-le}
 use borrow.Author.Tests.{eq-eqb, ne-eqb, le-leb, eqb-true, eqb-false}
 use Rattle.bits.specs.Fields.{fieldAt}
@@ -255,15 +255,16 @@ module _ (profile : List ℕ) (f : ℕ → ℕ) (binary : Binary f) (at : ℕ) (
       one-or-more : (m ≡ 0 → ⊥) → 1 ≤ m
       one-or-more z = omega (arith, z)
 
-  pub none-grouped : m ≡ 16 → Places f 0 (at + 4) a₁ b (o + 1) r → Grouped air f binary a b at r true o
+  pub none-grouped : (may : Bool) → may ≡ true → m ≡ 16 → Places f 0 (at + 4) a₁ b (o + 1) r → Grouped air f binary a b at r may o
   unfolding addressesC addressesIn endsOk allowedIn
-  none-grouped e d = grouped true (d .list) (rw (none-meant m e)) (d .area) (d .after) (λ external n i. rw (none-meant m e, d .read external n i))
+  none-grouped may yes-may e d = grouped may (d .list) (rw (none-meant m e) yes-may) (d .area) (d .after) (λ external n i. rw (none-meant m e, d .read external n i))
 
-  pub ends-grouped : (may : Bool) → m ≡ 17 → (d : Places f 2 (at + 4) a₁ b (o + 1) r) → o + 1 + 105 ≤ length a₁
+  pub ends-grouped : (may : Bool) → m ≡ 17 → (d : Places f 2 (at + 4) a₁ b (o + 1) r) → o + 106 ≤ length a
       → rangeOk (addressFrom (drop (o + 1) b)) (addressFrom (drop (o + 1 + 7) b)) ≡ true → Grouped air f binary a b at r may o
   unfolding addressesC addressesIn endsOk allowedIn
   ends-grouped may e d room ok =
-      let ends = sym (two-laid f (at + 4) a₁ b (o + 1) r d room) ∙ ok in
+      let fit : o + 1 + 105 ≤ length a₁ = omega (arith, ap (λ (l : List ℕ). length l) ranged ∙ length-set a o range, room) in
+      let ends = sym (two-laid f (at + 4) a₁ b (o + 1) r d fit) ∙ ok in
       grouped may (d .list) (rw (ends-meant m e)) (d .area) (d .after) (λ external n i. rw (ends-meant m e, d .read external n i, ends))
 
 -- ---- areas
@@ -346,8 +347,16 @@ module _ (profile : List ℕ) (f : ℕ → ℕ) (binary : Binary f) (at : ℕ) (
         areas = record { range = fieldAt f at 4; areas = list };
         area = d .area ∙ ap (λ (y : List ℕ). sets y 456 (rowsBytes byteBytes list)) (ranged ∙ ap (λ (x : ℕ). set a 455 x) is);
         read = λ n h.
-        rw (number-got element.range f n at 4 (omega (arith, d .next, h)), area-meaning, ok, area-meaning, many,
-        fours-read f (at + 4) k n (omega (arith, d .next, h)), up, ← d .next);
+            rw (
+              number-got element.range f n at 4 (omega (arith, d .next, h)),
+              area-meaning,
+              ok,
+              area-meaning,
+              many,
+              fours-read f (at + 4) k n (omega (arith, d .next, h)),
+              up,
+              ← d .next,
+            );
       }
 
   pub list-areas : (m ≡ 0 → ⊥) → m < 16 → Area-places f m (at + 4) a₁ b r → Area-list areas-air f binary a b at r v l
@@ -359,10 +368,11 @@ module _ (profile : List ℕ) (f : ℕ → ℕ) (binary : Binary f) (at : ℕ) (
   unfolding addressesIn rises allowedIn
   none-areas e d = area-list 0 (rw (none-meant m e)) (rw (none-meant m e)) d (rw (none-meant m e))
 
-  pub ends-areas : m ≡ 17 → Area-places f 2 (at + 4) a₁ b r → 471 ≤ length a₁ → getD b 456 0 ≤ getD b 457 0 → Area-list areas-air f binary a b at r v l
+  pub ends-areas : m ≡ 17 → Area-places f 2 (at + 4) a₁ b r → length a ≡ 471 → getD b 456 0 ≤ getD b 457 0 → Area-list areas-air f binary a b at r v l
   unfolding addressesIn rises allowedIn fours
   ends-areas e d room up =
       let list = sets (replicate 15 0) 0 (fours f (at + 4) 2) in
+      let fit : length a₁ ≡ 471 = ap (λ (y : List ℕ). length y) ranged ∙ length-set a 455 range ∙ room in
       let bytes : drop 456 b ≡ list ++ drop (456 + length list) a₁ =
       ap (λ (y : List ℕ). drop 456 y) (d .area ∙ ap (λ (y : List ℕ). sets a₁ 456 y) (rows-bytes list)) ∙ drop-sets a₁ list 456 (omega arith) in
       let first : getD b 456 0 ≡ fieldAt f (at + 4) 4 = sym (byte-here b 456) ∙ ap (λ (y : List ℕ). getD y 0 0) bytes in
@@ -411,3 +421,7 @@ module _ (profile a : List ℕ) (v : Value) (l : Laid a v) where
         let x : getD (v .users .addresses) 0 nobody .ssi ≡ first = ssi-there 0 (omega arith) ∙ sym f in
         let y : getD (v .users .addresses) 1 nobody .ssi ≡ last = ssi-there 1 (omega arith) ∙ sym t in
         rw (users-mean, ends-meant m e, x, y) is
+
+-- by the contract of `span_in`
+abbrev pub Spans : List ℕ → List ℕ → ℕ → Type 0
+Spans profile a k = (v : Value) → Laid a v → k ≡ min (spanOf (airFrom profile) (v .users)) 64

@@ -30,6 +30,7 @@ use Rattle.message.proofs.TableLaws.{each-row}
 use Rattle.reading.specs.Parts.{partRead, partsRead, optionRead, eachRead, behindRead, optionsRead}
 use Rattle.reading.proofs.RowLaws.{parts-start, parts-turn, parts-end, each-start, each-turn, each-end, options-zero, options-some, body-row}
 use Rattle.layouts.specs.Bytes.{numberBytes, rowsBytes}
+use Rattle.layouts.specs.Profiles.{airFrom}
 use Rattle.layouts.specs.Values.{addressBytes, groupBytes, areasBytes, firstBytes, moreBytes, typeBytes, listsBytes, valueBytes}
 use Rattle.layouts.proofs.FitLaws.{blank-fits}
 use Rattle.layouts.proofs.PartLaws.{Laid, Lays, markAt, mark-laid}
@@ -112,9 +113,9 @@ module _ (air : Air) (f : ℕ → ℕ) where
               laid = subst (λ (x : List ℕ). Laid x w) (sym e) (mark-laid b (t .value) (t .laid) i few);
               after = omega (arith, s .after, t .after);
               read = λ n d.
-              s .read n (omega (arith, d, t .after))
-              ∙ each-turn k l i air (s .value) f n next some true h h₂ w r (option-there n r (t .value) bit (omega (arith, d, t .after)) (t .read n d))
-              ∙ ap (λ (b : Bool). eachRead air (i + 1) b w (k - (i + 1)) (drop (i + 1) l) f n r) (or-true some);
+                  s .read n (omega (arith, d, t .after))
+                  ∙ each-turn k l i air (s .value) f n next some true h h₂ w r (option-there n r (t .value) bit (omega (arith, d, t .after)) (t .read n d))
+                  ∙ ap (λ (b : Bool). eachRead air (i + 1) b w (k - (i + 1)) (drop (i + 1) l) f n r) (or-true some);
             }
 
         pub option-skip : fieldAt f next 1 ≡ 0 → Along-options (i + 1) some m (next + 1)
@@ -124,15 +125,15 @@ module _ (air : Air) (f : ℕ → ℕ) where
               laid = s .laid;
               after = omega (arith, s .after);
               read = λ n d.
-              s .read n (omega (arith, d))
-              ∙ each-turn k l i air (s .value) f n next some false h h₂ (s .value) (next + 1) (option-absent n bit d)
-              ∙ ap (λ (b : Bool). eachRead air (i + 1) b (s .value) (k - (i + 1)) (drop (i + 1) l) f n (next + 1)) (or-false some);
+                  s .read n (omega (arith, d))
+                  ∙ each-turn k l i air (s .value) f n next some false h h₂ (s .value) (next + 1) (option-absent n bit d)
+                  ∙ ap (λ (b : Bool). eachRead air (i + 1) b (s .value) (k - (i + 1)) (drop (i + 1) l) f n (next + 1)) (or-false some);
             }
 
-      pub options-done : (i : ℕ) (m : List ℕ) (next : ℕ) → Along-options i true m next → k ≤ i → Lays (λ n. behindRead air v k l f n at) at m next
+      pub options-done : (i : ℕ) (some : Bool) (m : List ℕ) (next : ℕ) → some ≡ true → Along-options i some m next → k ≤ i → Lays (λ n. behindRead air v k l f n at) at m next
       unfolding behindRead
-      options-done i m next s h =
-          record { value = s .value; after = s .after; laid = s .laid; read = λ n e. rw (s .read n e, each-end k l i air (s .value) f n next true h) }
+      options-done i some m next one s h =
+          record { value = s .value; after = s .after; laid = s .laid; read = λ n e. rw (s .read n e, each-end k l i air (s .value) f n next some h, one) }
 
     -- ---- the O-bit
 
@@ -200,3 +201,51 @@ module _ (air : Air) (l : List ℕ) (n head ss t : ℕ) (is : head ≡ fieldAt (
   message-laid b r x e h k =
       let body : bodyC air t .read f n 11 ≡ got (x .value) n = x .read n (omega (arith, e)) ∙ ap (λ (q : ℕ). got (x .value) q) e in
       rw (le-leb 1 n (omega (arith, e, x .after)), le-leb n 4096 h, le-leb n (8 * length l) k, header-read (omega (arith, e, x .after)), body, eq-eqb n n refl)
+
+-- ---- by the contracts of what goes along a row: `lay_parts`, `lay_behind`, `lay_row`, `lay`
+
+abbrev pub Parts-lay : Air → List ℕ → ℕ → List Slot → List ℕ → List ℕ → ℕ → Type 0
+Parts-lay air l k ps a b r = (v : Value) → Laid a v → Lays (λ n. partsRead air v k ps (bitAt l) n 11) 11 b r
+
+abbrev pub Behind-lays : Air → List ℕ → ℕ → List Slot → ℕ → List ℕ → List ℕ → ℕ → Type 0
+Behind-lays air l k qs at a b r = (v : Value) → Laid a v → Lays (λ n. behindRead air v k qs (bitAt l) n at) at b r
+
+-- what is known along the parts, and along the options: the invariants of two loops
+abbrev pub Parts-along : Air → List ℕ → ℕ → List Slot → List ℕ → ℕ → List ℕ → ℕ → Type 0
+Parts-along air l k ps a i m next = (v : Value) → Laid a v → Along air (bitAt l) v k ps i m next
+
+abbrev pub Options-along : Air → List ℕ → ℕ → List Slot → ℕ → List ℕ → ℕ → Bool → List ℕ → ℕ → Type 0
+Options-along air l k qs at a i some m next = (v : Value) → Laid a v → Along-options air (bitAt l) v k qs at i some m next
+
+pub record Row-lays (air : Air) (l : List ℕ) (t : ℕ) (b : List ℕ) (r : ℕ) : Type 0 where
+  pub carried : isCarried t ≡ true
+  pub lays : Lays (λ n. bodyC air t .read (bitAt l) n 11) 11 b r
+
+pub record Reads (air : Air) (l : List ℕ) (n : ℕ) (b : List ℕ) : Type 0 where
+  pub value : Value
+  pub read : readBits air l n ≡ got value n
+  pub laid : Laid b value
+
+-- a row that was found by its type
+pub row-lays : (air : Air) (l : List ℕ) (t : ℕ) (row : Row) → row ≡ rowOf t → row .carried ≡ true → (a m b : List ℕ) (p r : ℕ) → a ≡ set (replicate 471 0) 0 t
+    → Parts-lay air l (row .count) (row .parts) a m p
+    → ((w : Value) → Laid m w → Lays (λ n. optionsRead air w (row .options) (row .optional) (bitAt l) n p) p b r) → Row-lays air l t b r
+unfolding isCarried
+row-lays air l t row e c a m b p r blanks parts options =
+    record {
+      carried = sym (ap (λ (x : Row). x .carried) e) ∙ c;
+      lays =
+          body-lays air (bitAt l) t m b p r
+          (subst (λ (x : Row). Lays (λ n. partsRead air (blank t) (x .count) (x .parts) (bitAt l) n 11) 11 m p) e (parts (blank t) (blank-laid a t blanks)))
+          (λ w h. subst (λ (x : Row). Lays (λ n. optionsRead air w (x .options) (x .optional) (bitAt l) n p) p b r) e (options w h));
+    }
+
+pub reads-of : (profile l : List ℕ) (n head ss t : ℕ) → head ≡ fieldAt (bitAt l) 0 11 → head / 32 ≡ ss → ss ≡ getD profile 0 0 → head % 32 ≡ t → (b : List ℕ) (r : ℕ)
+    → Row-lays (airFrom profile) l t b r → r ≡ n → n ≤ 4096 → (n + 7) / 8 ≤ length l → Reads (airFrom profile) l n b
+unfolding airFrom
+reads-of profile l n head ss t is same own type b r x e most there =
+    record {
+      value = x .lays .value;
+      read = message-laid (airFrom profile) l n head ss t is same own type (x .carried) b r (x .lays) e most (omega (arith, there));
+      laid = x .lays .laid;
+    }

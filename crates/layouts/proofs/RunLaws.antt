@@ -6,7 +6,7 @@ use mathlib.Core.Bool.{Bool, true, false}
 use mathlib.Core.List.{List, [], _∷_, _++_, append-assoc, append-nil}
 use native.Mathlib.Nat.{add-zero, add-suc, div-one, mul-assoc, sub-zero, suc-sub-suc}
 use native.Mathlib.Omega.{arith}
-use lib.ListN.{length, getD, drop, set, replicate, length-append, length-replicate}
+use lib.ListN.{length, getD, drop, set, replicate, length-append, length-replicate, length-set}
 use lib.Pow.{pow-add, shr-shr, high}
 use lib.Seq.{sets, sets-eq, length-sets, set-set, set-comm, set-getD, getD-set-other}
 use Rattle.bits.specs.Fields.{fieldAt}
@@ -183,8 +183,9 @@ module _ (f : ℕ → ℕ) (binary : Binary f) (keep end : ℕ) where
     pub left : ℕ
     pub here : p + 7 * left ≡ end
     pub room : length m ≡ length a
+    pub few : left ≤ count
     pub low : next + 50 * left ≤ at + 50 * count
-    pub ahead : held / 256 ≡ fieldAt f next 50
+    pub ahead : p < end → held / 256 ≡ fieldAt f next 50
     pub rest : (c : List ℕ) (q : ℕ) → Rest left next m p c q → Addresses f count at a c place q
 
   pub laying-start : (count at : ℕ) (a : List ℕ) (place held : ℕ) → place + 7 * count ≡ end → keep ≡ getD a end 0 → held / 256 ≡ fieldAt f at 50
@@ -194,15 +195,19 @@ module _ (f : ℕ → ℕ) (binary : Binary f) (keep end : ℕ) where
         left = count;
         here = e;
         room = refl;
+        few = omega arith;
         low = omega arith;
-        ahead = h;
+        ahead = λ i. h;
         rest = λ c q t.
-        let rows = rowsBytes addressBytes (t .list) in
-        let there : keep ≡ getD (sets a place rows) end 0 = kept ∙ sym (behind rows a place end 0 (omega (arith, length-list (t .list), t .long, e))) in
-        record { list = t .list; long = t .long; area = t .area ∙ ap (λ (b : ℕ). set (sets a place rows) end b) there ∙ set-getD (sets a place rows) end 0; read = t .read; after = t .after };
+            let rows = rowsBytes addressBytes (t .list) in
+            let there : keep ≡ getD (sets a place rows) end 0 = kept ∙ sym (behind rows a place end 0 (omega (arith, length-list (t .list), t .long, e))) in
+            record { list = t .list; long = t .long; area = t .area ∙ ap (λ (b : ℕ). set (sets a place rows) end b) there ∙ set-getD (sets a place rows) end 0; read = t .read; after = t .after };
       }
 
   module _ (count at : ℕ) (a : List ℕ) (place : ℕ) (m : List ℕ) (next p held : ℕ) (so : Laying count at a place m next p held) where
+    pub laying-length : length (set m end keep) ≡ length a
+    laying-length = length-set m end keep ∙ so .room
+
     pub laying-end : end ≤ p → (c : List ℕ) → c ≡ set m end keep → Addresses f count at a c place next
     unfolding vecRead rowsBytes
     laying-end h c e = go (so .left) (so .here) (so .rest)
@@ -224,31 +229,32 @@ module _ (f : ℕ → ℕ) (binary : Binary f) (keep end : ℕ) where
 
       -- one address is laid, and is followed by the others
       turn : (next₁ held₁ : ℕ) (new₁ : List ℕ) (x : Address) (g : ℕ) → new₁ ≡ sets m p (addressBytes x ++ (g ∷ [])) → next ≤ next₁ → next₁ ≤ next + 50
-          → ((external : Bool) (n : ℕ) → next₁ ≤ n → addressC external .read f n next ≡ got x next₁) → held₁ / 256 ≡ fieldAt f next₁ 50
+          → ((external : Bool) (n : ℕ) → next₁ ≤ n → addressC external .read f n next ≡ got x next₁) → (p + 7 < end → held₁ / 256 ≡ fieldAt f next₁ 50)
           → Laying count at a place new₁ next₁ (p + 7) held₁
-      turn next₁ held₁ new₁ x g e lo hi read h = go (so .left) (so .here) (so .low) (so .rest)
+      turn next₁ held₁ new₁ x g e lo hi read h = go (so .left) (so .here) (so .few) (so .low) (so .rest)
         where
-          go : (k : ℕ) → p + 7 * k ≡ end → next + 50 * k ≤ at + 50 * count → ((c : List ℕ) (q : ℕ) → Rest k next m p c q → Addresses f count at a c place q)
+          go : (k : ℕ) → p + 7 * k ≡ end → k ≤ count → next + 50 * k ≤ at + 50 * count → ((c : List ℕ) (q : ℕ) → Rest k next m p c q → Addresses f count at a c place q)
               → Laying count at a place new₁ next₁ (p + 7) held₁
-          go zero z l r = absurd (omega (arith, z, more))
-          go (suc k) z l r =
+          go zero z few l r = absurd (omega (arith, z, more))
+          go (suc k) z few l r =
               record {
                 left = k;
                 here = omega (arith, z);
                 room = ap (λ (y : List ℕ). length y) e ∙ length-sets m p (addressBytes x ++ (g ∷ [])) ∙ so .room;
+                few = omega (arith, few);
                 low = omega (arith, l, hi);
                 ahead = h;
                 rest = λ c q t. r c q (one-more k next m new₁ p z x next₁ g e lo read c q t);
               }
 
-      pub laying-two : held / 2 ^ 56 ≡ 2 → (held₁ : ℕ) → held₁ / 256 ≡ fieldAt f (next + 50) 50 → Laying count at a place new (next + 50) (p + 7) held₁
+      pub laying-two : held / 2 ^ 56 ≡ 2 → (held₁ : ℕ) → (p + 7 < end → held₁ / 256 ≡ fieldAt f (next + 50) 50) → Laying count at a place new (next + 50) (p + 7) held₁
       laying-two k held₁ h =
           let k₂ : w / 2 ^ 48 ≡ 2 = sym kind-of ∙ k in
-          turn (next + 50) held₁ new (two f binary next w (so .ahead)) (held % 256)
-          (stored ∙ ap (λ (bs : List ℕ). sets m p bs) (eight-is ∙ ap (λ (bs : List ℕ). bs ++ (held % 256 ∷ [])) (bytes-two f binary next w (so .ahead) k₂)))
-          (omega arith) (omega arith) (λ external n i. read-two f binary next w (so .ahead) n external k₂ i) h
+          turn (next + 50) held₁ new (two f binary next w (so .ahead more)) (held % 256)
+          (stored ∙ ap (λ (bs : List ℕ). sets m p bs) (eight-is ∙ ap (λ (bs : List ℕ). bs ++ (held % 256 ∷ [])) (bytes-two f binary next w (so .ahead more) k₂)))
+          (omega arith) (omega arith) (λ external n i. read-two f binary next w (so .ahead more) n external k₂ i) h
 
-      pub laying-one : held / 2 ^ 56 ≡ 1 → (last : List ℕ) → last ≡ sets new (p + 4) (numberBytes 4 0) → (held₁ : ℕ) → held₁ / 256 ≡ fieldAt f (next + 26) 50
+      pub laying-one : held / 2 ^ 56 ≡ 1 → (last : List ℕ) → last ≡ sets new (p + 4) (numberBytes 4 0) → (held₁ : ℕ) → (p + 7 < end → held₁ / 256 ≡ fieldAt f (next + 26) 50)
           → Laying count at a place last (next + 26) (p + 7) held₁
       unfolding numberBytes
       laying-one k last e held₁ h =
@@ -263,7 +269,24 @@ module _ (f : ℕ → ℕ) (binary : Binary f) (keep end : ℕ) where
           let joined : sets m p (A ++ Z) ≡ sets (sets m p A) (p + 4) Z = sets-append m p A Z ∙ ap (λ (i : ℕ). sets (sets m p A) i Z) four in
           let laid : last ≡ sets m p (A ++ Z) =
           e ∙ ap (λ (l : List ℕ). sets l (p + 4) Z) split ∙ sets-over (numberBytes 4 held) Z (sets m p A) (p + 4) (length-number 4 held) ∙ sym joined in
-          let regroup : A ++ Z ≡ addressBytes (one f binary next w (so .ahead)) ++ (0 ∷ []) =
-          sym (append-assoc A (0 ∷ 0 ∷ 0 ∷ []) (0 ∷ [])) ∙ ap (λ (bs : List ℕ). bs ++ (0 ∷ [])) (bytes-one f binary next w (so .ahead) k₁) in
-          turn (next + 26) held₁ last (one f binary next w (so .ahead)) 0 (laid ∙ ap (λ (bs : List ℕ). sets m p bs) regroup)
-          (omega arith) (omega arith) (λ external n i. read-one f binary next w (so .ahead) n external k₁ i) h
+          let regroup : A ++ Z ≡ addressBytes (one f binary next w (so .ahead more)) ++ (0 ∷ []) =
+          sym (append-assoc A (0 ∷ 0 ∷ 0 ∷ []) (0 ∷ [])) ∙ ap (λ (bs : List ℕ). bs ++ (0 ∷ [])) (bytes-one f binary next w (so .ahead more) k₁) in
+          turn (next + 26) held₁ last (one f binary next w (so .ahead more)) 0 (laid ∙ ap (λ (bs : List ℕ). sets m p bs) regroup)
+          (omega arith) (omega arith) (λ external n i. read-one f binary next w (so .ahead more) n external k₁ i) h
+
+-- by the contract of `lay_kind`: the eight bytes are stored, and of kind 1 the last four of them are zero
+pub data Stored (a b : List ℕ) (p held : ℕ) : ℕ → Type 0 where
+  stored-two : held / 2 ^ 56 ≡ 2 → b ≡ sets a p (numberBytes 8 held) → Stored a b p held 50
+  stored-one : held / 2 ^ 56 ≡ 1 → b ≡ sets (sets a p (numberBytes 8 held)) (p + 4) (numberBytes 4 0) → Stored a b p held 26
+
+pub stored-most : (a b : List ℕ) (p held r : ℕ) → Stored a b p held r → r ≤ 50
+stored-most a b p held r (stored-two k e) = omega arith
+stored-most a b p held r (stored-one k e) = omega arith
+
+module _ (f : ℕ → ℕ) (binary : Binary f) (keep end count at : ℕ) (a : List ℕ) (place : ℕ) (m : List ℕ) (next p held : ℕ)
+    (so : Laying f binary keep end count at a place m next p held) (more : p < end) where
+  pub laying-turn : (new : List ℕ) (step : ℕ) → Stored m new p held step → (held₁ : ℕ) → (p + 7 < end → held₁ / 256 ≡ fieldAt f (next + step) 50)
+      → Laying f binary keep end count at a place new (next + step) (p + 7) held₁
+  laying-turn new step (stored-two k e) held₁ h = laying-two f binary keep end count at a place m next p held so more new e k held₁ h
+  laying-turn new step (stored-one k e) held₁ h =
+      laying-one f binary keep end count at a place m next p held so more (sets m p (numberBytes 8 held)) refl k new e held₁ h
