@@ -4,3 +4,4 @@ pub mod RowLaws
 pub mod FitLaws
 pub mod ListLaws
 pub mod LayoutLaws
+pub mod PassLaws
