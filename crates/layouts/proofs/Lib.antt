@@ -9,3 +9,4 @@ pub mod PartLaws
 pub mod RunLaws
 pub mod PlaceLaws
 pub mod RowReads
+pub mod PassLaws
