@@ -91,9 +91,9 @@ static void count(const char *call, unsigned long times)
 static double nanoseconds(reader *read, unsigned long reads)
 {
     struct timespec from, to;
-    clock_gettime(CLOCK_MONOTONIC, &from);
+    clock_gettime(CLOCK_PROCESS_CPUTIME_ID, &from);
     read_it(read, reads);
-    clock_gettime(CLOCK_MONOTONIC, &to);
+    clock_gettime(CLOCK_PROCESS_CPUTIME_ID, &to);
     return (1e9 * (double)(to.tv_sec - from.tv_sec) + (double)(to.tv_nsec - from.tv_nsec)) / (double)reads;
 }
 
@@ -109,7 +109,7 @@ static void print_median(double *figures, int rounds, int places)
     printf(" | %.*f (%.*f to %.*f)", places, figures[rounds / 2], places, figures[0], places, figures[rounds - 1]);
 }
 
-/* All readers in turn, so that whatever else the host does falls on each. */
+/* All readers in turn, so that whatever else the host does falls on each; counted is the time that this process had a processor. */
 static void print_times(const char *name, int rounds)
 {
     static double took[READERS][MOST_ROUNDS], ratio[READERS][MOST_ROUNDS];
