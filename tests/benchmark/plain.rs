@@ -2,9 +2,9 @@
 //! time.
 
 use super::elements::put;
-use super::{read_lent, Address, Refusal, Value, KIND, MASK};
+use super::{Address, Refusal, Value, KIND, MASK};
 
-struct Bits<'a> {
+pub struct Bits<'a> {
     bytes: &'a [u8],
     length: usize,
     next: usize,
@@ -76,24 +76,4 @@ impl<'a> super::Bits<'a> for Bits<'a> {
             extension,
         })
     }
-}
-
-/// # Safety
-/// As for `cad_read`.
-#[no_mangle]
-pub unsafe extern "C" fn plain_cad_read(
-    profile: *const u8,
-    profile_len: usize,
-    message: *const u8,
-    message_len: usize,
-    bits: usize,
-    value: *mut u8,
-    value_len: usize,
-) -> u32 {
-    read_lent::<Bits>(
-        (profile, profile_len),
-        (message, message_len),
-        bits,
-        (value, value_len),
-    )
 }

@@ -128,30 +128,40 @@ fn keeps_rules(profile: &[u8]) -> bool {
     reserved_together <= 32
 }
 
-/// What a reader's function for C does.
-///
-/// # Safety
-/// As for `cad_read`: each pointer leads to as many bytes as the length after it says, or that
-/// length is 0.
-pub unsafe fn read_lent<'a, B: Bits<'a>>(
-    profile: (*const u8, usize),
-    message: (*const u8, usize),
-    bits: usize,
-    value: (*mut u8, usize),
-) -> u32 {
-    let none: &mut [u8] = &mut [];
-    let area = match value.1 {
-        0 => none,
-        _ => slice::from_raw_parts_mut(value.0, value.1),
+/// A reader's function for C.
+macro_rules! for_c {
+    ($name:ident, $bits:ty) => {
+        /// # Safety
+        /// As for `cad_read`: each pointer leads to as many bytes as the length after it says, or
+        /// that length is 0.
+        #[no_mangle]
+        pub unsafe extern "C" fn $name(
+            profile: *const u8,
+            profile_len: usize,
+            message: *const u8,
+            message_len: usize,
+            bits: usize,
+            value: *mut u8,
+            value_len: usize,
+        ) -> u32 {
+            let none: &mut [u8] = &mut [];
+            let area = match value_len {
+                0 => none,
+                _ => slice::from_raw_parts_mut(value, value_len),
+            };
+            let profile = lent(profile, profile_len);
+            match read::<$bits>(profile, lent(message, message_len), bits, area) {
+                Ok(()) => 0,
+                Err(refusal) => refusal,
+            }
+        }
     };
-    match read::<B>(lent(profile), lent(message), bits, area) {
-        Ok(()) => 0,
-        Err(refusal) => refusal,
-    }
 }
+for_c!(plain_cad_read, plain::Bits);
+for_c!(window_cad_read, window::Bits);
 
 /// A C program may lend a null pointer with the length 0.
-unsafe fn lent<'a>((bytes, length): (*const u8, usize)) -> &'a [u8] {
+unsafe fn lent<'a>(bytes: *const u8, length: usize) -> &'a [u8] {
     match length {
         0 => &[],
         _ => slice::from_raw_parts(bytes, length),

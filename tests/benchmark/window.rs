@@ -1,9 +1,9 @@
 //! A reader by window, as one writes it who wants speed and keeps to safe Rust: the next 64 bits are
 //! one number, which is loaded from eight bytes where they lie, and an address is cut from it whole.
 
-use super::{read_lent, Address, Refusal, Value, ADDRESS_BYTES, KIND, MASK, VALUE_BYTES};
+use super::{Address, Refusal, Value, ADDRESS_BYTES, KIND, MASK, VALUE_BYTES};
 
-struct Bits<'a> {
+pub struct Bits<'a> {
     /// The bytes that belong to the message whole.
     whole: &'a [u8],
     length: usize,
@@ -178,24 +178,4 @@ fn refused(window: u64, left: usize, external: Refusal) -> Refusal {
         0 => KIND,
         _ => external,
     }
-}
-
-/// # Safety
-/// As for `cad_read`.
-#[no_mangle]
-pub unsafe extern "C" fn window_cad_read(
-    profile: *const u8,
-    profile_len: usize,
-    message: *const u8,
-    message_len: usize,
-    bits: usize,
-    value: *mut u8,
-    value_len: usize,
-) -> u32 {
-    read_lent::<Bits>(
-        (profile, profile_len),
-        (message, message_len),
-        bits,
-        (value, value_len),
-    )
 }
