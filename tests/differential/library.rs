@@ -1,7 +1,6 @@
 //! The product's `cad_read`, `cad_read_at` and `cad_write` against the model's, on the same drawn
 //! inputs, whole outputs compared. The model's own files draw and answer; only the calls here are
-//! new. The benchmark's plain reader is in the archive too, for its own comparison and its
-//! measuring.
+//! new. The benchmark's plain readers are in the archive too, for their own comparison.
 
 #[allow(dead_code)]
 #[path = "../model/ack.rs"]
@@ -45,11 +44,11 @@ pub mod layout;
 #[allow(dead_code)]
 #[path = "../model/message.rs"]
 pub mod message;
-#[path = "../benchmark/plain.rs"]
-pub mod plain;
 #[allow(dead_code)]
 #[path = "../model/profile.rs"]
 pub mod profile;
+#[path = "../benchmark/readers.rs"]
+pub mod readers;
 #[allow(dead_code)]
 #[path = "../model/refusal.rs"]
 pub mod refusal;
