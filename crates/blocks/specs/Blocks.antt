@@ -1,5 +1,6 @@
 -- A block of bytes: where a line ends in it, and a text put into it at an index.
 use Prim.Native.Nat.{ℕ, suc, _+_, _-_, min}
+use mathlib.Core.Path.{_≡_}
 use mathlib.Core.Bool.{cond}
 use mathlib.Core.List.{List, [], _∷_}
 use lib.Dec.{eqb}
@@ -24,3 +25,8 @@ textEnd block at text = at + fits block at text
 
 unfoldable pub putText : List ℕ → ℕ → List ℕ → List ℕ
 putText block at text = sets block at (take (fits block at text) text)
+
+-- these bytes were put into the block at an index, as far as there is room, and end at the next
+pub record Wrote (block : List ℕ) (at : ℕ) (after : List ℕ) (next : ℕ) (bytes : List ℕ) : Type 0 where
+  pub ends : next ≡ textEnd block at bytes
+  pub holds : after ≡ putText block at bytes

@@ -1,7 +1,6 @@
 -- Bytes one after the other, of which the first 1,152 are kept: a line that comes in pieces, or the words of an answer.
 use Prim.Native.Nat.{ℕ, _+_, _-_, min}
-use mathlib.Core.Path.{_≡_}
-use mathlib.Core.List.{List, _++_}
+use mathlib.Core.List.{List}
 use lib.ListN.{length, take, replicate}
 use lib.Seq.{sets}
 use Rattle.blocks.specs.declared.Text.{Text}
@@ -22,7 +21,3 @@ roomFor text piece = min (1152 - text .len) (length piece)
 
 unfoldable pub keepOf : Text → List ℕ → Text
 keepOf text piece = record { len = text .len + roomFor text piece; bytes = sets (text .bytes) (text .len) (take (roomFor text piece) piece) }
-
--- r is the text with these bytes after it
-pub record Wrote (text r : Text) (bs : List ℕ) : Type 0 where
-  pub after : (xs : List ℕ) → text ≡ textOf xs → r ≡ textOf (xs ++ bs)

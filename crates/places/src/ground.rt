@@ -50,34 +50,23 @@ fn second_ok(posts: u8, p: Place) -> bool
     true
 }
 
-// No two waiting calls have one identifier.
+// No two waiting calls have one identifier: no lower place has that of place i. Both loops stand in one function, since another would
+// have the list copied for each place.
 pub(crate) fn all_alone(list: [Place; 32]) -> bool
     ensures { λ r. ⌜ r ≡ every 32 (λ i. aloneAt list i) ⌝ }
 {
     let mut i: usize = 0;
     while i < Shares::PLACES {
-        let alone = alone_at(list, i);
+        let p = list[i];
+        let mut j: usize = 0;
+        while j < i {
+            let q = list[j];
+            j += 1;
+            if apart(p, q) {} else {
+                return false;
+            }
+        }
         i += 1;
-        if alone {} else {
-            return false;
-        }
-    }
-    true
-}
-
-// No lower place has the identifier of place i.
-fn alone_at(list: [Place; 32], i: usize) -> bool
-    requires { ⌜ i < 32 ⌝ }
-    ensures { λ r. ⌜ r ≡ aloneAt list i ⌝ }
-{
-    let p = list[i];
-    let mut j: usize = 0;
-    while j < i {
-        let q = list[j];
-        j += 1;
-        if apart(p, q) {} else {
-            return false;
-        }
     }
     true
 }

@@ -20,11 +20,11 @@ struct Rows {
     row: [Record; 128],
 }
 
-// What is lent from call to call: the desk, the first `lent` of 256 records, the first `room` bytes of the output area.
+// What is lent from call to call: the desk, the first `lent` of 256 records, the first `room` bytes of the output area. These are the first
+// 128 records, which is all that a call looks at: the others are kept beside, and so are not moved with each line.
 struct State {
     desk: Desk,
     low: Rows,
-    high: Rows,
     lent: usize,
     room: usize,
 }
@@ -43,16 +43,13 @@ struct Out {
     failed: bool,
 }
 
-// What became of the answers to the lines so far, and the state after them.
-struct Done {
-    out: Out,
-    state: State,
-}
-
-// How many lines there were, what they came to, and the start of a line whose end is still to come.
+// How many lines there were, what became of their answers, the state after them with the records from 128 on, and the start of a line whose
+// end is still to come.
 struct SoFar {
     number: u64,
-    done: Done,
+    out: Out,
+    state: State,
+    high: Rows,
     kept: Text,
 }
 
@@ -83,27 +80,27 @@ fn run(input: &mut [u8], output: &mut [u8])
             turns = 0;
         } else {
             seen = feed(&input[..n], output, seen);
-            turns = left(turns, seen.done.out.failed);
+            turns = left(turns, seen.out.failed);
         }
     }
     finish(output, seen, cut);
 }
 
 fn start() -> SoFar
-    ensures { λ r. ⌜ (r .number ≡ 0) × (r .done .out .filled ≡ 0) ⌝ }
+    ensures { λ r. ⌜ (r .number ≡ 0) × (r .out .filled ≡ 0) ⌝ }
 {
     let state = first_state();
+    let high = no_rows();
     let kept = blocks::nothing_kept();
     SoFar {
         number: 0,
-        done: Done {
-            out: Out {
-                filled: 0,
-                written: 0,
-                failed: false,
-            },
-            state: state,
+        out: Out {
+            filled: 0,
+            written: 0,
+            failed: false,
         },
+        state: state,
+        high: high,
         kept: kept,
     }
 }
@@ -124,11 +121,9 @@ fn first_state() -> State {
     let opened = Desk::open(profile::sample_profile());
     let desk = opened.desk;
     let low = no_rows();
-    let high = no_rows();
     State {
         desk: desk,
         low: low,
-        high: high,
         lent: 0,
         room: 300,
     }
@@ -148,11 +143,13 @@ fn no_rows() -> Rows {
 
 // The lines that end in a block, and the start of the next.
 fn feed(block: &[u8], output: &mut [u8], seen: SoFar) -> SoFar
-    requires { ⌜ (length (now output) ≡ 65536) × ((length (now block) ≤ 65536) × ((seen .done .out .filled ≤ 65536) × (seen .number + 65536 ≤ 2 ^ 62))) ⌝ }
-    ensures { λ r. ⌜ (r .done .out .filled ≤ 65536) × (r .number ≤ seen .number + 65536) ⌝ }
+    requires { ⌜ (length (now output) ≡ 65536) × ((length (now block) ≤ 65536) × ((seen .out .filled ≤ 65536) × (seen .number + 65536 ≤ 2 ^ 62))) ⌝ }
+    ensures { λ r. ⌜ (r .out .filled ≤ 65536) × (r .number ≤ seen .number + 65536) ⌝ }
 {
     let mut number = seen.number;
-    let mut done = seen.done;
+    let mut out = seen.out;
+    let mut state = seen.state;
+    let mut high = seen.high;
     let mut kept = seen.kept;
     let mut from: usize = 0;
     while from < block.len() {
@@ -163,7 +160,13 @@ fn feed(block: &[u8], output: &mut [u8], seen: SoFar) -> SoFar
             from = end + 1;
             number += 1;
             kept = blocks::nothing_kept();
-            done = carry_out(output, done, before, line);
+            let room = with_room(output, out, before);
+            let answered = answer(output, room.filled, number, state, high, line);
+            state = answered.state;
+            out = filled_to(room, answered.filled);
+            if lends_high(line) {
+                high = lend_high(high, line);
+            }
         } else {
             kept = blocks::keep(kept, &block[from..]);
             from = end;
@@ -171,7 +174,9 @@ fn feed(block: &[u8], output: &mut [u8], seen: SoFar) -> SoFar
     }
     SoFar {
         number: number,
-        done: done,
+        out: out,
+        state: state,
+        high: high,
         kept: kept,
     }
 }
@@ -186,7 +191,7 @@ fn whole(kept: Text, rest: &[u8]) -> Line {
 
 // What is left to answer and to write, and what is to be said of a failure.
 fn finish(output: &mut [u8], seen: SoFar, cut: bool)
-    requires { ⌜ (length (now output) ≡ 65536) × ((seen .done .out .filled ≤ 65536) × (seen .number ≤ 2 ^ 62)) ⌝ }
+    requires { ⌜ (length (now output) ≡ 65536) × ((seen .out .filled ≤ 65536) × (seen .number ≤ 2 ^ 62)) ⌝ }
 {
     let last = last_line(output, seen, cut);
     let out = written(output, last.out, last.number);
@@ -206,12 +211,11 @@ struct Last {
 
 // The last line may lack its LF. A line that a failed read cut short is not carried out.
 fn last_line(output: &mut [u8], seen: SoFar, cut: bool) -> Last
-    requires { ⌜ (length (now output) ≡ 65536) × ((seen .done .out .filled ≤ 65536) × (seen .number ≤ 2 ^ 62)) ⌝ }
+    requires { ⌜ (length (now output) ≡ 65536) × ((seen .out .filled ≤ 65536) × (seen .number ≤ 2 ^ 62)) ⌝ }
     ensures { λ r. ⌜ r .out .filled ≤ 65536 ⌝ }
 {
     let kept = seen.kept;
-    let done = seen.done;
-    let out = done.out;
+    let out = seen.out;
     if cut {
         return Last {
             number: seen.number,
@@ -225,12 +229,14 @@ fn last_line(output: &mut [u8], seen: SoFar, cut: bool) -> Last
         };
     }
     let number = seen.number + 1;
+    let state = seen.state;
+    let high = seen.high;
     let line = script::parse_kept(kept);
-    let last = carry_out(output, done, seen.number, line);
-    let after = last.out;
+    let room = with_room(output, out, seen.number);
+    let answered = answer(output, room.filled, number, state, high, line);
     Last {
         number: number,
-        out: after,
+        out: filled_to(room, answered.filled),
     }
 }
 
@@ -243,26 +249,15 @@ fn say(what: &[u8], number: u64) {
 
 // ---- one line
 
-// The line after `before` lines.
-fn carry_out(output: &mut [u8], done: Done, before: u64, line: Line) -> Done
-    requires { ⌜ (length (now output) ≡ 65536) × ((done .out .filled ≤ 65536) × (before ≤ 2 ^ 62)) ⌝ }
-    ensures { λ r. ⌜ r .out .filled ≤ 65536 ⌝ }
-{
-    let state = done.state;
-    let room = with_room(output, done.out, before);
-    let answered = answer(output, room.filled, before + 1, state, line);
-    let after = answered.state;
-    Done {
-        out: Out {
-            filled: answered.filled,
-            written: room.written,
-            failed: room.failed,
-        },
-        state: after,
-    }
-}
-
-fn answer(output: &mut [u8], filled: usize, number: u64, state: State, line: Line) -> Answered
+// A line, the one of this number. The records from 128 on are `high`, which no line changes here (`lend_high`).
+fn answer(
+    output: &mut [u8],
+    filled: usize,
+    number: u64,
+    state: State,
+    high: Rows,
+    line: Line,
+) -> Answered
     requires { ⌜ (length (now output) ≡ 65536) × (filled ≤ 65536) ⌝ }
     ensures { λ r. ⌜ r .filled ≤ 65536 ⌝ }
 {
@@ -274,7 +269,7 @@ fn answer(output: &mut [u8], filled: usize, number: u64, state: State, line: Lin
         Task::Lend { at, record } => silent(filled, lend(state, at, record)),
         Task::Room { bytes } => silent(filled, with_area(state, bytes)),
         Task::Fill { at, place } => silent(filled, fill(state, at, place)),
-        Task::Dump => dump(output, filled, number, state),
+        Task::Dump => dump(output, filled, number, state, high),
         Task::Second { at, post } => silent(filled, with_second(state, at, post)),
         Task::Cause { at, cause } => silent(filled, with_cause(state, at, cause)),
         Task::Shares => change_shares(output, filled, number, state, line),
@@ -380,41 +375,41 @@ fn after(state: State, stepped: Stepped) -> State {
     let marks = stepped.marks;
     let low = state.low;
     let rows = low.row;
-    let marked = with_marks(rows, marks);
-    let high = state.high;
+    let marked = with_marks(rows, state.lent, marks);
     State {
         desk: desk,
         low: marked,
-        high: high,
         lent: state.lent,
         room: state.room,
     }
 }
 
-fn with_marks(rows: [Record; 128], marks: Marks) -> Rows {
+// A mark is set of none but the first `lent`.
+fn with_marks(rows: [Record; 128], lent: usize, marks: Marks) -> Rows {
     let at = marks.at;
     let mark = marks.mark;
     let mut row = rows;
+    let count = least(lent, 128);
     let mut i: usize = 0;
-    while i < 128 {
-        let r = row[i];
-        row[i] = marked_if(r, at[i], mark);
+    while i < count {
+        let k = i;
         i += 1;
+        if at[k] {
+            let r = row[k];
+            row[k] = with_mark(r, mark);
+        }
     }
     Rows { row: row }
 }
 
-fn marked_if(r: Record, said: bool, mark: bool) -> Record {
-    if said {
-        return Record {
-            in_use: r.in_use,
-            ssi: r.ssi,
-            extension: r.extension,
-            post: r.post,
-            active: mark,
-        };
+fn with_mark(r: Record, mark: bool) -> Record {
+    Record {
+        in_use: r.in_use,
+        ssi: r.ssi,
+        extension: r.extension,
+        post: r.post,
+        active: mark,
     }
-    r
 }
 
 // ---- what is set
@@ -463,11 +458,9 @@ fn change_shares(
 
 fn with_desk(state: State, desk: Desk) -> State {
     let low = state.low;
-    let high = state.high;
     State {
         desk: desk,
         low: low,
-        high: high,
         lent: state.lent,
         room: state.room,
     }
@@ -476,11 +469,9 @@ fn with_desk(state: State, desk: Desk) -> State {
 fn with_area(state: State, bytes: u16) -> State {
     let desk = state.desk;
     let low = state.low;
-    let high = state.high;
     State {
         desk: desk,
         low: low,
-        high: high,
         lent: state.lent,
         room: bytes as usize,
     }
@@ -490,29 +481,35 @@ fn with_area(state: State, bytes: u16) -> State {
 fn lend(state: State, at: u8, record: Record) -> State {
     let desk = state.desk;
     let low = state.low;
-    let high = state.high;
+    let rows = low.row;
     let i = at as usize;
-    let lent = most(state.lent, i + 1);
-    if i < 128 {
-        let rows = low.row;
-        let changed = with_row(rows, i, record);
-        return State {
-            desk: desk,
-            low: changed,
-            high: high,
-            lent: lent,
-            room: state.room,
-        };
-    }
-    let rows = high.row;
-    let changed = with_row(rows, i - 128, record);
+    let changed = with_row(rows, i, record);
     State {
         desk: desk,
-        low: low,
-        high: changed,
-        lent: lent,
+        low: changed,
+        lent: most(state.lent, i + 1),
         room: state.room,
     }
+}
+
+// The line sets a record from 128 on.
+fn lends_high(line: Line) -> bool {
+    let task = line.task;
+    if let Task::Lend { at, record } = task {
+        return at >= 128;
+    }
+    false
+}
+
+fn lend_high(high: Rows, line: Line) -> Rows {
+    let rows = high.row;
+    let task = line.task;
+    if let Task::Lend { at, record } = task {
+        if at >= 128 {
+            return with_row(rows, at as usize - 128, record);
+        }
+    }
+    high
 }
 
 fn with_row(rows: [Record; 128], i: usize, record: Record) -> Rows {
@@ -576,7 +573,7 @@ fn with_place(list: [Place; 32], i: usize, place: Place) -> Places {
 
 // ---- a dump
 
-fn dump(output: &mut [u8], filled: usize, number: u64, state: State) -> Answered
+fn dump(output: &mut [u8], filled: usize, number: u64, state: State, high: Rows) -> Answered
     requires { ⌜ (length (now output) ≡ 65536) × (filled ≤ 65536) ⌝ }
     ensures { λ r. ⌜ r .filled ≤ 65536 ⌝ }
 {
@@ -585,7 +582,6 @@ fn dump(output: &mut [u8], filled: usize, number: u64, state: State) -> Answered
     let list = places.place;
     let low = state.low;
     let lower = low.row;
-    let high = state.high;
     let higher = high.row;
     let placed = dump_places(output, filled, number, list);
     silent(dump_rows(output, placed, lower, higher), state)
@@ -617,9 +613,12 @@ fn print_places(output: &mut [u8], filled: usize, list: [Place; 32]) -> usize
     let mut at = filled;
     let mut i: u8 = 0;
     while i < 32 {
+        let k = i;
         let place = list[i as usize];
-        at = print_text(output, at, words::said_place(i, place));
         i += 1;
+        if place.used {
+            at = print_text(output, at, words::said_place(k, place));
+        }
     }
     at
 }
@@ -631,9 +630,12 @@ fn print_rows(output: &mut [u8], filled: usize, rows: [Record; 128], first: u8) 
     let mut at = filled;
     let mut i: u8 = 0;
     while i < 128 {
+        let k = first + i;
         let row = rows[i as usize];
-        at = print_text(output, at, words::said_record(first + i, row));
         i += 1;
+        if row.in_use {
+            at = print_text(output, at, words::said_record(k, row));
+        }
     }
     at
 }
@@ -666,6 +668,17 @@ fn print_text(output: &mut [u8], filled: usize, text: Text) -> usize
 {
     let bytes = text.bytes;
     blocks::put_first(output, filled, &bytes, text.len)
+}
+
+// After an answer that fills the block so far.
+fn filled_to(out: Out, filled: usize) -> Out
+    ensures { λ r. ⌜ r .filled ≡ filled ⌝ }
+{
+    Out {
+        filled: filled,
+        written: out.written,
+        failed: out.failed,
+    }
 }
 
 // The block is written first where it might not hold one answer more.
@@ -712,4 +725,13 @@ fn most(a: usize, b: usize) -> usize {
         return b;
     }
     a
+}
+
+fn least(a: usize, b: usize) -> usize
+    ensures { λ r. ⌜ (r ≤ a) × (r ≤ b) ⌝ }
+{
+    if a < b {
+        return a;
+    }
+    b
 }

@@ -7,10 +7,9 @@ use native.Mathlib.Nat.{pow-suc, one-le-pow, mul-div-cancel}
 use native.Mathlib.Omega.{arith}
 use lib.ListN.{getD}
 use borrow.Author.Tests.{ne-eqb}
-use Rattle.blocks.specs.Texts.{Wrote}
+use Rattle.blocks.specs.Blocks.{Wrote}
 use Rattle.words.specs.Words.{digitIn, shown, digitIf, digitsFrom, hexPair, hexFrom, wordIn}
-use Rattle.blocks.specs.declared.Text.{Text}
-use Rattle.blocks.proofs.TextLaws.{wrote-join, wrote-none, wrote-as}
+use Rattle.blocks.proofs.BlockLaws.{wrote-none, wrote-join, wrote-as, Yet}
 
 pub power-some : (k : ℕ) → 0 < 10 ^ k
 power-some k = one-le-pow k 10 (omega arith)
@@ -18,31 +17,31 @@ power-some k = one-le-pow k 10 (omega arith)
 pub power-less : (left k power : ℕ) → left ≡ suc k → power ≡ 10 ^ left → power / 10 ≡ 10 ^ k
 power-less left k power e p = rw (p, e, pow-suc) (mul-div-cancel (10 ^ k) (omega arith))
 
-module _ (seen : Bool) (left k n power d : ℕ) (s : Bool) (a b : Text) where
+module _ (seen : Bool) (left k n power d : ℕ) (s : Bool) {l m : List ℕ} {a b : ℕ} where
   -- one digit, and then those that are left
-  pub digit-turn : left ≡ suc k → power ≡ 10 ^ left → d ≡ n / (power / 10) % 10 → s ≡ shown seen k d → Wrote a b (digitIf s d)
-      → (t : Text) → Wrote b t (digitsFrom s k n) → Wrote a t (digitsFrom seen left n)
+  pub digit-turn : left ≡ suc k → power ≡ 10 ^ left → d ≡ n / (power / 10) % 10 → s ≡ shown seen k d → Wrote l a m b (digitIf s d)
+      → Yet m b (digitsFrom s k n) l a (digitsFrom seen left n)
   unfolding digitsFrom digitIn
-  digit-turn l p e f w t v = wrote-as (wrote-join w v) (same (e ∙ rw (power-less left k power l p)))
+  digit-turn one p e f w t i v = wrote-as (wrote-join w v) (same (e ∙ rw (power-less left k power one p)))
     where
       same : d ≡ n / 10 ^ k % 10 → digitIf s d ++ digitsFrom s k n ≡ digitsFrom seen left n
-      same q = rw (l, f, q)
+      same q = rw (one, f, q)
 
-pub digits-over : (seen : Bool) (left n : ℕ) (a : Text) → left ≡ 0 → Wrote a a (digitsFrom seen left n)
+pub digits-over : (seen : Bool) (left n : ℕ) (l : List ℕ) (a : ℕ) → left ≡ 0 → Wrote l a l a (digitsFrom seen left n)
 unfolding digitsFrom
-digits-over seen left n a e = rw e (wrote-none a)
+digits-over seen left n l a e = rw e (wrote-none l a)
 
-module _ (left k : ℕ) (area : List ℕ) (at byte : ℕ) (a b : Text) where
-  pub byte-turn : left ≡ suc k → byte ≡ getD area at 0 → Wrote a b (hexPair byte) → (t : Text) → Wrote b t (hexFrom k area (at + 1)) → Wrote a t (hexFrom left area at)
+module _ (left k : ℕ) (area : List ℕ) (at byte : ℕ) {l m : List ℕ} {a b : ℕ} where
+  pub byte-turn : left ≡ suc k → byte ≡ getD area at 0 → Wrote l a m b (hexPair byte) → Yet m b (hexFrom k area (at + 1)) l a (hexFrom left area at)
   unfolding hexFrom
-  byte-turn l e w t v = wrote-as (wrote-join w v) same
+  byte-turn one e w t i v = wrote-as (wrote-join w v) same
     where
       same : hexPair byte ++ hexFrom k area (at + 1) ≡ hexFrom left area at
-      same = rw (l, e)
+      same = rw (one, e)
 
-pub bytes-over : (left : ℕ) (area : List ℕ) (at : ℕ) (a : Text) → left ≡ 0 → Wrote a a (hexFrom left area at)
+pub bytes-over : (left : ℕ) (area : List ℕ) (at : ℕ) (l : List ℕ) (a : ℕ) → left ≡ 0 → Wrote l a l a (hexFrom left area at)
 unfolding hexFrom
-bytes-over left area at a e = rw e (wrote-none a)
+bytes-over left area at l a e = rw e (wrote-none l a)
 
 -- ---- an element's name
 

@@ -19,33 +19,58 @@ mod texts;
 pub fn said(answer: Answer, laid: Laid, area: &[u8]) -> Text
     ensures { λ r. ⌜ r ≡ textOf (wordsOf answer laid (now (area .entry))) ⌝ }
 {
-    answers::answer(blocks::nothing_kept(), answer, laid, area)
+    let mut bytes = [0u8; 1152];
+    let len = answers::answer(&mut bytes, 0, answer, laid, area);
+    Text {
+        len: len,
+        bytes: bytes,
+    }
 }
 
 // What is printed for a refusal that is no answer to a call.
 pub fn said_refused(number: u8) -> Text
     ensures { λ r. ⌜ r ≡ textOf (refusedOf number) ⌝ }
 {
-    answers::refused(blocks::nothing_kept(), number)
+    let mut bytes = [0u8; 1152];
+    let len = answers::refused(&mut bytes, 0, number);
+    Text {
+        len: len,
+        bytes: bytes,
+    }
 }
 
 // What is printed for new shares.
 pub fn said_change(change: Change) -> Text
     ensures { λ r. ⌜ r ≡ textOf (changeWords change) ⌝ }
 {
-    answers::change(blocks::nothing_kept(), change)
+    let mut bytes = [0u8; 1152];
+    let len = answers::change(&mut bytes, 0, change);
+    Text {
+        len: len,
+        bytes: bytes,
+    }
 }
 
 // What is printed of a place in a dump.
 pub fn said_place(i: u8, place: Place) -> Text
     ensures { λ r. ⌜ r ≡ textOf (placeWords i place) ⌝ }
 {
-    answers::place_part(blocks::nothing_kept(), i, place)
+    let mut bytes = [0u8; 1152];
+    let len = answers::place_part(&mut bytes, 0, i, place);
+    Text {
+        len: len,
+        bytes: bytes,
+    }
 }
 
 // What is printed of a record in a dump.
 pub fn said_record(i: u8, row: Record) -> Text
     ensures { λ r. ⌜ r ≡ textOf (recordWords i row) ⌝ }
 {
-    answers::record_part(blocks::nothing_kept(), i, row)
+    let mut bytes = [0u8; 1152];
+    let len = answers::record_part(&mut bytes, 0, i, row);
+    Text {
+        len: len,
+        bytes: bytes,
+    }
 }

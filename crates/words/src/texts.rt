@@ -1,23 +1,23 @@
-// What is put after a text: bytes, numbers, and bytes in hex.
+// What is put into a block at an index, as far as there is room: bytes, numbers, and bytes in hex. Answered is where it ends.
 ghost use mathlib.Core.Path.{_≡_};
+ghost use mathlib.Core.List.{_++_};
 ghost use Prim.Native.Nat.{_+_, _-_, _*_, _/_, _%_, _<_, _≤_, min};
 ghost use lib.ListN.{getD};
-ghost use Rattle.blocks.specs.Texts.{Wrote};
+ghost use Rattle.blocks.specs.Blocks.{Wrote};
 ghost use Rattle.words.specs.Words.{shown, digitIf, decimalOf, hexDigit, hexPair, messageHex, fieldOf};
-use blocks::Text;
 
-pub(crate) fn add(text: Text, piece: &[u8]) -> Text
-    ensures { λ r. ⌜ Wrote text r (now (piece .entry)) ⌝ }
+pub(crate) fn add(block: &mut [u8], at: usize, piece: &[u8]) -> usize
+    ensures { λ r. ⌜ Wrote (now (block .entry)) at (now (block .exit)) r (now (piece .entry)) ⌝ }
 {
-    blocks::keep(text, piece)
+    blocks::put(block, at, piece)
 }
 
 // ---- numbers in decimal
 
-pub(crate) fn add_number(text: Text, n: u32) -> Text
-    ensures { λ r. ⌜ Wrote text r (decimalOf n) ⌝ }
+fn add_number(block: &mut [u8], at: usize, n: u32) -> usize
+    ensures { λ r. ⌜ Wrote (now (block .entry)) at (now (block .exit)) r (decimalOf n) ⌝ }
 {
-    let mut text = text;
+    let mut end = at;
     let mut seen = false;
     let mut left: u32 = 10;
     let mut power: u64 = 10000000000;
@@ -26,9 +26,9 @@ pub(crate) fn add_number(text: Text, n: u32) -> Text
         power = power / 10;
         let d = digit_at(n as u64, power);
         seen = is_shown(seen, left, d);
-        text = add_digit(text, seen, d);
+        end = add_digit(block, end, seen, d);
     }
-    text
+    end
 }
 
 // The digit worth `power`.
@@ -54,39 +54,47 @@ fn is_shown(seen: bool, left: u32, d: u8) -> bool
     true
 }
 
-fn add_digit(text: Text, show: bool, d: u8) -> Text
+fn add_digit(block: &mut [u8], at: usize, show: bool, d: u8) -> usize
     requires { ⌜ d < 10 ⌝ }
-    ensures { λ r. ⌜ Wrote text r (digitIf show d) ⌝ }
+    ensures { λ r. ⌜ Wrote (now (block .entry)) at (now (block .exit)) r (digitIf show d) ⌝ }
 {
     if show {
         let piece = [48 + d];
-        return add(text, &piece);
+        return add(block, at, &piece);
     }
-    text
+    at
+}
+
+// A word and a number.
+pub(crate) fn add_numbered(block: &mut [u8], at: usize, word: &[u8], n: u32) -> usize
+    ensures { λ r. ⌜ Wrote (now (block .entry)) at (now (block .exit)) r (now (word .entry) ++ decimalOf n) ⌝ }
+{
+    let named = add(block, at, word);
+    add_number(block, named, n)
 }
 
 // A colon and a number.
-pub(crate) fn add_field(text: Text, n: u32) -> Text
-    ensures { λ r. ⌜ Wrote text r (fieldOf n) ⌝ }
+pub(crate) fn add_field(block: &mut [u8], at: usize, n: u32) -> usize
+    ensures { λ r. ⌜ Wrote (now (block .entry)) at (now (block .exit)) r (fieldOf n) ⌝ }
 {
-    add_number(add(text, b":"), n)
+    add_numbered(block, at, b":", n)
 }
 
 // ---- bytes in hex
 
 // Message k of an output area.
-pub(crate) fn add_message(text: Text, area: &[u8], k: u8, bits: u16) -> Text
-    ensures { λ r. ⌜ Wrote text r (messageHex (now (area .entry)) k bits) ⌝ }
+pub(crate) fn add_message(block: &mut [u8], at: usize, area: &[u8], k: u8, bits: u16) -> usize
+    ensures { λ r. ⌜ Wrote (now (block .entry)) at (now (block .exit)) r (messageHex (now (area .entry)) k bits) ⌝ }
 {
-    let mut text = text;
+    let mut end = at;
     let mut left = (bits as usize + 7) / 8;
-    let mut at = 100 * k as usize;
+    let mut from = 100 * k as usize;
     while left > 0 {
-        text = add_byte(text, byte_at(area, at));
+        end = add_byte(block, end, byte_at(area, from));
         left -= 1;
-        at += 1;
+        from += 1;
     }
-    text
+    end
 }
 
 fn byte_at(area: &[u8], at: usize) -> u8
@@ -98,11 +106,11 @@ fn byte_at(area: &[u8], at: usize) -> u8
     0
 }
 
-fn add_byte(text: Text, b: u8) -> Text
-    ensures { λ r. ⌜ Wrote text r (hexPair b) ⌝ }
+fn add_byte(block: &mut [u8], at: usize, b: u8) -> usize
+    ensures { λ r. ⌜ Wrote (now (block .entry)) at (now (block .exit)) r (hexPair b) ⌝ }
 {
     let piece = [hex_digit(b / 16), hex_digit(b % 16)];
-    add(text, &piece)
+    add(block, at, &piece)
 }
 
 fn hex_digit(x: u8) -> u8

@@ -8,12 +8,12 @@ use Rattle.replay.proofs.feed.Statement.{statement}
 use Rattle.replay.proofs.feed.Tie as tie
 
 abbrev Inv-loop : tie.InvT-loop
-Inv-loop block output₀ number₀ done₀ kept₀ from₀ output number done kept from =
+Inv-loop block output₀ number₀ out₀ state₀ high₀ kept₀ from₀ output number out state high kept from =
     (from ≤ length block)
-    × ((number ≤ number₀ + from) × ((done .out .filled ≤ 65536) × (length output ≡ length output₀)))
+    × ((number ≤ number₀ + from) × ((out .filled ≤ 65536) × (length output ≡ length output₀)))
 
 abbrev μ-loop : tie.MeasureT-loop
-μ-loop block output₀ number₀ done₀ kept₀ from₀ output number done kept from = length block - from
+μ-loop block output₀ number₀ out₀ state₀ high₀ kept₀ from₀ output number out state high kept from = length block - from
 
 loop-holds : tie.Need-loop-holds Inv-loop μ-loop
 loop-holds c = search needs
@@ -42,16 +42,43 @@ add-number c = search needs
 nothing-kept-requires : tie.Need-nothing-kept-requires Inv-loop μ-loop
 nothing-kept-requires c κs = search needs
 
-carry-out-requires : tie.Need-carry-out-requires Inv-loop μ-loop
-carry-out-requires c κs = search needs
+with-room-requires : tie.Need-with-room-requires Inv-loop μ-loop
+with-room-requires c κs = search needs
+
+answer-requires : tie.Need-answer-requires Inv-loop μ-loop
+answer-requires c κs = (omega (arith, c .before .before .before .before .before .before .before .before .before .loop .inv .1 .1 .1, c .before .before .before .before .before .before .before .before .before .before .before .before .before .before .before .before .pre .0), c .before .with-room .ensures)
+
+filled-to-requires : tie.Need-filled-to-requires Inv-loop μ-loop
+filled-to-requires c κs = search needs
+
+lends-high-requires : tie.Need-lends-high-requires Inv-loop μ-loop
+lends-high-requires c κs = search needs
+
+lend-high-requires : tie.Need-lend-high-requires Inv-loop μ-loop
+lend-high-requires c κs = search needs
 
 loop-less : tie.Need-loop-less Inv-loop μ-loop
-loop-less c = search needs
+loop-less c = omega (arith, c .before .before .before .before .before .before .before .before .before .before .before .before .before .before .if1 .taken, c .before .before .before .before .before .before .before .before .before .before .before .before .before .before .before .line-end .ensures .1 .0)
 
 loop-again : tie.Need-loop-again Inv-loop μ-loop
 loop-again c = (
-  omega (arith, c .before .before .before .before .before .before .before .if1 .taken),
-  (omega (arith, c .before .before .before .before .before .before .before .before .before .before .loop .inv .1 .0, c .before .before .before .before .before .before .before .before .line-end .ensures .0), (c .before .before .carry-out .ensures, omega (arith, c .before .before .before .before .before .before .before .before .before .before .loop .inv .1 .1 .1))),
+  omega (arith, c .before .before .before .before .before .before .before .before .before .before .before .before .before .before .if1 .taken),
+  (
+    omega (arith, c .before .before .before .before .before .before .before .before .before .before .before .before .before .before .before .before .before .loop .inv .1 .0, c .before .before .before .before .before .before .before .before .before .before .before .before .before .before .before .line-end .ensures .1 .0),
+    (omega (arith, c .before .before .before .filled-to .ensures, c .before .before .before .before .before .before .before .answer .ensures), omega (arith, c .before .before .before .before .before .before .before .before .before .before .before .before .before .before .before .before .before .loop .inv .1 .1 .1)),
+  ),
+)
+
+loop-less-2 : tie.Need-loop-less-2 Inv-loop μ-loop
+loop-less-2 c = omega (arith, c .before .before .before .before .before .before .before .before .before .before .before .before .before .if1 .taken, c .before .before .before .before .before .before .before .before .before .before .before .before .before .before .line-end .ensures .1 .0)
+
+loop-again-2 : tie.Need-loop-again-2 Inv-loop μ-loop
+loop-again-2 c = (
+  omega (arith, c .before .before .before .before .before .before .before .before .before .before .before .before .before .if1 .taken),
+  (
+    omega (arith, c .before .before .before .before .before .before .before .before .before .before .before .before .before .before .before .before .loop .inv .1 .0, c .before .before .before .before .before .before .before .before .before .before .before .before .before .before .line-end .ensures .1 .0),
+    (omega (arith, c .before .before .filled-to .ensures, c .before .before .before .before .before .before .answer .ensures), omega (arith, c .before .before .before .before .before .before .before .before .before .before .before .before .before .before .before .before .loop .inv .1 .1 .1)),
+  ),
 )
 
 sub-keep : tie.Need-sub-keep Inv-loop μ-loop
@@ -66,11 +93,11 @@ part-keep-end c = search needs
 keep-requires : tie.Need-keep-requires Inv-loop μ-loop
 keep-requires c κs = search needs
 
-loop-less-2 : tie.Need-loop-less-2 Inv-loop μ-loop
-loop-less-2 c = search needs
+loop-less-3 : tie.Need-loop-less-3 Inv-loop μ-loop
+loop-less-3 c = search needs
 
-loop-again-2 : tie.Need-loop-again-2 Inv-loop μ-loop
-loop-again-2 c = search needs
+loop-again-3 : tie.Need-loop-again-3 Inv-loop μ-loop
+loop-again-3 c = search needs
 
 same-length : tie.Need-same-length Inv-loop μ-loop
 same-length c = search needs
@@ -93,14 +120,20 @@ feed-spec =
     add-from
     add-number
     nothing-kept-requires
-    carry-out-requires
+    with-room-requires
+    answer-requires
+    filled-to-requires
+    lends-high-requires
+    lend-high-requires
     loop-less
     loop-again
+    loop-less-2
+    loop-again-2
     sub-keep
     part-keep-start
     part-keep-end
     keep-requires
-    loop-less-2
-    loop-again-2
+    loop-less-3
+    loop-again-3
     same-length
     returns)

@@ -24,20 +24,26 @@ mul-place c = search needs
 array-copy-out-place : tie.Need-array-copy-out-place Inv-loop μ-loop
 array-copy-out-place c = search needs
 
+add-i : tie.Need-add-i Inv-loop μ-loop
+add-i c = search needs
+
 said-place-requires : tie.Need-said-place-requires Inv-loop μ-loop
 said-place-requires c κs = search needs
 
 print-text-requires : tie.Need-print-text-requires Inv-loop μ-loop
 print-text-requires c κs = search needs
 
-add-i : tie.Need-add-i Inv-loop μ-loop
-add-i c = search needs
-
 loop-less : tie.Need-loop-less Inv-loop μ-loop
 loop-less c = search needs
 
 loop-again : tie.Need-loop-again Inv-loop μ-loop
 loop-again c = search needs
+
+loop-less-2 : tie.Need-loop-less-2 Inv-loop μ-loop
+loop-less-2 c = search needs
+
+loop-again-2 : tie.Need-loop-again-2 Inv-loop μ-loop
+loop-again-2 c = search needs
 
 same-length : tie.Need-same-length Inv-loop μ-loop
 same-length c = search needs
@@ -55,10 +61,12 @@ print-places-spec =
     cast-place
     mul-place
     array-copy-out-place
+    add-i
     said-place-requires
     print-text-requires
-    add-i
     loop-less
     loop-again
+    loop-less-2
+    loop-again-2
     same-length
     returns)

@@ -15,6 +15,9 @@ abbrev μ-loop : tie.MeasureT-loop
 loop-holds : tie.Need-loop-holds Inv-loop μ-loop
 loop-holds c = search needs
 
+add-k : tie.Need-add-k Inv-loop μ-loop
+add-k c = search needs
+
 cast-row : tie.Need-cast-row Inv-loop μ-loop
 cast-row c = search needs
 
@@ -24,8 +27,8 @@ mul-row c = search needs
 array-copy-out-row : tie.Need-array-copy-out-row Inv-loop μ-loop
 array-copy-out-row c = search needs
 
-add-said-record : tie.Need-add-said-record Inv-loop μ-loop
-add-said-record c = search needs
+add-i : tie.Need-add-i Inv-loop μ-loop
+add-i c = search needs
 
 said-record-requires : tie.Need-said-record-requires Inv-loop μ-loop
 said-record-requires c κs = search needs
@@ -33,14 +36,17 @@ said-record-requires c κs = search needs
 print-text-requires : tie.Need-print-text-requires Inv-loop μ-loop
 print-text-requires c κs = search needs
 
-add-i : tie.Need-add-i Inv-loop μ-loop
-add-i c = search needs
-
 loop-less : tie.Need-loop-less Inv-loop μ-loop
 loop-less c = search needs
 
 loop-again : tie.Need-loop-again Inv-loop μ-loop
 loop-again c = search needs
+
+loop-less-2 : tie.Need-loop-less-2 Inv-loop μ-loop
+loop-less-2 c = search needs
+
+loop-again-2 : tie.Need-loop-again-2 Inv-loop μ-loop
+loop-again-2 c = search needs
 
 same-length : tie.Need-same-length Inv-loop μ-loop
 same-length c = search needs
@@ -55,14 +61,16 @@ print-rows-spec =
     Inv-loop
     μ-loop
     loop-holds
+    add-k
     cast-row
     mul-row
     array-copy-out-row
-    add-said-record
+    add-i
     said-record-requires
     print-text-requires
-    add-i
     loop-less
     loop-again
+    loop-less-2
+    loop-again-2
     same-length
     returns)

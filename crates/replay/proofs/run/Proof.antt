@@ -9,7 +9,7 @@ use Rattle.replay.proofs.run.Tie as tie
 
 abbrev Inv-loop : tie.InvT-loop
 Inv-loop input₀ output₀ turns₀ cut₀ seen₀ input output turns cut seen =
-    (seen .done .out .filled ≤ 65536)
+    (seen .out .filled ≤ 65536)
     × ((seen .number + turns * 65536 ≤ 2 ^ 62) × ((length input ≡ length input₀) × (length output ≡ length output₀)))
 
 abbrev μ-loop : tie.MeasureT-loop

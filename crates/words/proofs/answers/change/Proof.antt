@@ -10,21 +10,37 @@ slice-aggregate-add c = search needs
 add-requires : tie.Need-add-requires
 add-requires c κs = search needs
 
+same-length : tie.Need-same-length
+same-length c = search needs
+
 returns : tie.Need-returns
 unfolding changeWords
 returns c =
-    let p1 = c .before .before in
-    rw (p1 .if1 .taken) (c .add .ensures)
+    let p1 = c .before .before .before .before .before in
+    let p2 = c .before .before in
+    rw (p1 .if1 .taken) (p2 .add .ensures)
 
 refused-requires : tie.Need-refused-requires
 refused-requires c κs = search needs
 
+same-length-2 : tie.Need-same-length-2
+same-length-2 c = search needs
+
 returns-2 : tie.Need-returns-2
 unfolding changeWords
 returns-2 c =
-    let p1 = c .before in
-    rw (p1 .if1 .left) (c .refused .ensures)
+    let p1 = c .before .before .before .before in
+    let p2 = c .before .before in
+    rw (p1 .if1 .left) (p2 .refused .ensures)
 
 pub change-spec : {M : Type 1} → statement M
 change-spec =
-    tie.close (tie.spec slice-aggregate-add add-requires returns refused-requires returns-2)
+    tie.close
+    (tie.spec
+    slice-aggregate-add
+    add-requires
+    same-length
+    returns
+    refused-requires
+    same-length-2
+    returns-2)

@@ -1,30 +1,28 @@
 -- Written by tools/proofs from tools/words.conf. `words::answers::posted` meets its contract. Assumes nothing.
+use mathlib.Core.List.{append-assoc}
 use borrow.Author.Needs.{needs}
-use Rattle.blocks.proofs.TextLaws.{wrote-join}
+use Rattle.blocks.proofs.BlockLaws.{wrote-join}
 use Rattle.words.specs.Words.{postWords}
 use Rattle.words.proofs.answers.posted.Statement.{statement}
 use Rattle.words.proofs.answers.posted.Tie as tie
 
-add-number-requires : tie.Need-add-number-requires
-add-number-requires c κs = search needs
+add-numbered-requires : tie.Need-add-numbered-requires
+add-numbered-requires c κs = search needs
 
-slice-aggregate-add : tie.Need-slice-aggregate-add
-slice-aggregate-add c = search needs
+slice-aggregate-sent : tie.Need-slice-aggregate-sent
+slice-aggregate-sent c = search needs
 
-add-requires : tie.Need-add-requires
-add-requires c κs = search needs
+sent-requires : tie.Need-sent-requires
+sent-requires c κs = search needs
 
-message-requires : tie.Need-message-requires
-message-requires c κs = search needs
+same-length : tie.Need-same-length
+same-length c = search needs
 
 returns : tie.Need-returns
 unfolding postWords
-returns c =
-    let p1 = c .before .before .before in
-    let p2 = c .before in
-    wrote-join (p1 .add-number .ensures) (wrote-join (p2 .add .ensures) (c .message .ensures))
+returns c = rw append-assoc at (wrote-join (c .before .before .before .before .before .before .before .add-numbered .ensures) (c .before .before .sent .ensures))
 
 pub posted-spec : {M : Type 1} → statement M
 posted-spec =
     tie.close
-    (tie.spec add-number-requires slice-aggregate-add add-requires message-requires returns)
+    (tie.spec add-numbered-requires slice-aggregate-sent sent-requires same-length returns)

@@ -1,14 +1,17 @@
 -- Written by tools/proofs from tools/words.conf. `words::texts::add` meets its contract. Assumes nothing.
 use borrow.Author.Needs.{needs}
-use Rattle.blocks.proofs.TextLaws.{wrote-kept}
+use Rattle.desk.specs.Steps.{ends}
 use Rattle.words.proofs.texts.add.Statement.{statement}
 use Rattle.words.proofs.texts.add.Tie as tie
 
-keep-requires : tie.Need-keep-requires
-keep-requires c κs = search needs
+put-requires : tie.Need-put-requires
+put-requires c κs = search needs
+
+same-length : tie.Need-same-length
+same-length c = search needs
 
 returns : tie.Need-returns
-returns c = wrote-kept (c .keep .ensures)
+returns c = let p = c .before .before .put .ensures in record { ends = p .0 .0; holds = p .0 .1 }
 
 pub add-spec : {M : Type 1} → statement M
-add-spec = tie.close (tie.spec keep-requires returns)
+add-spec = tie.close (tie.spec put-requires same-length returns)

@@ -16,11 +16,20 @@ slice-aggregate-add c = search needs
 add-requires : tie.Need-add-requires
 add-requires c κs = search needs
 
+same-length : tie.Need-same-length
+same-length c = search needs
+
 returns : tie.Need-returns
 unfolding hexPair
-returns c = rw (← (c .before .before .hex-digit2 .ensures), ← (c .before .before .before .hex-digit .ensures)) (c .add .ensures)
+returns c = rw (← (c .before .before .before .before .before .hex-digit2 .ensures), ← (c .before .before .before .before .before .before .hex-digit .ensures)) (c .before .before .add .ensures)
 
 pub add-byte-spec : {M : Type 1} → statement M
 add-byte-spec =
     tie.close
-    (tie.spec hex-digit-requires hex-digit-requires-2 slice-aggregate-add add-requires returns)
+    (tie.spec
+    hex-digit-requires
+    hex-digit-requires-2
+    slice-aggregate-add
+    add-requires
+    same-length
+    returns)

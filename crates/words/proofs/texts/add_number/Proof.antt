@@ -2,8 +2,9 @@
 use Prim.Native.Nat.{suc, _-_, _^_, _≤_}
 use mathlib.Core.Path.{_≡_, refl}
 use native.Mathlib.Omega.{arith}
+use lib.ListN.{length}
 use borrow.Author.Needs.{needs}
-use Rattle.blocks.proofs.TextLaws.{Yet}
+use Rattle.blocks.proofs.BlockLaws.{Yet}
 use Rattle.profile.specs.Counting.{one}
 use Rattle.words.proofs.WordLaws.{power-some, power-less, digit-turn, digits-over}
 use Rattle.words.specs.Words.{digitsFrom, decimalOf}
@@ -11,14 +12,14 @@ use Rattle.words.proofs.texts.add_number.Statement.{statement}
 use Rattle.words.proofs.texts.add_number.Tie as tie
 
 abbrev Inv-loop : tie.InvT-loop
-Inv-loop n text₀ seen₀ left₀ power₀ text seen left power = (left ≤ 10) × ((power ≡ 10 ^ left) × Yet text (digitsFrom seen left n) text₀ (decimalOf n))
+Inv-loop block₀ at n end₀ seen₀ left₀ power₀ block end seen left power = ((left ≤ 10) × (length block ≡ length block₀)) × ((power ≡ 10 ^ left) × Yet block end (digitsFrom seen left n) block₀ at (decimalOf n))
 
 abbrev μ-loop : tie.MeasureT-loop
-μ-loop n text₀ seen₀ left₀ power₀ text seen left power = left
+μ-loop block₀ at n end₀ seen₀ left₀ power₀ block end seen left power = left
 
 loop-holds : tie.Need-loop-holds Inv-loop μ-loop
 unfolding decimalOf
-loop-holds c = (search needs, (refl, λ t w. w))
+loop-holds c = (search needs, (refl, λ t i w. w))
 
 sub-left : tie.Need-sub-left Inv-loop μ-loop
 sub-left c = search needs
@@ -37,17 +38,20 @@ loop-less c = search needs
 
 loop-again : tie.Need-loop-again Inv-loop μ-loop
 loop-again c =
-    let l = c .before .before .before .before .loop in
+    let l = c .before .before .before .before .before .before .before .loop in
     let one : l .left ≡ suc (l .left - 1) = omega arith in (
       search needs,
       (
         power-less _ _ _ one (l .inv .1 .0),
-        λ t w. l .inv .1 .1 t (digit-turn _ _ _ _ _ _ _ _ _ one (l .inv .1 .0) (c .before .before .digit-at .ensures .0) (c .before .is-shown .ensures) (c .add-digit .ensures) t w),
+        λ t i w. l .inv .1 .1 t i (digit-turn _ _ _ _ _ _ _ one (l .inv .1 .0) (c .before .before .before .before .before .digit-at .ensures .0) (c .before .before .before .before .is-shown .ensures) (c .before .before .add-digit .ensures) t i w),
       ),
     )
 
+same-length : tie.Need-same-length Inv-loop μ-loop
+same-length c = search needs
+
 returns : tie.Need-returns Inv-loop μ-loop
-returns c = let l = c .before .loop in l .inv .1 .1 (l .text) (digits-over _ _ _ _ (omega arith))
+returns c = let l = c .before .loop in l .inv .1 .1 _ _ (digits-over _ _ _ _ _ (omega arith))
 
 pub add-number-spec : {M : Type 1} → statement M
 add-number-spec =
@@ -62,4 +66,5 @@ add-number-spec =
     add-digit-requires
     loop-less
     loop-again
+    same-length
     returns)
