@@ -5,13 +5,13 @@ use mathlib.Core.Bool.{Bool, true, false, cond}
 use mathlib.Core.List.{List}
 use native.Mathlib.Omega.{arith}
 use lib.Dec.{leb}
-use lib.ListN.{length}
+use lib.ListN.{length, getD, drop, replicate}
 use lib.Seq.{sets}
 use borrow.Author.Tests.{le-leb, lt-leb, eq-eqb, ne-eqb}
 use Rattle.codec.specs.Stops.{refusal, noStop}
 use Rattle.codec.specs.declared.Stop.{Stop}
 use Rattle.codec.specs.Codec.{Read, got, no, both}
-use Rattle.codec.proofs.Good.{not-both}
+use Rattle.codec.proofs.Good.{not-both, both-right}
 use Rattle.profile.specs.Rules.{profileOk}
 use Rattle.profile.specs.declared.Profile.{Profile}
 use Rattle.message.specs.Reading.{readBits, readOf}
@@ -21,8 +21,13 @@ use Rattle.reading.specs.Answers.{readingOf}
 use Rattle.reading.specs.declared.Reading.{Reading}
 use Rattle.writing.specs.Writing.{Write, laid, refused, writeOf, writtenOf, areaOf}
 use Rattle.writing.specs.declared.Written.{Written}
-use Rattle.layouts.specs.Profiles.{isProfile, passes, profileFrom}
-use Rattle.layouts.specs.Values.{valueSize, valueBytes, valueFrom, isValue}
+use Rattle.validity.specs.Validity.{validOf}
+use Rattle.writing.proofs.RoundTrips.{read-valid}
+use Rattle.layouts.specs.Profiles.{airFrom, isProfile, passes, profileFrom}
+use Rattle.layouts.specs.Values.{valueSize, valueBytes, listsBytes, valueFrom, isValue}
+use Rattle.layouts.proofs.ListLaws.{no-lists, lists-zero}
+use Rattle.layouts.proofs.LaidLaws.{lists-behind}
+use Rattle.layouts.proofs.RowReads.{Reads}
 use Rattle.console.specs.Console.{roomFor, cadRead, readNumber, readStop, readArea, cadReadStop, cadReadOf, cadReadArea, tells, cadReadPosition, cadReadElement, cadWrite, writeNumber, writeBits, cadWriteOf, cadWriteArea, cadWriteBits}
 
 -- ---- reading
@@ -83,6 +88,41 @@ module _ (profile message : List ℕ) (n : ℕ) (l : List ℕ) where
     pub read-no : r .found ≡ false → CadStop (r .stop) l
     unfolding cadReadStop cadReadArea
     read-no f = rw (by-shape ok) (found-not l r (readOf (profileFrom profile) message n) (said ∙ same) f)
+
+  -- ---- what was laid as it was read
+
+  by-passes : passes profile ≡ true → readOf (profileFrom profile) message n ≡ readBits (airFrom profile) message n
+  unfolding passes readOf profileFrom
+  by-passes ok = rw (both-right (isProfile profile) (profileOk (profileFrom profile)) ok)
+
+  module _ (ok : passes profile ≡ true) (area : List ℕ) (x : Reads (airFrom profile) message n area) where
+    found-so : readOf (profileFrom profile) message n ≡ got (x .value) n
+    found-so = by-passes ok ∙ x .read
+
+    pub quick-0 : valueSize ≤ length l → (m : List ℕ) → m ≡ sets l 0 area → CadStop noStop m
+    unfolding cadReadStop cadReadArea cadRead roomFor readStop readArea
+    quick-0 h m e = rw (ok, found-so, le-leb valueSize (length l) h) (refl, e ∙ ap (λ (bs : List ℕ). sets l 0 bs) (x .laid .bytes))
+
+    valid-so : validOf (airFrom profile) (x .value) ≡ true
+    unfolding readingOf profileFrom
+    valid-so =
+        let r = readingOf (readOf (profileFrom profile) message n) in
+        let there : r ≡ readingOf (got (x .value) n) = ap (λ (y : Read Value). readingOf y) found-so in
+        subst (λ (v : Value). validOf (airFrom profile) v ≡ true) (ap (λ (y : Reading). y .value) there) (read-valid (profileFrom profile) message n r refl (ap (λ (y : Reading). y .found) there))
+
+    type-there : getD area 0 0 ≡ x .value .pdu
+    unfolding valueBytes
+    type-there = ap (λ (y : List ℕ). getD y 0 0) (x .laid .bytes)
+
+    -- no lists but of an INTERROGATE ACK
+    pub quick-tail : (getD area 0 0 ≡ 9 → ⊥) → drop 243 area ≡ replicate 228 0
+    quick-tail other =
+        let none = no-lists (airFrom profile) (x .value) valid-so (λ e. other (type-there ∙ e)) in
+        ap (λ (y : List ℕ). drop 243 y) (x .laid .bytes) ∙ lists-behind (x .value) (x .laid .fits) ∙ ap listsBytes none ∙ lists-zero
+
+  -- of an area that stayed as it was
+  pub same-stop : (l₁ : List ℕ) → l₁ ≡ l → (s : Stop) (a : List ℕ) → (s ≡ cadReadStop profile message n l₁) × (a ≡ cadReadArea profile message n l₁) → CadStop s a
+  same-stop l₁ e s a h = subst (λ (y : List ℕ). (s ≡ cadReadStop profile message n y) × (a ≡ cadReadArea profile message n y)) e h
 
   number-of : (x : Read Value) → readStop x .number ≡ readNumber x
   unfolding readStop readNumber noStop

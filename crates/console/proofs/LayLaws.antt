@@ -2,13 +2,14 @@
 use Prim.Native.Nat.{ℕ, zero, suc, _+_, _-_, _*_, _/_, _%_, _^_, _≤_, _<_, min}
 use mathlib.Core.Path.{_≡_, refl, sym, ap, _∙_, subst}
 use mathlib.Core.Bool.{Bool, true, false}
-use mathlib.Core.List.{List}
+use mathlib.Core.List.{List, [], _∷_}
 use native.Mathlib.Nat.{zero-div, mod-eq-of-lt, zero-mul}
+use native.Mathlib.Numerals.{add-one}
 use native.Mathlib.Omega.{arith}
 use lib.Dec.{eqb, leb}
-use lib.ListN.{length, getD, drop, set, replicate, length-set}
+use lib.ListN.{length, getD, take, drop, set, replicate, length-set, take-append-drop}
 use lib.Pow.{shr-shr, shl-lt}
-use lib.Seq.{sets, getD-drop, drop-drop}
+use lib.Seq.{sets, getD-drop, drop-drop, length-take-le, take-all, take-suc}
 use borrow.Author.Tests.{eq-eqb, ne-eqb, le-leb, lt-leb, leb-true, leb-false, eqb-true, eqb-false}
 use Rattle.bits.specs.Fields.{bitAt, fieldAt, fieldOf, eightOf}
 use Rattle.bits.proofs.FieldLaws.{bit-lt, field-lt, field-front, field-past, field-is, eight-there}
@@ -18,7 +19,7 @@ use Rattle.message.specs.Groups.{rangeOk}
 use Rattle.message.specs.declared.Address.{Address}
 use Rattle.layouts.specs.Bytes.{numberFrom}
 use Rattle.layouts.specs.Values.{addressFrom}
-use Rattle.layouts.proofs.ByteLaws.{byte-here}
+use Rattle.layouts.proofs.ByteLaws.{byte-here, sets-append}
 use Rattle.layouts.proofs.ListLaws.{zeros-turn}
 use Rattle.layouts.proofs.PartLaws.{markAt}
 
@@ -204,3 +205,22 @@ state-stored a x y i j c d m₁ m₂ m₃ m e₁ e₂ e₃ e =
       same-set m₃ m 239 d e ∙ same-set m₂ m₃ 240 c e₃ ∙ same-set (set m₁ 241 i) m₂ 242 j e₂ ∙ length-set m₁ 241 i ∙ same-set (set a 116 x) m₁ 117 y e₁ ∙ length-set a 116 x,
       whole,
     )
+
+-- ---- an area copied
+
+pub copy-turn : (l m a : List ℕ) (i : ℕ) → i < length a → m ≡ sets l 0 (take i a) → set m i (getD a i 0) ≡ sets l 0 (take (i + 1) a)
+copy-turn l m a i h e =
+    let long : length (take i a) ≡ i = length-take-le i a (omega arith) in
+    let here : 0 + length (take i a) ≡ i = omega (arith, long) in
+    ap (λ (x : List ℕ). set x i (getD a i 0)) e
+    ∙ sym (ap (λ (x : List ℕ). sets l 0 x) (ap (λ (n : ℕ). take n a) (add-one i) ∙ take-suc a i 0 h) ∙ sets-append l 0 (take i a) (getD a i 0 ∷ []) ∙ ap (λ (n : ℕ). set (sets l 0 (take i a)) n (getD a i 0)) here)
+
+pub copied-all : (l m a : List ℕ) → length a ≡ 471 → m ≡ sets l 0 (take 471 a) → m ≡ sets l 0 a
+copied-all l m a h e = e ∙ ap (λ (x : List ℕ). sets l 0 x) (take-all 471 a (omega (arith, h)))
+
+pub copied-front : (l m₁ m a : List ℕ) → length a ≡ 471 → drop 243 a ≡ replicate 228 0 → m₁ ≡ sets l 0 (take 243 a) → m ≡ sets m₁ 243 (replicate 228 0) → m ≡ sets l 0 a
+copied-front l m₁ m a h z e₁ e =
+    let long : length (take 243 a) ≡ 243 = length-take-le 243 a (omega (arith, h)) in
+    let here : 0 + length (take 243 a) ≡ 243 = omega (arith, long) in
+    e ∙ ap (λ (x : List ℕ). sets x 243 (replicate 228 0)) e₁ ∙ ap (λ (x : List ℕ). sets (sets l 0 (take 243 a)) 243 x) (sym z)
+    ∙ sym (ap (λ (x : List ℕ). sets l 0 x) (sym (take-append-drop 243 a)) ∙ sets-append l 0 (take 243 a) (drop 243 a) ∙ ap (λ (n : ℕ). sets (sets l 0 (take 243 a)) n (drop 243 a)) here)

@@ -2,6 +2,8 @@
 // specs/Values); any other bytes get 1 or 22. Each function answers 0 or the refusal's number, and a refusal changes nothing that was
 // lent but the two numbers that tell of a 4.
 ghost use mathlib.Core.Path.{_≡_};
+ghost use mathlib.Core.Bool.{true, false};
+ghost use Rattle.codec.specs.Stops.{noStop};
 ghost use Rattle.console.specs.Console.{cadReadStop, cadReadOf, cadReadArea, cadReadPosition, cadReadElement, cadWriteOf, cadWriteArea, cadWriteBits};
 use codec::Stop;
 
@@ -49,6 +51,36 @@ pub extern "C" fn cad_read_at(
 }
 
 fn read_into(profile: &[u8], message: &[u8], bits: usize, value: &mut [u8]) -> Stop
+    ensures { λ r. ⌜ (r ≡ cadReadStop (now (profile .entry)) (now (message .entry)) bits (now (value .entry)))
+        × (now (value .exit) ≡ cadReadArea (now (profile .entry)) (now (message .entry)) bits (now (value .entry))) ⌝ }
+{
+    if read_quickly(profile, message, bits, value) {
+        return codec::no_stop();
+    }
+    read_slowly(profile, message, bits, value)
+}
+
+// What can be laid as it is read. False: nothing has changed, and `reading` has to say what is refused, if anything.
+fn read_quickly(profile: &[u8], message: &[u8], bits: usize, value: &mut [u8]) -> bool
+    ensures { λ r. ⌜ (r ≡ false → now (value .exit) ≡ now (value .entry))
+        × (r ≡ true → (noStop ≡ cadReadStop (now (profile .entry)) (now (message .entry)) bits (now (value .entry)))
+        × (now (value .exit) ≡ cadReadArea (now (profile .entry)) (now (message .entry)) bits (now (value .entry)))) ⌝ }
+{
+    if value.len() < values::BYTES {
+        return false;
+    }
+    if profiles::passes(profile) {
+        let mut area = [0u8; 471];
+        if lay::lay(profile, message, bits, &mut area) {
+            values::put_area(value, &area);
+            return true;
+        }
+    }
+    false
+}
+
+// Every message and every refusal.
+fn read_slowly(profile: &[u8], message: &[u8], bits: usize, value: &mut [u8]) -> Stop
     ensures { λ r. ⌜ (r ≡ cadReadStop (now (profile .entry)) (now (message .entry)) bits (now (value .entry)))
         × (now (value .exit) ≡ cadReadArea (now (profile .entry)) (now (message .entry)) bits (now (value .entry))) ⌝ }
 {

@@ -1,7 +1,7 @@
 // A value from its bytes, and into them.
 ghost use mathlib.Core.Path.{_≡_};
 ghost use Prim.Native.Nat.{_≤_, _-_};
-ghost use lib.ListN.{length, drop, replicate};
+ghost use lib.ListN.{length, getD, take, drop, replicate};
 ghost use lib.Seq.{sets};
 ghost use Rattle.message.specs.Values.{noLists};
 ghost use Rattle.layouts.specs.Bytes.{rowsBytes};
@@ -164,6 +164,31 @@ pub(crate) fn put_value(out: &mut [u8], v: Value)
         return;
     }
     put_zeros(out);
+}
+
+// An area of a value's bytes over the first bytes of another. Of any message but INTERROGATE ACK the lists are zeros, and so need no copy.
+pub(crate) fn put_area(out: &mut [u8], area: &[u8])
+    requires { ⌜ (471 ≤ length (now out)) × ((length (now area) ≡ 471) × ((getD (now area) 0 0 ≡ 9 → ⊥) → drop 243 (now area) ≡ replicate 228 0)) ⌝ }
+    ensures { λ _. ⌜ now (out .exit) ≡ sets (now (out .entry)) 0 (now (area .entry)) ⌝ }
+{
+    if number::byte_at(area, 0) == 9 {
+        copy_run(out, area, BYTES);
+        return;
+    }
+    copy_run(out, area, 243);
+    put_zeros(out);
+}
+
+// So many of its bytes.
+fn copy_run(out: &mut [u8], area: &[u8], end: usize)
+    requires { ⌜ (end ≤ length (now out)) × (end ≤ length (now area)) ⌝ }
+    ensures { λ _. ⌜ now (out .exit) ≡ sets (now (out .entry)) 0 (take end (now (area .entry))) ⌝ }
+{
+    let mut i: usize = 0;
+    while i < end {
+        out[i] = area[i];
+        i += 1;
+    }
 }
 
 // Result, reason, cause, identifier, and the first option of the row.

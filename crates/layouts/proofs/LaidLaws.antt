@@ -4,8 +4,8 @@ use mathlib.Core.Path.{_≡_, refl, sym, ap, _∙_, subst}
 use mathlib.Core.Bool.{Bool, false}
 use mathlib.Core.List.{List, [], _∷_, _++_, append-assoc, append-nil}
 use native.Mathlib.Omega.{arith}
-use lib.ListN.{length, getD, set, length-append, length-set}
-use lib.Seq.{sets, length-sets, set-append-left}
+use lib.ListN.{length, getD, drop, set, length-append, length-set}
+use lib.Seq.{sets, length-sets, set-append-left, drop-at}
 use Rattle.profile.specs.Counting.{one}
 use Rattle.message.specs.Numbers as place
 use Rattle.message.specs.Groups.{withAddress}
@@ -392,3 +392,12 @@ module _ (v : Value) (fits : Value-fits v) where
   pub whole-mask : (b : Bool) (n : ℕ) → valueBytes (withMask b n v) ≡ sets (valueBytes v) 107 (one b ∷ numberBytes 8 n)
   whole-mask b n =
       mask-bytes 0 (one b ∷ numberBytes 8 n) b n (sym (sets-all (one b ∷ numberBytes 8 n) K (ap suc (length-number 8 n) ∙ sym k))) (omega (arith, length-number 8 n))
+
+  -- ---- what lies behind the numbers
+
+  pub lists-behind : drop 243 (valueBytes v) ≡ listsBytes (v .lists)
+  unfolding listsBytes
+  lists-behind =
+      let B = before-lists (v .pdu) U K F D M T S E R u k f d m t s e 0 [] in
+      let apart-there : shape (v .pdu) U K F D M T S E R ≡ B ++ (S ++ (E ++ R)) = simp append-assoc in
+      ap (λ (l : List ℕ). drop 243 l) (bytes-shape v ∙ apart-there) ∙ drop-at B (S ++ (E ++ R)) 243 (length-before (v .pdu) U K F D M T S E R u k f d m t s e 0 [])

@@ -1,52 +1,12 @@
--- Written by tools/proofs from tools/console.conf. `console::read_into` meets its contract. Assumes nothing.
-use mathlib.Core.Path.{sym, _∙_}
+-- `console::read_into` meets its contract. Assumes nothing.
+use denote.Ref.{now}
 use borrow.Author.Needs.{needs}
-use borrow.Author.Tests.{not-true, not-false}
-use Rattle.console.proofs.CallLaws.{read-1, read-14, read-0, read-no}
-use Rattle.layouts.proofs.ListLaws.{no-lists}
-use Rattle.writing.proofs.RoundTrips.{read-valid}
+use Rattle.console.proofs.CallLaws.{same-stop}
 use Rattle.console.proofs.read_into.Statement.{statement}
 use Rattle.console.proofs.read_into.Tie as tie
 
-is-profile-requires : tie.Need-is-profile-requires
-is-profile-requires c κs = search needs
-
-refuse-requires : tie.Need-refuse-requires
-refuse-requires c κs = search needs
-
-returns : tie.Need-returns
-returns c = rw (c .refuse .ensures) (read-1 _ _ _ _ (sym (c .before .before .is-profile .ensures) ∙ c .before .if1 .left))
-
-profile-from-requires : tie.Need-profile-from-requires
-profile-from-requires c κs = search needs
-
-read-requires : tie.Need-read-requires
-read-requires c κs = search needs
-
-returns-2 : tie.Need-returns-2
-returns-2 c =
-    let r = c .before .before in
-    let f = r .before in
-    let t = f .before in
-    read-no _ _ _ _ (sym (t .before .is-profile .ensures) ∙ t .if1 .taken) _ (f .profile-from .ensures) (r .read .result) (r .read .ensures) (not-true _ (c .if2 .taken))
-
-refuse-requires-2 : tie.Need-refuse-requires-2
-refuse-requires-2 c κs = search needs
-
-returns-3 : tie.Need-returns-3
-returns-3 c =
-    let i = c .before .before in
-    let r = i .before .before in
-    let f = r .before in
-    let t = f .before in
-    rw (c .refuse2 .ensures)
-    (read-14 _ _ _ _ (sym (t .before .is-profile .ensures) ∙ t .if1 .taken) _ (f .profile-from .ensures) (r .read .result) (r .read .ensures) (not-false _ (i .if2 .left)) (c .before .if3 .taken))
-
-put-value-requires : tie.Need-put-value-requires
-put-value-requires c κs =
-    let i = c .before .before .before in
-    let r = i .before .before in
-    no-lists _ _ (read-valid _ _ _ (r .read .result) (r .read .ensures) (not-false _ (i .if2 .left)))
+read-quickly-requires : tie.Need-read-quickly-requires
+read-quickly-requires c κs = search needs
 
 no-stop-requires : tie.Need-no-stop-requires
 no-stop-requires c κs = search needs
@@ -54,30 +14,26 @@ no-stop-requires c κs = search needs
 same-length : tie.Need-same-length
 same-length c = search needs
 
-returns-4 : tie.Need-returns-4
-returns-4 c =
-    let w = c .before .before .before in
-    let h = w .before .before .before in
-    let i = h .before in
-    let r = i .before .before in
-    let f = r .before in
-    let t = f .before in
-    rw (c .no-stop .ensures)
-    (read-0 _ _ _ _ (sym (t .before .is-profile .ensures) ∙ t .if1 .taken) _ (f .profile-from .ensures) (r .read .result) (r .read .ensures) (not-false _ (i .if2 .left)) (h .if3 .left) _ (w .put-value .ensures))
+returns : tie.Need-returns
+returns c = rw (c .no-stop .ensures) (c .before .before .before .before .read-quickly .ensures .1 (c .before .if1 .taken))
+
+read-slowly-requires : tie.Need-read-slowly-requires
+read-slowly-requires c κs = search needs
+
+same-length-2 : tie.Need-same-length-2
+same-length-2 c = search needs
+
+returns-2 : tie.Need-returns-2
+returns-2 c = same-stop (now (c .before .before .before .before .before .before .before .before .before .before .before .before .args .profile)) (now (c .before .before .before .before .before .before .before .before .before .before .before .before .args .message)) (c .before .before .before .before .before .before .before .before .before .before .before .before .args .bits) (now (c .before .before .before .before .before .before .before .before .before .before .before .before .args .value)) _ (c .before .before .before .before .before .before .before .read-quickly .ensures .0 (c .before .before .before .before .if1 .left)) _ _ (c .before .before .read-slowly .ensures)
 
 pub read-into-spec : {M : Type 1} → statement M
 read-into-spec =
     tie.close
     (tie.spec
-    is-profile-requires
-    refuse-requires
-    returns
-    profile-from-requires
-    read-requires
-    returns-2
-    refuse-requires-2
-    returns-3
-    put-value-requires
+    read-quickly-requires
     no-stop-requires
     same-length
-    returns-4)
+    returns
+    read-slowly-requires
+    same-length-2
+    returns-2)
