@@ -12,8 +12,8 @@ use lib.Pow.{shr-shr, shl-lt}
 use lib.Seq.{sets, getD-drop, drop-drop, length-take-le, take-all, take-suc}
 use borrow.Author.Tests.{eq-eqb, ne-eqb, le-leb, lt-leb, leb-true, leb-false, eqb-true, eqb-false}
 use Rattle.bits.specs.Fields.{bitAt, fieldAt, fieldOf, eightOf}
-use Rattle.bits.proofs.FieldLaws.{bit-lt, field-lt, field-front, field-past, field-is, eight-there}
-use Rattle.bits.proofs.WordLaws.{field-within, one-word, last-field}
+use Rattle.bits.proofs.FieldLaws.{bit-lt, field-lt, field-split, field-front, field-past, field-is, eight-there}
+use Rattle.bits.proofs.WordLaws.{byte-front, byte-field, one-word, last-field}
 use Rattle.codec.specs.Codec.{both}
 use Rattle.message.specs.Groups.{rangeOk}
 use Rattle.message.specs.declared.Address.{Address}
@@ -33,6 +33,13 @@ pub take-is : (l : List ℕ) (at w x : ℕ) → w ≤ 57 → x ≡ fieldAt (bitA
 take-is l at w x h e =
     let u : w + (57 - w) ≡ 57 = omega arith in
     ap (λ (y : ℕ). y / 2 ^ (57 - w)) (e ∙ ap (λ (n : ℕ). fieldAt (bitAt l) at n) (sym u)) ∙ field-front (bitAt l) (bit-lt l) at w (57 - w)
+
+-- the first eleven bits, from the first two bytes
+pub head-is : (l : List ℕ) (x y : ℕ) → x ≡ getD l 0 0 → x < 256 → y ≡ getD l 1 0 → y < 256 → x * 8 + y / 32 ≡ fieldAt (bitAt l) 0 11
+head-is l x y e h g k =
+    let first : fieldAt (bitAt l) 0 8 ≡ x = byte-field l 0 (subst (λ (b : ℕ). b < 256) e h) ∙ sym e in
+    let second : fieldAt (bitAt l) 8 3 ≡ y / 32 = byte-front l 1 3 (subst (λ (b : ℕ). b < 256) g k) (omega arith) ∙ ap (λ (b : ℕ). b / 32) (sym g) in
+    sym (field-split (bitAt l) 0 8 3 ∙ rw (first, second))
 
 module _ (l : List ℕ) (at : ℕ) (h : 8 ≤ length l) where
   -- the eight bytes that the position is in, or the last eight

@@ -1,6 +1,5 @@
 // A group laid as it is read: the range, its addresses, zeros in the places beyond. 0 where `reading` has to say what is refused.
 ghost use mathlib.Core.Path.{_≡_};
-ghost use mathlib.Core.Bool.{false};
 ghost use Prim.Native.Nat.{_+_, _*_, _-_, _≤_, _<_};
 ghost use lib.ListN.{length, drop, replicate};
 ghost use lib.Seq.{sets};
@@ -89,8 +88,8 @@ pub(crate) fn lay_addresses(
     ensures { λ r. ⌜ (length (now (area .exit)) ≡ 471)
         × ((r ≡ 0 → ⊥) → Addresses (bitAt (now (buf .entry))) count at (now (area .entry)) (now (area .exit)) place r) ⌝ }
 {
-    if is_short(buf, count) {
-        return 0;
+    if buf.len() < 8 {
+        return lay_alone(buf, at, count, area, place);
     }
     let end = place + 7 * count;
     let keep = area[end];
@@ -113,17 +112,23 @@ pub(crate) fn lay_addresses(
     0
 }
 
-// Two addresses or more, in fewer bytes than two have.
-fn is_short(buf: &[u8], count: usize) -> bool
-    ensures { λ r. ⌜ (r ≡ false → 2 ≤ count → 8 ≤ length (now (buf .entry))) ⌝ }
+// In fewer than eight bytes there is no room for two.
+fn lay_alone(buf: &[u8], at: usize, count: usize, area: &mut [u8], place: usize) -> usize
+    requires { ⌜ (length (now area) ≡ 471) × ((place + 7 * count < 471) × (at ≤ 6000)) ⌝ }
+    ensures { λ r. ⌜ (length (now (area .exit)) ≡ 471)
+        × ((r ≡ 0 → ⊥) → Addresses (bitAt (now (buf .entry))) count at (now (area .entry)) (now (area .exit)) place r) ⌝ }
 {
-    if count < 2 {
-        return false;
+    if count == 1 {
+        let end = place + 7;
+        let keep = area[end];
+        let step = lay_kind(area, place, word::window(buf, at) * 2);
+        if step == 0 {
+            return 0;
+        }
+        area[end] = keep;
+        return at + step;
     }
-    if buf.len() < 8 {
-        return true;
-    }
-    false
+    0
 }
 
 // One address: how many bits it has. Its 50 bits are held, above one byte more.

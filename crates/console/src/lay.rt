@@ -27,7 +27,8 @@ pub(crate) fn lay(profile: &[u8], buf: &[u8], bits: usize, area: &mut [u8]) -> b
     if (bits + 7) / 8 > buf.len() {
         return false;
     }
-    let head = word::take(buf, 0, 11);
+    let head = number::wide(number::byte_at(buf, 0)) * 8
+        + number::wide(number::byte_at(buf, 1)) / 32;
     if head / 32 != number::wide(number::byte_at(profile, 0)) {
         return false;
     }
