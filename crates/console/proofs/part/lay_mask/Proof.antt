@@ -57,9 +57,11 @@ same-length-3 : tie.Need-same-length-3
 same-length-3 c = search needs
 
 returns-3 : tie.Need-returns-3
-returns-3 c =
-    (search needs, λ z v l.
-    mask-lay (airFrom (now (c .before .before .before .before .before .before .before .before .before .before .before .before .before .before .args .profile))) (bitAt (now (c .before .before .before .before .before .before .before .before .before .before .before .before .before .before .args .buf))) (bit-lt (now (c .before .before .before .before .before .before .before .before .before .before .before .before .before .before .args .buf))) (now (c .before .before .before .before .before .before .before .before .before .before .before .before .before .before .args .area)) _ (c .before .before .before .before .before .before .before .before .before .before .before .before .before .before .args .at) _ v l _ _ (c .before .before .before .before .before .before .before .span-in .ensures .1 (omega (arith, c .before .before .before .before .before .before .if2 .left)) v l) (one-bit (now (c .before .before .before .before .before .before .before .before .before .before .before .before .before .before .args .buf)) (c .before .before .before .before .before .before .before .before .before .before .before .before .before .before .args .at) _ (c .before .before .before .before .before .before .before .before .before .before .bit .ensures) (c .before .before .before .before .before .before .before .before .before .if1 .left)) (c .before .before .before .aligned .ensures ∙ mask-is (now (c .before .before .before .before .before .before .before .before .before .before .before .before .before .before .args .buf)) _ _ _ (c .before .before .before .before .field .ensures) (c .before .before .before .before .before .before .if2 .left)) refl (c .before .before .put-mask2 .ensures))
+returns-3 c = (
+  search needs,
+  λ z v l.
+      mask-lay (airFrom (now (c .before .before .before .before .before .before .before .before .before .before .before .before .before .before .args .profile))) (bitAt (now (c .before .before .before .before .before .before .before .before .before .before .before .before .before .before .args .buf))) (bit-lt (now (c .before .before .before .before .before .before .before .before .before .before .before .before .before .before .args .buf))) (now (c .before .before .before .before .before .before .before .before .before .before .before .before .before .before .args .area)) _ (c .before .before .before .before .before .before .before .before .before .before .before .before .before .before .args .at) _ v l _ _ (c .before .before .before .before .before .before .before .span-in .ensures .1 (omega (arith, c .before .before .before .before .before .before .if2 .left)) v l) (one-bit (now (c .before .before .before .before .before .before .before .before .before .before .before .before .before .before .args .buf)) (c .before .before .before .before .before .before .before .before .before .before .before .before .before .before .args .at) _ (c .before .before .before .before .before .before .before .before .before .before .bit .ensures) (c .before .before .before .before .before .before .before .before .before .if1 .left)) (c .before .before .before .aligned .ensures ∙ mask-is (now (c .before .before .before .before .before .before .before .before .before .before .before .before .before .before .args .buf)) _ _ _ (c .before .before .before .before .field .ensures) (c .before .before .before .before .before .before .if2 .left)) refl (c .before .before .put-mask2 .ensures),
+)
 
 pub lay-mask-spec : {M : Type 1} → statement M
 lay-mask-spec =
