@@ -2,3 +2,4 @@ pub mod CallLaws
 pub mod LayLaws
 pub mod RoundTrips
 pub mod Cases
+pub mod DrawLaws

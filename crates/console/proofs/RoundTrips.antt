@@ -95,12 +95,12 @@ module _ (profile : List ℕ) where
 
   -- ---- what `cad_write` wrote, or refused
 
-  record Wrote-by (value l a : List ℕ) (n : ℕ) : Type 0 where
-    ok : passes profile ≡ true
-    shape : isValue value ≡ true
-    write : writeOf p (valueFrom value) l 0 ≡ laid a n
+  pub record Wrote-by (value l a : List ℕ) (n : ℕ) : Type 0 where
+    pub ok : passes profile ≡ true
+    pub shape : isValue value ≡ true
+    pub write : writeOf p (valueFrom value) l 0 ≡ laid a n
 
-  data Went (value l : List ℕ) : Write → Type 0 where
+  pub data Went (value l : List ℕ) : Write → Type 0 where
     went-laid : {a : List ℕ} {n : ℕ} → Wrote-by value l a n → Went value l (laid a n)
     went-no : {s : Stop} → published (s .number) ≡ true → Went value l (refused s)
 
@@ -120,7 +120,7 @@ module _ (profile : List ℕ) where
       go true false z = known-no known-22
       go false y z = known-no known-1
 
-  went : (value l : List ℕ) → Went value l (cadWrite profile value l)
+  pub went : (value l : List ℕ) → Went value l (cadWrite profile value l)
   unfolding cadWrite refusal
   went value l = go (passes profile) refl (isValue value) refl
     where

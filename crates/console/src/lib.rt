@@ -4,10 +4,12 @@
 ghost use mathlib.Core.Path.{_≡_};
 ghost use mathlib.Core.Bool.{true, false};
 ghost use Rattle.codec.specs.Stops.{noStop};
+ghost use Rattle.console.specs.Drawing.{ReadsBack, Drawn};
 ghost use Rattle.console.specs.Console.{cadReadStop, cadReadOf, cadReadArea, cadReadPosition, cadReadElement, cadWriteOf, cadWriteArea, cadWriteBits};
 use codec::Stop;
 
 mod area;
+mod draw;
 mod group;
 mod lay;
 mod number;
@@ -114,6 +116,11 @@ pub extern "C" fn cad_write(
         × ((now (message .exit) ≡ cadWriteArea (now (profile .entry)) (now (value .entry)) (now (message .entry)))
         × (now (bits .exit) ≡ cadWriteBits (now (profile .entry)) (now (value .entry)) (now (message .entry)) (now (bits .entry)))) ⌝ }
 {
+    let drawn = write_drawn(profile, value, message);
+    if drawn > 0 {
+        *bits = drawn;
+        return 0;
+    }
     if profiles::passes(profile) {
         if values::is_value(value) {
             let p = profiles::profile_from(profile);
@@ -129,4 +136,35 @@ pub extern "C" fn cad_write(
         return 22;
     }
     1
+}
+
+// Draws the value's message and lets it out where it is read back as just this value, has zeros in its spare bits, and finds room: its
+// length, or 0 where all stays.
+fn write_drawn(profile: &[u8], value: &[u8], message: &mut [u8]) -> usize
+    ensures { λ r. ⌜ Drawn (now (profile .entry)) (now (value .entry)) (now (message .entry)) (now (message .exit)) r ⌝ }
+{
+    let mut drawn = [0u8; draw::BYTES];
+    let n = draw::draw(profile, value, &mut drawn);
+    if !reads_back(profile, value, &drawn, n) {
+        return 0;
+    }
+    if bits::field(&drawn, n, (8 - n % 8) % 8) != 0 {
+        return 0;
+    }
+    if message.len() < (n + 7) / 8 {
+        return 0;
+    }
+    draw::copy_bytes(message, &drawn, (n + 7) / 8);
+    n
+}
+
+fn reads_back(profile: &[u8], value: &[u8], message: &[u8], bits: usize) -> bool
+    ensures { λ r. ⌜ (r ≡ true → ReadsBack (now (profile .entry)) (now (value .entry)) (now (message .entry)) bits) ⌝ }
+{
+    let mut area = [0u8; values::BYTES];
+    let s = read_into(profile, message, bits, &mut area);
+    if s.number != 0 {
+        return false;
+    }
+    draw::same_bytes(value, &area)
 }
