@@ -1,19 +1,20 @@
 -- A message that was drawn is what `cad_write` lays, if it is read back as the value's bytes, has zeros in its spare bits, and finds room:
 -- the round trip says which bits are laid, and the bytes that hold them are copied. Assumes nothing.
-use Prim.Native.Nat.{ℕ, zero, suc, _+_, _-_, _*_, _/_, _%_, _≤_, _<_}
+use Prim.Native.Nat.{ℕ, zero, suc, _+_, _-_, _*_, _/_, _%_, _^_, _≤_, _<_}
 use mathlib.Core.Path.{_≡_, refl, sym, ap, _∙_, subst}
 use mathlib.Core.Bool.{Bool, true, false, _&&_}
 use mathlib.Core.List.{List, [], _∷_, _++_}
 use mathlib.Core.Logic.{inr, ⊎-elim}
+use native.Mathlib.Nat.{zero-div}
 use native.Mathlib.Omega.{arith}
 use lib.Dec.{eqb}
 use lib.ListN.{length, getD, set, take, length-append, length-set}
-use lib.Pow.{pow-pos}
+use lib.Pow.{pow-pos, low, field, shl-shr}
 use lib.Seq.{ext-getD, getD-set-same, getD-set-other, set-out, take-all}
 use borrow.Author.Tests.{eqb-true}
-use Rattle.bits.specs.Fields.{bitAt, fieldAt, fieldOf}
+use Rattle.bits.specs.Fields.{bitAt, fieldAt}
 use Rattle.bits.specs.Puts.{withDigit, setBit, putBits, binary, spare}
-use Rattle.bits.proofs.FieldLaws.{field-same, field-is}
+use Rattle.bits.proofs.FieldLaws.{bit-lt, field-lt, field-split, field-same}
 use Rattle.bits.proofs.WordLaws.{byte-field}
 use Rattle.bits.proofs.PutLaws.{byte-digit-lt, length-binary}
 use Rattle.bits.proofs.SetLaws.{eq-or, lt-or, byte-set-other}
@@ -30,7 +31,7 @@ use Rattle.writing.proofs.RoundTrips.{Can, can-write, wrote-can, laid-length}
 use Rattle.layouts.specs.Profiles.{profileFrom}
 use Rattle.layouts.specs.Values.{valueSize, valueFrom}
 use Rattle.console.specs.Console.{cadReadArea, cadReadStop, cadWrite, cadWriteOf, cadWriteArea, cadWriteBits, writeNumber, writeBits}
-use Rattle.console.specs.Drawing.{Copied, ReadsBack, Drawn}
+use Rattle.console.specs.Drawing.{Alike, Copied, ReadsBack, Drawn}
 use Rattle.console.proofs.CallLaws.{CadWrite, read-number}
 use Rattle.console.proofs.RoundTrips.{c-read-write, Went, went-laid, went}
 
@@ -69,21 +70,40 @@ zero-bits f at zero e i h k = absurd (omega arith)
 zero-bits f at (suc w) e i h k =
     ⊎-elim (λ x. zero-bits f at w (omega arith) i h x) (λ (y : at + w ≤ i). let p : i ≡ at + w = omega arith in rw p (omega arith)) (lt-or i (at + w))
 
+-- the bits from a position to the end of its byte, by what a shift leaves of the byte
+pub spare-bits : (l : List ℕ) (at : ℕ) → getD l (at / 8) 0 < 256 → getD l (at / 8) 0 * 2 ^ (56 + at % 8) % 2 ^ 64 ≡ 0 → fieldAt (bitAt l) at (8 - at % 8) ≡ 0
+spare-bits l at h e =
+    let x = getD l (at / 8) 0 in
+    let r = at % 8 in
+    let j = 8 - r in
+    let k = 56 + r in
+    let f = bitAt l in
+    let t : j + k ≡ 64 = omega arith in
+    let u : r + j ≡ 8 = omega arith in
+    let p : 8 * (at / 8) + r ≡ at = omega arith in
+    let parts : fieldAt f (8 * (at / 8)) r * 2 ^ j + fieldAt f at j ≡ x =
+    sym (field-split f (8 * (at / 8)) r j ∙ ap (λ (q : ℕ). fieldAt f (8 * (at / 8)) r * 2 ^ j + fieldAt f q j) p) ∙ ap (λ (w : ℕ). fieldAt f (8 * (at / 8)) w) u ∙ byte-field l (at / 8) h in
+    let rest : x % 2 ^ j ≡ fieldAt f at j = ap (λ (y : ℕ). y % 2 ^ j) (sym parts) ∙ low (fieldAt f (8 * (at / 8)) r) j (field-lt f (bit-lt l) at j) in
+    let gone : x * 2 ^ k % 2 ^ (j + k) ≡ 0 = ap (λ (w : ℕ). x * 2 ^ k % 2 ^ w) t ∙ e in
+    let top : x * 2 ^ k / 2 ^ k % 2 ^ j ≡ 0 = sym (field (x * 2 ^ k) j k) ∙ ap (λ (y : ℕ). y / 2 ^ k) gone ∙ zero-div (2 ^ k) in
+    sym rest ∙ ap (λ (y : ℕ). y % 2 ^ j) (sym (shl-shr x k)) ∙ top
+
 -- ---- bytes that are compared, and bytes that are copied
 
--- the first i are the same
-abbrev pub Alike : List ℕ → List ℕ → ℕ → Type 0
-Alike a b i = (j : ℕ) → j < i → getD a j 0 ≡ getD b j 0
+pub alike-none : (a b : List ℕ) (from : ℕ) → Alike a b from from
+alike-none a b from j h k = absurd (omega arith)
 
-pub alike-none : (a b : List ℕ) → Alike a b 0
-alike-none a b j h = absurd (omega arith)
+pub alike-more : (a b : List ℕ) (from i : ℕ) (s : Bool) → (s ≡ true → Alike a b from i) → s && eqb (getD a i 0) (getD b i 0) ≡ true → Alike a b from (i + 1)
+alike-more a b from i true h e j g k =
+    ⊎-elim (λ (x : j < i). h refl j g x) (λ (y : i ≤ j). let q : j ≡ i = omega arith in rw q (eqb-true _ _ e)) (lt-or j i)
+alike-more a b from i false h e j g k = not-both e
 
-pub alike-more : (a b : List ℕ) (i : ℕ) (s : Bool) → (s ≡ true → Alike a b i) → s && eqb (getD a i 0) (getD b i 0) ≡ true → Alike a b (i + 1)
-alike-more a b i true h e j k = ⊎-elim (λ (x : j < i). h refl j x) (λ (y : i ≤ j). let q : j ≡ i = omega arith in rw q (eqb-true _ _ e)) (lt-or j i)
-alike-more a b i false h e j k = not-both e
+pub alike-end : (a b : List ℕ) (from i to : ℕ) → Alike a b from i → to ≤ i → Alike a b from to
+alike-end a b from i to h e j g k = h j g (omega arith)
 
-pub alike-all : (a b : List ℕ) (i n : ℕ) → Alike a b i → n ≤ i → length a ≡ n → length b ≡ n → (a ≡ b) × (length a ≡ n)
-alike-all a b i n h k ea eb = (ext-getD 0 a b (ea ∙ sym eb) (λ j x. h j (omega arith)), ea)
+pub alike-all : (a b : List ℕ) (m n : ℕ) → Alike a b 0 m → Alike a b m n → length a ≡ n → length b ≡ n → (a ≡ b) × (length a ≡ n)
+alike-all a b m n h k ea eb =
+    (ext-getD 0 a b (ea ∙ sym eb) (λ j x. ⊎-elim (λ (y : j < m). h j (omega arith) y) (λ (y : m ≤ j). k j y (omega arith)) (lt-or j m)), ea)
 
 pub copied-none : (l from : List ℕ) → Copied l from 0 l
 copied-none l from = record { long = refl; front = λ j h. absurd (omega arith); bytes = λ j h. absurd (omega arith); rest = λ j h. refl }
@@ -134,11 +154,11 @@ module _ (l bs : List ℕ) (are : AreBits bs) where
 
   -- bytes that hold the bits, with zeros in the spare ones, are copied
   module _ (from : List ℕ) (small : (j : ℕ) → getD l j 0 < 256) (room : bytesFor (length bs) ≤ length l)
-      (agree : Agree (bitAt (layOf l 0 bs)) (bitAt from) (length bs)) (none : fieldAt (bitAt from) (length bs) (spare (length bs)) ≡ 0) where
+      (agree : Agree (bitAt (layOf l 0 bs)) (bitAt from) (length bs)) (none : fieldAt (bitAt from) (length bs) (8 - length bs % 8) ≡ 0) where
     bit-here : (i : ℕ) → i < 8 * bytesFor (length bs) → bitAt (layOf l 0 bs) i ≡ bitAt from i
     bit-here i k =
         ⊎-elim (λ x. agree i x)
-        (λ y. laid-spare room i y k ∙ sym (zero-bits (bitAt from) (length bs) (spare (length bs)) none i y (omega (arith, whole-long, length-append bs rest, length-binary (spare (length bs)) 0))))
+        (λ y. laid-spare room i y k ∙ sym (zero-bits (bitAt from) (length bs) (8 - length bs % 8) none i y (omega arith)))
         (lt-or i (length bs))
 
     laid-copied : (m : List ℕ) → Copied l from (bytesFor (length bs)) m → layOf l 0 bs ≡ m
@@ -164,18 +184,17 @@ module _ (profile value l from : List ℕ) (n : ℕ) (back : ReadsBack profile v
       subst (λ (x : List ℕ). (cadWriteOf profile x l ≡ 0) × ((cadWriteBits profile x l b ≡ n) × Agree (bitAt (cadWriteArea profile x l)) (bitAt from) n)) (back .bytes)
       (c-read-write profile from n (back .area) l b room (back .read))
 
-  module _ (small : (j : ℕ) → getD l j 0 < 256) (none : fieldOf from n ((8 - n % 8) % 8) ≡ 0) (m : List ℕ)
+  module _ (small : (j : ℕ) → getD l j 0 < 256) (none : fieldAt (bitAt from) n (8 - n % 8) ≡ 0) (m : List ℕ)
       (copied : Copied l from (bytesFor n) m) where
     by-laid : (a : List ℕ) (k : ℕ) → writeOf p v l 0 ≡ laid a k → k ≡ n → Agree (bitAt a) (bitAt from) n → laid a k ≡ laid m n
-    unfolding writtenOf bitsOf validOf spare areaOf writeBits
+    unfolding writtenOf bitsOf validOf areaOf writeBits
     by-laid a k e kn agree =
         let can : Can p v l 0 = wrote-can p v l 0 (ap (λ (x : Write). writtenOf x .done) e) in
         let bs = bitsOf (p .air) v in
         let same : laid a k ≡ laid (layOf l 0 bs) (length bs) = sym e ∙ can-write p v l 0 can in
         let ea : a ≡ layOf l 0 bs = ap (λ (x : Write). areaOf l x) same in
         let long : n ≡ length bs = sym kn ∙ ap (λ (x : Write). writeBits 0 x) same in
-        let is-zero : fieldAt (bitAt from) (length bs) (spare (length bs)) ≡ 0 =
-        subst (λ (q : ℕ). fieldAt (bitAt from) q (spare q) ≡ 0) long (sym (field-is from n (spare n) (omega arith)) ∙ none) in
+        let is-zero : fieldAt (bitAt from) (length bs) (8 - length bs % 8) ≡ 0 = subst (λ (q : ℕ). fieldAt (bitAt from) q (8 - q % 8) ≡ 0) long none in
         let agrees : Agree (bitAt (layOf l 0 bs)) (bitAt from) (length bs) =
         subst (λ (x : List ℕ). Agree (bitAt x) (bitAt from) (length bs)) ea (subst (λ (q : ℕ). Agree (bitAt a) (bitAt from) q) long agree) in
         let em : layOf l 0 bs ≡ m =

@@ -7,6 +7,10 @@ use Rattle.layouts.specs.Values.{valueSize}
 use Rattle.writing.specs.Writing.{laid}
 use Rattle.console.specs.Console.{cadReadOf, cadReadArea, cadWrite}
 
+-- the bytes from one index to another are the same in both
+abbrev pub Alike : List ℕ → List ℕ → ℕ → ℕ → Type 0
+Alike a b from to = (j : ℕ) → from ≤ j → j < to → getD a j 0 ≡ getD b j 0
+
 -- the first bytes, so many, are those of another list, and bytes they are; the others stay
 pub record Copied (old from : List ℕ) (count : ℕ) (new : List ℕ) : Type 0 where
   pub long : length new ≡ length old

@@ -148,7 +148,7 @@ fn write_drawn(profile: &[u8], value: &[u8], message: &mut [u8]) -> usize
     if !reads_back(profile, value, &drawn, n) {
         return 0;
     }
-    if bits::field(&drawn, n, (8 - n % 8) % 8) != 0 {
+    if !draw::spare_zero(&drawn, n) {
         return 0;
     }
     if message.len() < (n + 7) / 8 {

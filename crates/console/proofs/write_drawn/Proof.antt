@@ -1,5 +1,4 @@
 -- Written by tools/proofs from tools/console.conf. `console::write_drawn` meets its contract. Assumes nothing.
-use mathlib.Core.Path.{sym, _∙_}
 use native.Mathlib.Omega.{arith}
 use borrow.Author.Needs.{needs}
 use borrow.Author.Tests.{not-false}
@@ -22,14 +21,11 @@ reads-back-requires c κs = search needs
 returns : tie.Need-returns
 returns c = drawn-not _ _ _
 
-slice-aggregate-field : tie.Need-slice-aggregate-field
-slice-aggregate-field c = search needs
+slice-aggregate-spare-zero : tie.Need-slice-aggregate-spare-zero
+slice-aggregate-spare-zero c = search needs
 
-sub-field : tie.Need-sub-field
-sub-field c = search needs
-
-field-requires : tie.Need-field-requires
-field-requires c κs = search needs
+spare-zero-requires : tie.Need-spare-zero-requires
+spare-zero-requires c κs = search needs
 
 returns-2 : tie.Need-returns-2
 returns-2 c = drawn-not _ _ _
@@ -55,7 +51,7 @@ same-length c = search needs
 returns-4 : tie.Need-returns-4
 returns-4 c =
     drawn-laid _ _ _ _ _ (c .before .before .before .before .before .before .before .before .before .before .reads-back .ensures (not-false _ (c .before .before .before .before .before .before .before .before .before .if1 .left))) (c .before .before .before .before .before .if3 .left)
-    (λ j. omega (arith, c .before .before .before .before .before .before .before .before .before .before .before .before .before .before .before .slice-known .given j)) (sym (c .before .before .before .before .before .before .before .field .ensures) ∙ c .before .before .before .before .before .before .if2 .left) _ (c .before .before .copy-bytes .ensures)
+    (λ j. omega (arith, c .before .before .before .before .before .before .before .before .before .before .before .before .before .before .before .slice-known .given j)) (c .before .before .before .before .before .before .before .spare-zero .ensures (not-false _ (c .before .before .before .before .before .before .if2 .left))) _ (c .before .before .copy-bytes .ensures)
 
 pub write-drawn-spec : {M : Type 1} → statement M
 write-drawn-spec =
@@ -66,9 +62,8 @@ write-drawn-spec =
     slice-aggregate-reads-back
     reads-back-requires
     returns
-    slice-aggregate-field
-    sub-field
-    field-requires
+    slice-aggregate-spare-zero
+    spare-zero-requires
     returns-2
     add-if3
     returns-3
