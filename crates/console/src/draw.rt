@@ -1,5 +1,5 @@
 // A message drawn from a value's bytes, the quick way. Nothing is proved of what is drawn but that drawing is safe and ends: `write_drawn`
-// lets it out only where it is read back as these bytes (proofs/DrawLaws), so a function here has no contract but what an index or a shift
+// lets it out only where it is read back as these bytes (proofs/DrawLaws), so a function that draws has no contract but what a shift
 // asks. Where each element lies in the bytes is in specs/Values of `layouts`; bits of a word stand from its top on.
 ghost use mathlib.Core.Path.{_≡_};
 ghost use mathlib.Core.Bool.{true};
@@ -11,6 +11,8 @@ use crate::number;
 use crate::values;
 use message::Part;
 use message::Slot;
+use profile::Kind;
+use profile::Meaning;
 
 // Room for what is drawn: less than 4,096 bits (the longest message has 3,119), and eight bytes go out at a time.
 pub(crate) const BYTES: usize = 520;
@@ -163,20 +165,17 @@ fn draw_group(profile: &[u8], value: &[u8], from: usize, out: &mut [u8], at: usi
 }
 
 // How many addresses or areas the range value has.
-fn count_of(profile: &[u8], range: u8) -> u8 {
-    let meaning = number::byte_at(profile, after(6, range as usize));
-    if meaning < 16 {
-        return meaning;
-    }
-    if meaning == 17 {
-        return 2;
-    }
-    0
+fn count_of(profile: &[u8], range: u8) -> usize {
+    message::addresses_in(meaning_of(profile, range))
+}
+
+fn meaning_of(profile: &[u8], range: u8) -> Meaning {
+    profile::meaning_from(number::byte_at(profile, after(6, range as usize)))
 }
 
 // What is held of the byte that an address begins in, and the address after it, are carried over: then the compiler knows nothing of them,
 // and makes one load and one store of eight.
-fn draw_list(value: &[u8], from: usize, count: u8, out: &mut [u8], at: usize) -> usize {
+fn draw_list(value: &[u8], from: usize, count: usize, out: &mut [u8], at: usize) -> usize {
     let mut next = at;
     let mut held = wide(number::byte_at(out, at / 8)) << 56;
     let mut p = from;
@@ -233,12 +232,14 @@ fn draw_mask(profile: &[u8], value: &[u8], out: &mut [u8], at: usize) -> usize {
 
 // How many identities the users are.
 fn span_of(profile: &[u8], value: &[u8]) -> usize {
-    let range = number::byte_at(value, 1);
-    let meaning = number::byte_at(profile, after(6, range as usize));
-    if meaning == 17 {
-        return span(bits::eight(value, 3) >> 40, bits::eight(value, 10) >> 40);
+    let meaning = meaning_of(profile, number::byte_at(value, 1));
+    let kind = meaning.kind;
+    match kind {
+        Kind::FirstLast => span(bits::eight(value, 3) >> 40, bits::eight(value, 10) >> 40),
+        Kind::Listed => meaning.count as usize,
+        Kind::Nobody => 0,
+        Kind::Reserved => 0,
     }
-    meaning as usize
 }
 
 fn span(first: u64, last: u64) -> usize {

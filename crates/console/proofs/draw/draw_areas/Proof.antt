@@ -1,5 +1,4 @@
 -- Written by tools/proofs from tools/console.conf. `console::draw::draw_areas` meets its contract. Assumes nothing.
-use Prim.Native.Nat.{_≤_}
 use mathlib.Core.Path.{_≡_}
 use lib.ListN.{length}
 use borrow.Author.Needs.{needs}
@@ -7,7 +6,7 @@ use Rattle.console.proofs.draw.draw_areas.Statement.{statement}
 use Rattle.console.proofs.draw.draw_areas.Tie as tie
 
 abbrev Inv-loop : tie.InvT-loop
-Inv-loop profile value out₀ at range next₀ p₀ left₀ out next p left = (length out ≡ length out₀) × (left ≤ 255)
+Inv-loop profile value out₀ at range next₀ p₀ left₀ out next p left = length out ≡ length out₀
 
 abbrev μ-loop : tie.MeasureT-loop
 μ-loop profile value out₀ at range next₀ p₀ left₀ out next p left = left

@@ -1,5 +1,4 @@
 -- Written by tools/proofs from tools/console.conf. `console::draw::draw_list` meets its contract. Assumes nothing.
-use Prim.Native.Nat.{_≤_}
 use mathlib.Core.Path.{_≡_}
 use lib.ListN.{length}
 use borrow.Author.Needs.{needs}
@@ -7,7 +6,7 @@ use Rattle.console.proofs.draw.draw_list.Statement.{statement}
 use Rattle.console.proofs.draw.draw_list.Tie as tie
 
 abbrev Inv-loop : tie.InvT-loop
-Inv-loop value from count out₀ at next₀ held₀ p₀ word₀ left₀ out next held p word left = (length out ≡ length out₀) × (left ≤ count)
+Inv-loop value from count out₀ at next₀ held₀ p₀ word₀ left₀ out next held p word left = length out ≡ length out₀
 
 abbrev μ-loop : tie.MeasureT-loop
 μ-loop value from count out₀ at next₀ held₀ p₀ word₀ left₀ out next held p word left = left
