@@ -1,14 +1,9 @@
 // A message drawn from a value's bytes, the quick way. Nothing is proved of what is drawn but that drawing is safe and ends: `write_drawn`
 // lets it out only where it is read back as these bytes (proofs/DrawLaws), so a function that draws has no contract but what a shift
 // asks. Where each element lies in the bytes is in specs/Values of `layouts`; bits of a word stand from its top on.
-ghost use mathlib.Core.Path.{_≡_};
-ghost use mathlib.Core.Bool.{true};
-ghost use Prim.Native.Nat.{_-_, _%_, _≤_, _<_};
-ghost use lib.ListN.{length};
-ghost use Rattle.bits.specs.Fields.{bitAt, fieldAt};
-ghost use Rattle.console.specs.Drawing.{Alike, Copied};
+ghost use Prim.Native.Nat.{_≤_, _<_};
+use crate::bytes;
 use crate::number;
-use crate::values;
 use message::Part;
 use message::Slot;
 use profile::Kind;
@@ -25,7 +20,7 @@ pub(crate) fn draw(profile: &[u8], value: &[u8], out: &mut [u8]) -> usize
 {
     let pdu = number::byte_at(value, 0);
     let ss = number::byte_at(profile, 0);
-    let at = put(out, 0, 11, wide(ss) << 58 | wide(pdu) << 53);
+    let at = put(out, 0, 11, bytes::wide(ss) << 58 | bytes::wide(pdu) << 53);
     let row = message::row_of(pdu);
     let parts = row.parts;
     let at = draw_parts(profile, value, parts, row.count, out, at);
@@ -142,13 +137,13 @@ fn number_at(value: &[u8], place: u8) -> u64 {
         return bits::eight(value, 119) >> 48;
     }
     if place == message::CAUSE_AT {
-        return wide(number::byte_at(value, 118));
+        return bytes::wide(number::byte_at(value, 118));
     }
     if place == message::MNI_AT {
         return bits::eight(value, 234) >> 40;
     }
     // areas, basic services and types, in their places' order
-    wide(number::byte_at(value, after(232, place as usize)))
+    bytes::wide(number::byte_at(value, after(232, place as usize)))
 }
 
 fn user_at(place: u8) -> usize {
@@ -160,7 +155,7 @@ fn user_at(place: u8) -> usize {
 
 fn draw_group(profile: &[u8], value: &[u8], from: usize, out: &mut [u8], at: usize) -> usize {
     let range = number::byte_at(value, from);
-    let next = put(out, at, 4, wide(range) << 60);
+    let next = put(out, at, 4, bytes::wide(range) << 60);
     draw_list(value, after(from, 1), count_of(profile, range), out, next)
 }
 
@@ -177,7 +172,7 @@ fn meaning_of(profile: &[u8], range: u8) -> Meaning {
 // and makes one load and one store of eight.
 fn draw_list(value: &[u8], from: usize, count: usize, out: &mut [u8], at: usize) -> usize {
     let mut next = at;
-    let mut held = wide(number::byte_at(out, at / 8)) << 56;
+    let mut held = bytes::wide(number::byte_at(out, at / 8)) << 56;
     let mut p = from;
     let mut word = bits::eight(value, p);
     let mut left = count;
@@ -251,29 +246,29 @@ fn span(first: u64, last: u64) -> usize {
 
 fn draw_result(value: &[u8], out: &mut [u8], at: usize) -> usize {
     if number::byte_at(value, 116) == 0 {
-        return put(out, at, 8, wide(number::byte_at(value, 117)) << 56);
+        return put(out, at, 8, bytes::wide(number::byte_at(value, 117)) << 56);
     }
     put_bit(out, at, true)
 }
 
 fn draw_state(value: &[u8], out: &mut [u8], at: usize) -> usize {
     if number::byte_at(value, 116) == 0 {
-        return put(out, at, 4, wide(number::byte_at(value, 117)) << 60);
+        return put(out, at, 4, bytes::wide(number::byte_at(value, 117)) << 60);
     }
     let next = put_bit(out, at, true);
-    let next = put(out, next, 1, wide(number::byte_at(value, 241)) << 63);
-    let next = put(out, next, 1, wide(number::byte_at(value, 242)) << 63);
-    let next = put(out, next, 2, wide(number::byte_at(value, 240)) << 62);
-    put(out, next, 2, wide(number::byte_at(value, 239)) << 62)
+    let next = put(out, next, 1, bytes::wide(number::byte_at(value, 241)) << 63);
+    let next = put(out, next, 1, bytes::wide(number::byte_at(value, 242)) << 63);
+    let next = put(out, next, 2, bytes::wide(number::byte_at(value, 240)) << 62);
+    put(out, next, 2, bytes::wide(number::byte_at(value, 239)) << 62)
 }
 
 fn draw_areas(profile: &[u8], value: &[u8], out: &mut [u8], at: usize) -> usize {
     let range = number::byte_at(value, 455);
-    let mut next = put(out, at, 4, wide(range) << 60);
+    let mut next = put(out, at, 4, bytes::wide(range) << 60);
     let mut p: usize = 456;
     let mut left = count_of(profile, range);
     while left > 0 {
-        next = put(out, next, 4, wide(number::byte_at(value, p)) << 60);
+        next = put(out, next, 4, bytes::wide(number::byte_at(value, p)) << 60);
         p = after(p, 1);
         left -= 1;
     }
@@ -284,7 +279,7 @@ fn draw_areas(profile: &[u8], value: &[u8], out: &mut [u8], at: usize) -> usize 
 
 // So many of a word's first bits, from a position on: the position after them. The word's other bits are 0, and so become what follows.
 fn put(out: &mut [u8], at: usize, width: usize, word: u64) -> usize {
-    let held = wide(number::byte_at(out, at / 8)) << 56;
+    let held = bytes::wide(number::byte_at(out, at / 8)) << 56;
     put_eight(out, at / 8, held | word >> (at % 8));
     after(at, width)
 }
@@ -320,64 +315,4 @@ fn put_eight(out: &mut [u8], at: usize, word: u64) {
 
 fn byte(word: u64) -> u8 {
     (word % 256) as u8
-}
-
-fn wide(x: u8) -> u64
-    ensures { λ r. ⌜ r ≡ x ⌝ }
-{
-    x as u64
-}
-
-// ---- what is drawn goes out
-
-// Both are the bytes of one value. The first 464 go sixteen at a time, which leaves seven.
-pub(crate) fn same_bytes(a: &[u8], b: &[u8]) -> bool
-    ensures { λ r. ⌜ (r ≡ true → (now (a .entry) ≡ now (b .entry)) × (length (now (a .entry)) ≡ 471)) ⌝ }
-{
-    if a.len() != values::BYTES {
-        return false;
-    }
-    if b.len() != values::BYTES {
-        return false;
-    }
-    if same_run(a, b, 0, 464) {
-        return same_run(a, b, 464, values::BYTES);
-    }
-    false
-}
-
-// It looks at each byte, and leaves off at none: so the compiler can take many at a time.
-fn same_run(a: &[u8], b: &[u8], from: usize, to: usize) -> bool
-    requires { ⌜ (to ≤ length (now a)) × (to ≤ length (now b)) ⌝ }
-    ensures { λ r. ⌜ (r ≡ true → Alike (now (a .entry)) (now (b .entry)) from to) ⌝ }
-{
-    let mut same = true;
-    let mut i = from;
-    while i < to {
-        same = same & (a[i] == b[i]);
-        i += 1;
-    }
-    same
-}
-
-// The bits from a position to the end of its byte are 0.
-pub(crate) fn spare_zero(l: &[u8], at: usize) -> bool
-    ensures { λ r. ⌜ (r ≡ true → fieldAt (bitAt (now (l .entry))) at (8 - at % 8) ≡ 0) ⌝ }
-{
-    let i = at / 8;
-    if i < l.len() {
-        return wide(l[i]) << (56 + at % 8) == 0;
-    }
-    false
-}
-
-pub(crate) fn copy_bytes(out: &mut [u8], from: &[u8], count: usize)
-    requires { ⌜ (count ≤ length (now out)) × (count ≤ length (now from)) ⌝ }
-    ensures { λ _. ⌜ Copied (now (out .entry)) (now (from .entry)) count (now (out .exit)) ⌝ }
-{
-    let mut i: usize = 0;
-    while i < count {
-        out[i] = from[i];
-        i += 1;
-    }
 }

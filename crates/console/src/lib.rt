@@ -9,6 +9,7 @@ ghost use Rattle.console.specs.Console.{cadReadStop, cadReadOf, cadReadA
 use codec::Stop;
 
 mod area;
+mod bytes;
 mod draw;
 mod group;
 mod lay;
@@ -148,13 +149,13 @@ fn write_drawn(profile: &[u8], value: &[u8], message: &mut [u8]) -> usize
     if !reads_back(profile, value, &drawn, n) {
         return 0;
     }
-    if !draw::spare_zero(&drawn, n) {
+    if !bytes::spare_zero(&drawn, n) {
         return 0;
     }
     if message.len() < (n + 7) / 8 {
         return 0;
     }
-    draw::copy_bytes(message, &drawn, (n + 7) / 8);
+    bytes::copy_bytes(message, &drawn, (n + 7) / 8);
     n
 }
 
@@ -166,5 +167,5 @@ fn reads_back(profile: &[u8], value: &[u8], message: &[u8], bits: usize) -> bool
     if s.number != 0 {
         return false;
     }
-    draw::same_bytes(value, &area)
+    bytes::same_bytes(value, &area)
 }

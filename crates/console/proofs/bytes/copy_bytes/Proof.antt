@@ -1,12 +1,12 @@
--- Written by tools/proofs from tools/console.conf. `console::draw::copy_bytes` meets its contract. Assumes nothing.
+-- Written by tools/proofs from tools/console.conf. `console::bytes::copy_bytes` meets its contract. Assumes nothing.
 use Prim.Native.Nat.{_-_, _≤_}
 use mathlib.Core.Path.{_≡_}
 use native.Mathlib.Omega.{arith}
 use borrow.Author.Needs.{needs}
 use Rattle.console.proofs.DrawLaws.{copied-none, copied-more}
 use Rattle.console.specs.Drawing.{Copied}
-use Rattle.console.proofs.draw.copy_bytes.Statement.{statement}
-use Rattle.console.proofs.draw.copy_bytes.Tie as tie
+use Rattle.console.proofs.bytes.copy_bytes.Statement.{statement}
+use Rattle.console.proofs.bytes.copy_bytes.Tie as tie
 
 abbrev Inv-loop : tie.InvT-loop
 Inv-loop out₀ from count i₀ out i = (i ≤ count) × Copied out₀ from i out

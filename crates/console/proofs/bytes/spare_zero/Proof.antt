@@ -1,4 +1,4 @@
--- Written by tools/proofs from tools/console.conf. `console::draw::spare_zero` meets its contract. Assumes nothing.
+-- Written by tools/proofs from tools/console.conf. `console::bytes::spare_zero` meets its contract. Assumes nothing.
 use Prim.Native.Nat.{ℕ, _+_, _*_, _/_, _%_, _^_}
 use mathlib.Core.Path.{sym, ap, _∙_}
 use native.Mathlib.Omega.{arith}
@@ -7,8 +7,8 @@ use borrow.Author.Needs.{needs}
 use borrow.Author.Tests.{eqb-true}
 use Rattle.codec.proofs.Good.{not-both}
 use Rattle.console.proofs.DrawLaws.{spare-bits}
-use Rattle.console.proofs.draw.spare_zero.Statement.{statement}
-use Rattle.console.proofs.draw.spare_zero.Tie as tie
+use Rattle.console.proofs.bytes.spare_zero.Statement.{statement}
+use Rattle.console.proofs.bytes.spare_zero.Tie as tie
 
 shared-slice-read-wide : tie.Need-shared-slice-read-wide
 shared-slice-read-wide c = search needs

@@ -1,9 +1,9 @@
--- Written by tools/proofs from tools/console.conf. `console::draw::same_bytes` meets its contract. Assumes nothing.
+-- Written by tools/proofs from tools/console.conf. `console::bytes::same_bytes` meets its contract. Assumes nothing.
 use borrow.Author.Needs.{needs}
 use Rattle.codec.proofs.Good.{not-both}
 use Rattle.console.proofs.DrawLaws.{alike-all}
-use Rattle.console.proofs.draw.same_bytes.Statement.{statement}
-use Rattle.console.proofs.draw.same_bytes.Tie as tie
+use Rattle.console.proofs.bytes.same_bytes.Statement.{statement}
+use Rattle.console.proofs.bytes.same_bytes.Tie as tie
 
 returns : tie.Need-returns
 returns c = λ e. not-both e

@@ -1,4 +1,4 @@
--- Written by tools/proofs from tools/console.conf. `console::draw::same_run` meets its contract. Assumes nothing.
+-- Written by tools/proofs from tools/console.conf. `console::bytes::same_run` meets its contract. Assumes nothing.
 use Prim.Native.Nat.{_-_}
 use mathlib.Core.Bool.{true}
 use mathlib.Core.Path.{_≡_}
@@ -6,8 +6,8 @@ use denote.Ref.{now}
 use borrow.Author.Needs.{needs}
 use Rattle.console.proofs.DrawLaws.{alike-none, alike-more, alike-end}
 use Rattle.console.specs.Drawing.{Alike}
-use Rattle.console.proofs.draw.same_run.Statement.{statement}
-use Rattle.console.proofs.draw.same_run.Tie as tie
+use Rattle.console.proofs.bytes.same_run.Statement.{statement}
+use Rattle.console.proofs.bytes.same_run.Tie as tie
 
 abbrev Inv-loop : tie.InvT-loop
 Inv-loop a b from to same₀ i₀ same i = same ≡ true → Alike a b from i
