@@ -5,6 +5,7 @@ ghost use Prim.Native.Nat.{_-_, _%_, _≤_};
 ghost use lib.ListN.{length};
 ghost use Rattle.bits.specs.Fields.{bitAt, fieldAt};
 ghost use Rattle.console.specs.Drawing.{Alike, Copied};
+use crate::number;
 use crate::values;
 
 // Both are the bytes of one value. The first 464 go sixteen at a time, which leaves seven.
@@ -43,7 +44,7 @@ pub(crate) fn spare_zero(l: &[u8], at: usize) -> bool
 {
     let i = at / 8;
     if i < l.len() {
-        return wide(l[i]) << (56 + at % 8) == 0;
+        return number::wide(l[i]) << (56 + at % 8) == 0;
     }
     false
 }
@@ -57,10 +58,4 @@ pub(crate) fn copy_bytes(out: &mut [u8], from: &[u8], count: usize)
         out[i] = from[i];
         i += 1;
     }
-}
-
-pub(crate) fn wide(x: u8) -> u64
-    ensures { λ r. ⌜ r ≡ x ⌝ }
-{
-    x as u64
 }

@@ -2,7 +2,6 @@
 // lets it out only where it is read back as these bytes (proofs/DrawLaws), so a function that draws has no contract but what a shift
 // asks. Where each element lies in the bytes is in specs/Values of `layouts`; bits of a word stand from its top on.
 ghost use Prim.Native.Nat.{_≤_, _<_};
-use crate::bytes;
 use crate::number;
 use message::Part;
 use message::Slot;
@@ -20,7 +19,7 @@ pub(crate) fn draw(profile: &[u8], value: &[u8], out: &mut [u8]) -> usize
 {
     let pdu = number::byte_at(value, 0);
     let ss = number::byte_at(profile, 0);
-    let at = put(out, 0, 11, bytes::wide(ss) << 58 | bytes::wide(pdu) << 53);
+    let at = put(out, 0, 11, number::wide(ss) << 58 | number::wide(pdu) << 53);
     let row = message::row_of(pdu);
     let parts = row.parts;
     let at = draw_parts(profile, value, parts, row.count, out, at);
@@ -137,13 +136,13 @@ fn number_at(value: &[u8], place: u8) -> u64 {
         return bits::eight(value, 119) >> 48;
     }
     if place == message::CAUSE_AT {
-        return bytes::wide(number::byte_at(value, 118));
+        return number::wide(number::byte_at(value, 118));
     }
     if place == message::MNI_AT {
         return bits::eight(value, 234) >> 40;
     }
     // areas, basic services and types, in their places' order
-    bytes::wide(number::byte_at(value, after(232, place as usize)))
+    number::wide(number::byte_at(value, after(232, place as usize)))
 }
 
 fn user_at(place: u8) -> usize {
@@ -155,7 +154,7 @@ fn user_at(place: u8) -> usize {
 
 fn draw_group(profile: &[u8], value: &[u8], from: usize, out: &mut [u8], at: usize) -> usize {
     let range = number::byte_at(value, from);
-    let next = put(out, at, 4, bytes::wide(range) << 60);
+    let next = put(out, at, 4, number::wide(range) << 60);
     draw_list(value, after(from, 1), count_of(profile, range), out, next)
 }
 
@@ -172,7 +171,7 @@ fn meaning_of(profile: &[u8], range: u8) -> Meaning {
 // and makes one load and one store of eight.
 fn draw_list(value: &[u8], from: usize, count: usize, out: &mut [u8], at: usize) -> usize {
     let mut next = at;
-    let mut held = bytes::wide(number::byte_at(out, at / 8)) << 56;
+    let mut held = number::wide(number::byte_at(out, at / 8)) << 56;
     let mut p = from;
     let mut word = bits::eight(value, p);
     let mut left = count;
@@ -246,29 +245,49 @@ fn span(first: u64, last: u64) -> usize {
 
 fn draw_result(value: &[u8], out: &mut [u8], at: usize) -> usize {
     if number::byte_at(value, 116) == 0 {
-        return put(out, at, 8, bytes::wide(number::byte_at(value, 117)) << 56);
+        return put(out, at, 8, number::wide(number::byte_at(value, 117)) << 56);
     }
     put_bit(out, at, true)
 }
 
 fn draw_state(value: &[u8], out: &mut [u8], at: usize) -> usize {
     if number::byte_at(value, 116) == 0 {
-        return put(out, at, 4, bytes::wide(number::byte_at(value, 117)) << 60);
+        return put(out, at, 4, number::wide(number::byte_at(value, 117)) << 60);
     }
     let next = put_bit(out, at, true);
-    let next = put(out, next, 1, bytes::wide(number::byte_at(value, 241)) << 63);
-    let next = put(out, next, 1, bytes::wide(number::byte_at(value, 242)) << 63);
-    let next = put(out, next, 2, bytes::wide(number::byte_at(value, 240)) << 62);
-    put(out, next, 2, bytes::wide(number::byte_at(value, 239)) << 62)
+    let next = put(
+        out,
+        next,
+        1,
+        number::wide(number::byte_at(value, 241)) << 63,
+    );
+    let next = put(
+        out,
+        next,
+        1,
+        number::wide(number::byte_at(value, 242)) << 63,
+    );
+    let next = put(
+        out,
+        next,
+        2,
+        number::wide(number::byte_at(value, 240)) << 62,
+    );
+    put(
+        out,
+        next,
+        2,
+        number::wide(number::byte_at(value, 239)) << 62,
+    )
 }
 
 fn draw_areas(profile: &[u8], value: &[u8], out: &mut [u8], at: usize) -> usize {
     let range = number::byte_at(value, 455);
-    let mut next = put(out, at, 4, bytes::wide(range) << 60);
+    let mut next = put(out, at, 4, number::wide(range) << 60);
     let mut p: usize = 456;
     let mut left = count_of(profile, range);
     while left > 0 {
-        next = put(out, next, 4, bytes::wide(number::byte_at(value, p)) << 60);
+        next = put(out, next, 4, number::wide(number::byte_at(value, p)) << 60);
         p = after(p, 1);
         left -= 1;
     }
@@ -279,7 +298,7 @@ fn draw_areas(profile: &[u8], value: &[u8], out: &mut [u8], at: usize) -> usize 
 
 // So many of a word's first bits, from a position on: the position after them. The word's other bits are 0, and so become what follows.
 fn put(out: &mut [u8], at: usize, width: usize, word: u64) -> usize {
-    let held = bytes::wide(number::byte_at(out, at / 8)) << 56;
+    let held = number::wide(number::byte_at(out, at / 8)) << 56;
     put_eight(out, at / 8, held | word >> (at % 8));
     after(at, width)
 }

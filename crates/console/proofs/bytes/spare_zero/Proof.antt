@@ -27,7 +27,7 @@ returns c =
     let s = c .before .before .before .before in
     let at = s .args .at in
     λ e. spare-bits (now (s .args .l)) at (omega (arith, c .before .before .before .shared-slice-known .given (at / 8)))
-    (sym (ap (λ (x : ℕ). x * 2 ^ (56 + at % 8) % 2 ^ 64) (c .wide .ensures)) ∙ eqb-true _ _ e)
+    (sym (ap (λ (x : ℕ). x * 2 ^ (56 + at % 8) % 2 ^ 64) (c .wide .ensures .0)) ∙ eqb-true _ _ e)
 
 returns-2 : tie.Need-returns-2
 returns-2 c = λ e. not-both e
