@@ -69,7 +69,8 @@ fn read_quickly(profile: &[u8], message: &[u8], bits: usize, value: &mut [u8]) -
         × (r ≡ true → (noStop ≡ cadReadStop (now (profile .entry)) (now (message .entry)) bits (now (value .entry)))
         × (now (value .exit) ≡ cadReadArea (now (profile .entry)) (now (message .entry)) bits (now (value .entry)))) ⌝ }
 {
-    if value.len() < values::BYTES {
+    let room = value.len();
+    if room < values::BYTES {
         return false;
     }
     if profiles::passes(profile) {
