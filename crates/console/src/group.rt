@@ -7,15 +7,15 @@ ghost use Rattle.bits.specs.Fields.{bitAt};
 ghost use Rattle.message.specs.Groups.{rangeOk};
 ghost use Rattle.layouts.specs.Profiles.{airFrom};
 ghost use Rattle.layouts.specs.Values.{addressFrom};
-ghost use Rattle.layouts.proofs.PartLaws.{Addresses, Group-lays};
+ghost use Rattle.layouts.proofs.PartLaws.{Addresses, Any-group};
 ghost use Rattle.layouts.proofs.RunLaws.{Stored};
 ghost use Rattle.layouts.proofs.PlaceLaws.{Places};
 use crate::number;
 use crate::word;
 
+// Users alone, at byte 1, may not be "none".
 pub(crate) fn lay_group(
     profile: &[u8],
-    none: bool,
     buf: &[u8],
     at: usize,
     area: &mut [u8],
@@ -23,7 +23,7 @@ pub(crate) fn lay_group(
 ) -> usize
     requires { ⌜ (length (now area) ≡ 471) × ((place + 106 < 471) × (at ≤ 5000)) ⌝ }
     ensures { λ r. ⌜ (length (now (area .exit)) ≡ 471)
-        × ((r ≡ 0 → ⊥) → Group-lays (airFrom (now (profile .entry))) (now (buf .entry)) none at (now (area .entry)) (now (area .exit)) place r) ⌝ }
+        × ((r ≡ 0 → ⊥) → Any-group (airFrom (now (profile .entry))) (now (buf .entry)) at (now (area .entry)) (now (area .exit)) place r) ⌝ }
 {
     let range = word::four(buf, at);
     let m = number::byte_at(profile, 6 + range as usize) as usize;
@@ -35,10 +35,10 @@ pub(crate) fn lay_group(
         return lay_places(buf, at + 4, m, area, place + 1);
     }
     if m == 16 {
-        if none {
-            return lay_places(buf, at + 4, 0, area, place + 1);
+        if place == 1 {
+            return 0;
         }
-        return 0;
+        return lay_places(buf, at + 4, 0, area, place + 1);
     }
     if m > 17 {
         return 0;

@@ -7,6 +7,7 @@ ghost use lib.Seq.{sets};
 ghost use Rattle.bits.specs.Fields.{bitAt};
 ghost use Rattle.layouts.specs.Bytes.{numberBytes};
 ghost use Rattle.layouts.specs.Profiles.{airFrom};
+ghost use Rattle.layouts.proofs.PartLaws.{Group-part};
 ghost use Rattle.layouts.proofs.PlaceLaws.{Spans};
 ghost use Rattle.layouts.proofs.RowReads.{Part-lays};
 ghost use Rattle.message.specs.declared.Part.the-variants.{Number, User, Masked, Result, Interrogation};
@@ -21,19 +22,43 @@ pub(crate) fn lay_part(profile: &[u8], part: Part, buf: &[u8], at: usize, area: 
     ensures { λ r. ⌜ (length (now (area .exit)) ≡ 471)
         × ((r ≡ 0 → ⊥) → Part-lays (airFrom (now (profile .entry))) (bitAt (now (buf .entry))) part at (now (area .entry)) (now (area .exit)) r) ⌝ }
 {
+    let place = group_at(part);
+    if place > 0 {
+        return group::lay_group(profile, buf, at, area, place);
+    }
     match part {
         Part::Nothing => at,
         Part::Number(place) => lay_number(profile, place, buf, at, area),
-        Part::Users => group::lay_group(profile, false, buf, at, area, 1),
+        Part::Users => 0,
         Part::User(place) => lay_user(profile, place, buf, at, area),
         Part::Masked => lay_mask(profile, buf, at, area),
         Part::Result => lay_result(profile, buf, at, area),
-        Part::Dispatchers => group::lay_group(profile, true, buf, at, area, 122),
+        Part::Dispatchers => 0,
         Part::Dispatcher => group::lay_addresses(buf, at, 1, area, 123),
         Part::Interrogation => lay_state(profile, buf, at, area),
-        Part::Sources => group::lay_group(profile, true, buf, at, area, 243),
-        Part::Destinations => group::lay_group(profile, true, buf, at, area, 349),
+        Part::Sources => 0,
+        Part::Destinations => 0,
         Part::Areas => area::lay_areas(profile, buf, at, area),
+    }
+}
+
+// Where the bytes of a group begin; 0 for any other part. One call lays all four: the compiler then builds it in.
+fn group_at(part: Part) -> usize
+    ensures { λ r. ⌜ ((r ≡ 0 → ⊥) → Group-part part r) ⌝ }
+{
+    match part {
+        Part::Nothing => 0,
+        Part::Number(place) => 0,
+        Part::Users => 1,
+        Part::User(place) => 0,
+        Part::Masked => 0,
+        Part::Result => 0,
+        Part::Dispatchers => 122,
+        Part::Dispatcher => 0,
+        Part::Interrogation => 0,
+        Part::Sources => 243,
+        Part::Destinations => 349,
+        Part::Areas => 0,
     }
 }
 

@@ -377,3 +377,31 @@ module _ (air : Air) (f : ℕ → ℕ) (binary : Binary f) (a b : List ℕ) (at 
 -- by the contract of `lay_group`
 abbrev pub Group-lays : Air → List ℕ → Bool → ℕ → List ℕ → List ℕ → ℕ → ℕ → Type 0
 Group-lays air l none at a b o r = Grouped air (bitAt l) (bit-lt l) a b at r none o
+
+-- the parts that are groups, and where each lies
+pub data Group-part : Part → ℕ → Type 0 where
+  of-users : Group-part part.Users 1
+  of-dispatchers : Group-part part.Dispatchers 122
+  of-sources : Group-part part.Sources 243
+  of-destinations : Group-part part.Destinations 349
+
+pub group-place : (p : Part) (o : ℕ) → Group-part p o → o + 106 < 471
+group-place p o of-users = omega arith
+group-place p o of-dispatchers = omega arith
+group-place p o of-sources = omega arith
+group-place p o of-destinations = omega arith
+
+-- users alone may not be "none"
+abbrev pub Any-group : Air → List ℕ → ℕ → List ℕ → List ℕ → ℕ → ℕ → Type 0
+Any-group air l at a b o r = (may : Bool) → (may ≡ false → o ≡ 1) → Group-lays air l may at a b o r
+
+pub group-lay : (air : Air) (l a b : List ℕ) (at r : ℕ) (v : Value) → Laid a v → (p : Part) (o : ℕ) → Group-part p o → Any-group air l at a b o r
+    → Lays (λ n. partRead air v p (bitAt l) n at) at b r
+group-lay air l a b at r v h p o of-users g = users-lay air (bitAt l) (bit-lt l) a b at r v h (g false (λ e. refl))
+group-lay air l a b at r v h p o of-dispatchers g = dispatchers-lay air (bitAt l) (bit-lt l) a b at r v h (g true (λ e. not-both (sym e)))
+group-lay air l a b at r v h p o of-sources g = sources-lay air (bitAt l) (bit-lt l) a b at r v h (g true (λ e. not-both (sym e)))
+group-lay air l a b at r v h p o of-destinations g = destinations-lay air (bitAt l) (bit-lt l) a b at r v h (g true (λ e. not-both (sym e)))
+
+pub may-be : (may : Bool) (o : ℕ) → (may ≡ false → o ≡ 1) → (o ≡ 1 → ⊥) → may ≡ true
+may-be true o h k = refl
+may-be false o h k = absurd (k (h refl))

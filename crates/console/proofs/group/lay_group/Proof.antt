@@ -5,6 +5,7 @@ use denote.Ref.{now}
 use borrow.Author.Needs.{needs}
 use Rattle.bits.proofs.FieldLaws.{bit-lt}
 use Rattle.bits.specs.Fields.{bitAt}
+use Rattle.layouts.proofs.PartLaws.{may-be}
 use Rattle.layouts.proofs.PlaceLaws.{list-grouped, none-grouped, ends-grouped}
 use Rattle.console.proofs.group.lay_group.Statement.{statement}
 use Rattle.console.proofs.group.lay_group.Tie as tie
@@ -46,7 +47,13 @@ same-length-2 : tie.Need-same-length-2
 same-length-2 c = search needs
 
 returns-2 : tie.Need-returns-2
-returns-2 c = (c .before .before .lay-places .ensures .0, λ z. list-grouped (now (c .before .before .before .before .before .before .before .before .before .before .before .before .before .before .before .args .profile)) (bitAt (now (c .before .before .before .before .before .before .before .before .before .before .before .before .before .before .before .args .buf))) (bit-lt (now (c .before .before .before .before .before .before .before .before .before .before .before .before .before .before .before .args .buf))) (c .before .before .before .before .before .before .before .before .before .before .before .before .before .before .before .args .at) (now (c .before .before .before .before .before .before .before .before .before .before .before .before .before .before .before .args .area)) _ _ (c .before .before .before .before .before .before .before .before .before .before .before .before .before .before .before .args .place) _ _ _ (c .before .before .before .before .before .before .before .before .before .before .before .four .ensures .0) (c .before .before .before .before .before .before .before .before .put-byte .ensures) (c .before .before .before .before .before .before .before .before .before .before .byte-at .ensures) (c .before .before .before .before .before .before .before .before .before .before .before .before .before .before .before .args .none) (c .before .before .before .before .before .if1 .left) (c .before .before .before .before .if2 .taken) (c .before .before .lay-places .ensures .1 z))
+returns-2 c = (c .before .before .lay-places .ensures .0, λ z may h. list-grouped (now (c .before .before .before .before .before .before .before .before .before .before .before .before .before .before .before .args .profile)) (bitAt (now (c .before .before .before .before .before .before .before .before .before .before .before .before .before .before .before .args .buf))) (bit-lt (now (c .before .before .before .before .before .before .before .before .before .before .before .before .before .before .before .args .buf))) (c .before .before .before .before .before .before .before .before .before .before .before .before .before .before .before .args .at) (now (c .before .before .before .before .before .before .before .before .before .before .before .before .before .before .before .args .area)) _ _ (c .before .before .before .before .before .before .before .before .before .before .before .before .before .before .before .args .place) _ _ _ (c .before .before .before .before .before .before .before .before .before .before .before .four .ensures .0) (c .before .before .before .before .before .before .before .before .put-byte .ensures) (c .before .before .before .before .before .before .before .before .before .before .byte-at .ensures) may (c .before .before .before .before .before .if1 .left) (c .before .before .before .before .if2 .taken) (c .before .before .lay-places .ensures .1 z))
+
+same-length-3 : tie.Need-same-length-3
+same-length-3 c = search needs
+
+returns-3 : tie.Need-returns-3
+returns-3 c = (search needs, λ z. absurd (z refl))
 
 add-lay-places-3 : tie.Need-add-lay-places-3
 add-lay-places-3 c = search needs
@@ -57,17 +64,11 @@ add-lay-places-4 c = search needs
 lay-places-requires-2 : tie.Need-lay-places-requires-2
 lay-places-requires-2 c κs = search needs
 
-same-length-3 : tie.Need-same-length-3
-same-length-3 c = search needs
-
-returns-3 : tie.Need-returns-3
-returns-3 c = (c .before .before .lay-places2 .ensures .0, λ z. none-grouped (now (c .before .before .before .before .before .before .before .before .before .before .before .before .before .before .before .before .before .args .profile)) (bitAt (now (c .before .before .before .before .before .before .before .before .before .before .before .before .before .before .before .before .before .args .buf))) (bit-lt (now (c .before .before .before .before .before .before .before .before .before .before .before .before .before .before .before .before .before .args .buf))) (c .before .before .before .before .before .before .before .before .before .before .before .before .before .before .before .before .before .args .at) (now (c .before .before .before .before .before .before .before .before .before .before .before .before .before .before .before .before .before .args .area)) _ _ (c .before .before .before .before .before .before .before .before .before .before .before .before .before .before .before .before .before .args .place) _ _ _ (c .before .before .before .before .before .before .before .before .before .before .before .before .before .four .ensures .0) (c .before .before .before .before .before .before .before .before .before .before .put-byte .ensures) (c .before .before .before .before .before .before .before .before .before .before .before .before .byte-at .ensures) (c .before .before .before .before .before .before .before .before .before .before .before .before .before .before .before .before .before .args .none) (c .before .before .before .before .if4 .taken) (c .before .before .before .before .before .if3 .taken) (c .before .before .lay-places2 .ensures .1 z))
-
 same-length-4 : tie.Need-same-length-4
 same-length-4 c = search needs
 
 returns-4 : tie.Need-returns-4
-returns-4 c = (search needs, λ z. absurd (z refl))
+returns-4 c = (c .before .before .lay-places2 .ensures .0, λ z may h. none-grouped (now (c .before .before .before .before .before .before .before .before .before .before .before .before .before .before .before .before .before .args .profile)) (bitAt (now (c .before .before .before .before .before .before .before .before .before .before .before .before .before .before .before .before .before .args .buf))) (bit-lt (now (c .before .before .before .before .before .before .before .before .before .before .before .before .before .before .before .before .before .args .buf))) (c .before .before .before .before .before .before .before .before .before .before .before .before .before .before .before .before .before .args .at) (now (c .before .before .before .before .before .before .before .before .before .before .before .before .before .before .before .before .before .args .area)) _ _ (c .before .before .before .before .before .before .before .before .before .before .before .before .before .before .before .before .before .args .place) _ _ _ (c .before .before .before .before .before .before .before .before .before .before .before .before .before .four .ensures .0) (c .before .before .before .before .before .before .before .before .before .before .put-byte .ensures) (c .before .before .before .before .before .before .before .before .before .before .before .before .byte-at .ensures) may (may-be may _ h (c .before .before .before .before .if4 .left)) (c .before .before .before .before .before .if3 .taken) (c .before .before .lay-places2 .ensures .1 z))
 
 same-length-5 : tie.Need-same-length-5
 same-length-5 c = search needs
@@ -94,7 +95,7 @@ same-length-6 : tie.Need-same-length-6
 same-length-6 c = search needs
 
 returns-6 : tie.Need-returns-6
-returns-6 c = (c .before .before .before .before .before .lay-places3 .ensures .0, λ z. ends-grouped (now (c .before .before .before .before .before .before .before .before .before .before .before .before .before .before .before .before .before .before .before .before .args .profile)) (bitAt (now (c .before .before .before .before .before .before .before .before .before .before .before .before .before .before .before .before .before .before .before .before .args .buf))) (bit-lt (now (c .before .before .before .before .before .before .before .before .before .before .before .before .before .before .before .before .before .before .before .before .args .buf))) (c .before .before .before .before .before .before .before .before .before .before .before .before .before .before .before .before .before .before .before .before .args .at) (now (c .before .before .before .before .before .before .before .before .before .before .before .before .before .before .before .before .before .before .before .before .args .area)) _ _ (c .before .before .before .before .before .before .before .before .before .before .before .before .before .before .before .before .before .before .before .before .args .place) _ _ _ (c .before .before .before .before .before .before .before .before .before .before .before .before .before .before .before .before .four .ensures .0) (c .before .before .before .before .before .before .before .before .before .before .before .before .before .put-byte .ensures) (c .before .before .before .before .before .before .before .before .before .before .before .before .before .before .before .byte-at .ensures) (c .before .before .before .before .before .before .before .before .before .before .before .before .before .before .before .before .before .before .before .before .args .none) (omega (arith, c .before .before .before .before .before .before .before .before .before .if2 .left, c .before .before .before .before .before .before .before .before .if3 .left, c .before .before .before .before .before .before .before .if5 .left)) (c .before .before .before .before .before .lay-places3 .ensures .1 z) (omega (arith, c .before .before .before .before .before .before .before .before .before .before .before .before .before .before .before .before .before .before .before .before .pre)) (sym (c .before .ends-ok .ensures) ∙ c .if6 .taken))
+returns-6 c = (c .before .before .before .before .before .lay-places3 .ensures .0, λ z may h. ends-grouped (now (c .before .before .before .before .before .before .before .before .before .before .before .before .before .before .before .before .before .before .before .before .args .profile)) (bitAt (now (c .before .before .before .before .before .before .before .before .before .before .before .before .before .before .before .before .before .before .before .before .args .buf))) (bit-lt (now (c .before .before .before .before .before .before .before .before .before .before .before .before .before .before .before .before .before .before .before .before .args .buf))) (c .before .before .before .before .before .before .before .before .before .before .before .before .before .before .before .before .before .before .before .before .args .at) (now (c .before .before .before .before .before .before .before .before .before .before .before .before .before .before .before .before .before .before .before .before .args .area)) _ _ (c .before .before .before .before .before .before .before .before .before .before .before .before .before .before .before .before .before .before .before .before .args .place) _ _ _ (c .before .before .before .before .before .before .before .before .before .before .before .before .before .before .before .before .four .ensures .0) (c .before .before .before .before .before .before .before .before .before .before .before .before .before .put-byte .ensures) (c .before .before .before .before .before .before .before .before .before .before .before .before .before .before .before .byte-at .ensures) may (omega (arith, c .before .before .before .before .before .before .before .before .before .if2 .left, c .before .before .before .before .before .before .before .before .if3 .left, c .before .before .before .before .before .before .before .if5 .left)) (c .before .before .before .before .before .lay-places3 .ensures .1 z) (omega (arith, c .before .before .before .before .before .before .before .before .before .before .before .before .before .before .before .before .before .before .before .before .pre)) (sym (c .before .ends-ok .ensures) ∙ c .if6 .taken))
 
 same-length-7 : tie.Need-same-length-7
 same-length-7 c = search needs
@@ -119,11 +120,11 @@ lay-group-spec =
     lay-places-requires
     same-length-2
     returns-2
+    same-length-3
+    returns-3
     add-lay-places-3
     add-lay-places-4
     lay-places-requires-2
-    same-length-3
-    returns-3
     same-length-4
     returns-4
     same-length-5
