@@ -1,4 +1,4 @@
--- `console::read_into` meets its contract. Assumes nothing.
+-- Written by tools/proofs from tools/console.conf. `console::read_into` meets its contract. Assumes nothing.
 use denote.Ref.{now}
 use borrow.Author.Needs.{needs}
 use Rattle.console.proofs.CallLaws.{same-stop}

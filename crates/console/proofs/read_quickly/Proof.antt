@@ -1,4 +1,4 @@
--- `console::read_quickly` meets its contract. Assumes nothing.
+-- Written by tools/proofs from tools/console.conf. `console::read_quickly` meets its contract. Assumes nothing.
 use mathlib.Core.Path.{refl, sym, _∙_}
 use denote.Ref.{now}
 use borrow.Author.Needs.{needs}

@@ -1,4 +1,4 @@
--- `console::area::lay_areas` meets its contract. Assumes nothing.
+-- Written by tools/proofs from tools/console.conf. `console::area::lay_areas` meets its contract. Assumes nothing.
 use mathlib.Core.Path.{refl}
 use native.Mathlib.Omega.{arith}
 use denote.Ref.{now}

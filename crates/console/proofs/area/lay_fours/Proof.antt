@@ -1,4 +1,4 @@
--- `console::area::lay_fours` meets its contract. Assumes nothing.
+-- Written by tools/proofs from tools/console.conf. `console::area::lay_fours` meets its contract. Assumes nothing.
 use Prim.Native.Nat.{_+_, _-_, _*_, _≤_}
 use mathlib.Core.Path.{_≡_, refl, sym, _∙_}
 use native.Mathlib.Omega.{arith}

@@ -1,4 +1,4 @@
--- `console::group::ends_ok` meets its contract. Assumes nothing.
+-- Written by tools/proofs from tools/console.conf. `console::group::ends_ok` meets its contract. Assumes nothing.
 use denote.Ref.{now}
 use borrow.Author.Needs.{needs}
 use Rattle.console.proofs.LayLaws.{ends-kind, ends-extension, ends-fall, ends-far, ends-good}

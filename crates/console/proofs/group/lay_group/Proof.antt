@@ -1,4 +1,4 @@
--- `console::group::lay_group` meets its contract. Assumes nothing.
+-- Written by tools/proofs from tools/console.conf. `console::group::lay_group` meets its contract. Assumes nothing.
 use mathlib.Core.Path.{refl, sym, _∙_}
 use native.Mathlib.Omega.{arith}
 use denote.Ref.{now}

@@ -1,4 +1,4 @@
--- `console::group::lay_kind` meets its contract. Assumes nothing.
+-- Written by tools/proofs from tools/console.conf. `console::group::lay_kind` meets its contract. Assumes nothing.
 use Prim.Native.Nat.{ℕ, _+_}
 use mathlib.Core.List.{List}
 use mathlib.Core.Path.{refl, ap, _∙_}

@@ -1,4 +1,4 @@
--- `console::group::zero_run` meets its contract. Assumes nothing.
+-- Written by tools/proofs from tools/console.conf. `console::group::zero_run` meets its contract. Assumes nothing.
 use Prim.Native.Nat.{_-_, _≤_}
 use mathlib.Core.Path.{_≡_, refl}
 use native.Mathlib.Omega.{arith}

@@ -1,4 +1,4 @@
--- `console::lay::lay` meets its contract. Assumes nothing.
+-- Written by tools/proofs from tools/console.conf. `console::lay::lay` meets its contract. Assumes nothing.
 use Prim.Native.Nat.{ℕ, _+_, _*_, _/_, _%_}
 use mathlib.Core.List.{List}
 use mathlib.Core.Path.{_≡_, refl, sym, ap, _∙_}

@@ -1,4 +1,4 @@
--- `console::lay::lay_parts` meets its contract. Assumes nothing.
+-- Written by tools/proofs from tools/console.conf. `console::lay::lay_parts` meets its contract. Assumes nothing.
 use Prim.Native.Nat.{_-_, _≤_}
 use mathlib.Core.Path.{_≡_, refl, sym, _∙_}
 use native.Mathlib.Omega.{arith}

@@ -1,4 +1,4 @@
--- `console::lay::lay_row` meets its contract. Assumes nothing.
+-- Written by tools/proofs from tools/console.conf. `console::lay::lay_row` meets its contract. Assumes nothing.
 use Prim.Native.Nat.{ℕ}
 use mathlib.Core.List.{List}
 use mathlib.Core.Path.{refl, sym, ap, _∙_}

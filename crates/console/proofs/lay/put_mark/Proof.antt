@@ -1,4 +1,4 @@
--- `console::lay::put_mark` meets its contract. Assumes nothing.
+-- Written by tools/proofs from tools/console.conf. `console::lay::put_mark` meets its contract. Assumes nothing.
 use denote.Ref.{now}
 use borrow.Author.Needs.{needs}
 use Rattle.console.proofs.LayLaws.{mark-there}

@@ -1,4 +1,4 @@
--- `console::number::put_run` meets its contract. Assumes nothing.
+-- Written by tools/proofs from tools/console.conf. `console::number::put_run` meets its contract. Assumes nothing.
 use Prim.Native.Nat.{_≤_}
 use mathlib.Core.Path.{_≡_, refl}
 use native.Mathlib.Omega.{arith}

@@ -1,4 +1,4 @@
--- `console::number::triple` meets its contract. Assumes nothing.
+-- Written by tools/proofs from tools/console.conf. `console::number::triple` meets its contract. Assumes nothing.
 use native.Mathlib.Omega.{arith}
 use denote.Ref.{now}
 use borrow.Author.Needs.{needs}

@@ -1,4 +1,4 @@
--- `console::part::aligned` meets its contract. Assumes nothing.
+-- Written by tools/proofs from tools/console.conf. `console::part::aligned` meets its contract. Assumes nothing.
 use borrow.Author.Needs.{needs}
 use Rattle.console.proofs.LayLaws.{aligned-none, aligned-there}
 use Rattle.console.proofs.part.aligned.Statement.{statement}
@@ -17,10 +17,4 @@ returns-2 : tie.Need-returns-2
 returns-2 c = aligned-there (c .before .args .v) (c .before .args .count) (c .before .pre .0) (c .before .pre .1)
 
 pub aligned-spec : {M : Type 1} → statement M
-aligned-spec =
-    tie.close
-    (tie.spec
-    returns
-    sub-result
-    shl-result
-    returns-2)
+aligned-spec = tie.close (tie.spec returns sub-result shl-result returns-2)

@@ -1,4 +1,4 @@
--- `console::part::group_at` meets its contract. Assumes nothing.
+-- Written by tools/proofs from tools/console.conf. `console::part::group_at` meets its contract. Assumes nothing.
 use mathlib.Core.Path.{refl}
 use borrow.Author.Needs.{needs}
 use Rattle.layouts.proofs.PartLaws.{of-users, of-dispatchers, of-sources, of-destinations}

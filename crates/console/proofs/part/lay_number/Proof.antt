@@ -1,4 +1,4 @@
--- `console::part::lay_number` meets its contract. Assumes nothing.
+-- Written by tools/proofs from tools/console.conf. `console::part::lay_number` meets its contract. Assumes nothing.
 use Prim.Native.Nat.{ℕ}
 use mathlib.Core.Path.{refl, ap, _∙_}
 use native.Mathlib.Omega.{arith}

@@ -1,4 +1,4 @@
--- `console::part::lay_part` meets its contract. Assumes nothing.
+-- Written by tools/proofs from tools/console.conf. `console::part::lay_part` meets its contract. Assumes nothing.
 use mathlib.Core.Path.{refl}
 use native.Mathlib.Omega.{arith}
 use denote.Ref.{now}

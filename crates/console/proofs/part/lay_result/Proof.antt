@@ -1,4 +1,4 @@
--- `console::part::lay_result` meets its contract. Assumes nothing.
+-- Written by tools/proofs from tools/console.conf. `console::part::lay_result` meets its contract. Assumes nothing.
 use Prim.Native.Nat.{_+_}
 use mathlib.Core.Path.{refl, sym, _∙_}
 use native.Mathlib.Omega.{arith}

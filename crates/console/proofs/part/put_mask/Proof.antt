@@ -1,4 +1,4 @@
--- `console::part::put_mask` meets its contract. Assumes nothing.
+-- Written by tools/proofs from tools/console.conf. `console::part::put_mask` meets its contract. Assumes nothing.
 use mathlib.Core.Path.{_∙_}
 use native.Mathlib.Omega.{arith}
 use denote.Ref.{now}
@@ -22,10 +22,4 @@ returns : tie.Need-returns
 returns c = c .before .before .put-run .ensures
 
 pub put-mask-spec : {M : Type 1} → statement M
-put-mask-spec =
-    tie.close
-    (tie.spec
-    slice-write-area
-    put-run-requires
-    same-length
-    returns)
+put-mask-spec = tie.close (tie.spec slice-write-area put-run-requires same-length returns)

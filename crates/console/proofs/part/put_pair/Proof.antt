@@ -1,4 +1,4 @@
--- `console::part::put_pair` meets its contract. Assumes nothing.
+-- Written by tools/proofs from tools/console.conf. `console::part::put_pair` meets its contract. Assumes nothing.
 use native.Mathlib.Omega.{arith}
 use denote.Ref.{now}
 use lib.ListN.{length-set}
@@ -23,10 +23,4 @@ returns c = search needs
 
 pub put-pair-spec : {M : Type 1} → statement M
 put-pair-spec =
-    tie.close
-    (tie.spec
-    slice-write-area
-    add-area
-    slice-write-area-2
-    same-length
-    returns)
+    tie.close (tie.spec slice-write-area add-area slice-write-area-2 same-length returns)

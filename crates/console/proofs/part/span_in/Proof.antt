@@ -1,4 +1,4 @@
--- `console::part::span_in` meets its contract. Assumes nothing.
+-- Written by tools/proofs from tools/console.conf. `console::part::span_in` meets its contract. Assumes nothing.
 use Prim.Native.Nat.{ℕ, _+_}
 use mathlib.Core.Path.{ap, _∙_}
 use native.Mathlib.Omega.{arith}

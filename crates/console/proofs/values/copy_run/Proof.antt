@@ -1,4 +1,4 @@
--- `console::values::copy_run` meets its contract. Assumes nothing.
+-- Written by tools/proofs from tools/console.conf. `console::values::copy_run` meets its contract. Assumes nothing.
 use Prim.Native.Nat.{_-_, _≤_}
 use mathlib.Core.Path.{_≡_, refl}
 use native.Mathlib.Omega.{arith}

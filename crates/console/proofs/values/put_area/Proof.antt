@@ -1,4 +1,4 @@
--- `console::values::put_area` meets its contract. Assumes nothing.
+-- Written by tools/proofs from tools/console.conf. `console::values::put_area` meets its contract. Assumes nothing.
 use mathlib.Core.Path.{_∙_}
 use native.Mathlib.Omega.{arith}
 use denote.Ref.{now}

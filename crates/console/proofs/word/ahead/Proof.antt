@@ -1,4 +1,4 @@
--- `console::word::ahead` meets its contract. Assumes nothing.
+-- Written by tools/proofs from tools/console.conf. `console::word::ahead` meets its contract. Assumes nothing.
 use denote.Ref.{now}
 use borrow.Author.Needs.{needs}
 use Rattle.console.proofs.LayLaws.{ahead-there, ahead-past, ahead-last}

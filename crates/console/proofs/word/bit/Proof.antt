@@ -1,4 +1,4 @@
--- `console::word::bit` meets its contract. Assumes nothing.
+-- Written by tools/proofs from tools/console.conf. `console::word::bit` meets its contract. Assumes nothing.
 use mathlib.Core.Path.{_∙_}
 use denote.Ref.{now}
 use borrow.Author.Needs.{needs}
@@ -22,11 +22,4 @@ returns : tie.Need-returns
 returns c = bit-is (now (c .before .before .before .args .buf)) (c .before .before .before .args .at) _ (c .wide .ensures .0 ∙ c .before .byte-at .ensures)
 
 pub bit-spec : {M : Type 1} → statement M
-bit-spec =
-    tie.close
-    (tie.spec
-    byte-at-requires
-    wide-requires
-    sub-result
-    shr-result
-    returns)
+bit-spec = tie.close (tie.spec byte-at-requires wide-requires sub-result shr-result returns)

@@ -1,4 +1,4 @@
--- `console::word::four` meets its contract. Assumes nothing.
+-- Written by tools/proofs from tools/console.conf. `console::word::four` meets its contract. Assumes nothing.
 use native.Mathlib.Omega.{arith}
 use denote.Ref.{now}
 use borrow.Author.Needs.{needs}
@@ -13,8 +13,4 @@ returns : tie.Need-returns
 returns c = (c .take .ensures, omega (arith, c .take .ensures, field-below 4 (now (c .before .before .args .buf)) (c .before .before .args .at) 4 (omega arith)))
 
 pub four-spec : {M : Type 1} → statement M
-four-spec =
-    tie.close
-    (tie.spec
-    take-requires
-    returns)
+four-spec = tie.close (tie.spec take-requires returns)

@@ -1,4 +1,4 @@
--- `console::word::take` meets its contract. Assumes nothing.
+-- Written by tools/proofs from tools/console.conf. `console::word::take` meets its contract. Assumes nothing.
 use denote.Ref.{now}
 use borrow.Author.Needs.{needs}
 use Rattle.console.proofs.LayLaws.{take-is}
@@ -18,10 +18,4 @@ returns : tie.Need-returns
 returns c = take-is (now (c .before .before .args .buf)) (c .before .before .args .at) (c .before .before .args .width) _ (c .before .before .pre) (c .window .ensures)
 
 pub take-spec : {M : Type 1} → statement M
-take-spec =
-    tie.close
-    (tie.spec
-    window-requires
-    sub-result
-    shr-result
-    returns)
+take-spec = tie.close (tie.spec window-requires sub-result shr-result returns)

@@ -1,4 +1,4 @@
--- `console::word::window` meets its contract. Assumes nothing.
+-- Written by tools/proofs from tools/console.conf. `console::word::window` meets its contract. Assumes nothing.
 use mathlib.Core.Path.{_∙_}
 use native.Mathlib.Omega.{arith}
 use denote.Ref.{now}
