@@ -123,6 +123,15 @@ pub extern "C" fn cad_write(
         *bits = drawn;
         return 0;
     }
+    write_slowly(profile, value, message, bits)
+}
+
+// Every value and every refusal.
+fn write_slowly(profile: &[u8], value: &[u8], message: &mut [u8], bits: &mut usize) -> u32
+    ensures { λ r. ⌜ (r ≡ cadWriteOf (now (profile .entry)) (now (value .entry)) (now (message .entry)))
+        × ((now (message .exit) ≡ cadWriteArea (now (profile .entry)) (now (value .entry)) (now (message .entry)))
+        × (now (bits .exit) ≡ cadWriteBits (now (profile .entry)) (now (value .entry)) (now (message .entry)) (now (bits .entry)))) ⌝ }
+{
     if profiles::passes(profile) {
         if values::is_value(value) {
             let p = profiles::profile_from(profile);
