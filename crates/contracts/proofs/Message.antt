@@ -3,7 +3,9 @@ use mathlib.Core.Path.{refl}
 use Rattle.message.proofs.addresses_in as addresses-in
 use Rattle.message.proofs.allowed as allowed
 use Rattle.message.proofs.ends_ok as ends-ok
+use Rattle.message.proofs.range_ok as range-ok
 use Rattle.message.proofs.span_of as span-of
+use Rattle.message.proofs.span as span
 use Rattle.message.proofs.element_of as element-of
 use Rattle.message.proofs.width_of as width-of
 use Rattle.message.proofs.row_of as row-of
@@ -41,8 +43,14 @@ decides-allowed = record { says = allowed.Reads.Learnt; is = refl; one = λ κs 
 pub decides-ends-ok : Decides ends-ok.ended (λ M. ends-ok.spec)
 decides-ends-ok = record { says = ends-ok.Reads.Learnt; is = refl; one = λ κs a x y v w. same-answer }
 
+pub decides-range-ok : Decides range-ok.ended (λ M. range-ok.spec)
+decides-range-ok = record { says = range-ok.Reads.Learnt; is = refl; one = λ κs a x y v w. same-answer }
+
 pub decides-span-of : Decides span-of.ended (λ M. span-of.spec)
 decides-span-of = record { says = span-of.Reads.Learnt; is = refl; one = λ κs a x y v w. same-answer }
+
+pub decides-span : Decides span.ended (λ M. span.spec)
+decides-span = record { says = span.Reads.Learnt; is = refl; one = λ κs a x y v w. same-answer }
 
 pub decides-element-of : Decides element-of.ended (λ M. element-of.spec)
 decides-element-of = record { says = element-of.Reads.Learnt; is = refl; one = λ κs a x y v w. same-answer }

@@ -186,7 +186,8 @@ pub fn span_of(air: Air, group: Group) -> usize
     span_in(profile::meaning_of(meanings, group.range), list)
 }
 
-fn range_ok(first: Address, last: Address) -> bool
+// First and last have one kind and one extension, don't fall, and name at most 64 identities.
+pub fn range_ok(first: Address, last: Address) -> bool
     ensures { λ r. ⌜ r ≡ rangeOk first last ⌝ }
 {
     if first.kind != last.kind {
@@ -218,7 +219,7 @@ fn span_in(m: Meaning, list: [Address; 15]) -> usize
 }
 
 // Both ends count; a range that falls counts as one.
-fn span(first: u32, last: u32) -> usize
+pub fn span(first: u32, last: u32) -> usize
     ensures { λ r. ⌜ r ≡ last - first + 1 ⌝ }
 {
     if last < first {

@@ -1,3 +1,4 @@
 pub mod AnswerLaws
 pub mod ReadLaws
 pub mod RowLaws
+pub mod WalkLaws

@@ -37,24 +37,24 @@ word-number e k l n at = rw (le-leb (widthOf k) 32 (width-few k))
 -- ---- the loops over the slots
 
 module _ (k : ℕ) (l : List Slot) (i : ℕ) where
-  abbrev here : Slot
-  here = getD l i (record { part = part.Nothing })
+  abbrev pub slot-here : Slot
+  slot-here = getD l i (record { part = part.Nothing })
 
-  more : i < k → k - i ≡ suc (k - (i + 1))
-  more h = omega arith
+  pub slots-more : i < k → k - i ≡ suc (k - (i + 1))
+  slots-more h = omega arith
 
-  cut : i < length l → drop i l ≡ here ∷ drop (i + 1) l
-  cut m = rw (add-one, drop-cons l i (record { part = part.Nothing }) m)
+  pub slots-cut : i < length l → drop i l ≡ slot-here ∷ drop (i + 1) l
+  slots-cut m = rw (add-one, drop-cons l i (record { part = part.Nothing }) m)
 
   module _ (air : Air) (v : Value) (f : ℕ → ℕ) (n at : ℕ) where
-    pub parts-turn : i < k → i < length l → (w : Value) (q : ℕ) → partRead air v (here .part) f n at ≡ got w q
+    pub parts-turn : i < k → i < length l → (w : Value) (q : ℕ) → partRead air v (slot-here .part) f n at ≡ got w q
         → partsRead air v (k - i) (drop i l) f n at ≡ partsRead air w (k - (i + 1)) (drop (i + 1) l) f n q
     unfolding partsRead
-    parts-turn h m w q e = rw (more h, cut m, e)
+    parts-turn h m w q e = rw (slots-more h, slots-cut m, e)
 
-    pub parts-stop : i < k → i < length l → (s : Stop) → partRead air v (here .part) f n at ≡ no s → partsRead air v (k - i) (drop i l) f n at ≡ no s
+    pub parts-stop : i < k → i < length l → (s : Stop) → partRead air v (slot-here .part) f n at ≡ no s → partsRead air v (k - i) (drop i l) f n at ≡ no s
     unfolding partsRead
-    parts-stop h m s e = rw (more h, cut m, e)
+    parts-stop h m s e = rw (slots-more h, slots-cut m, e)
 
     pub parts-end : k ≤ i → partsRead air v (k - i) (drop i l) f n at ≡ got v at
     unfolding partsRead
@@ -68,14 +68,14 @@ module _ (k : ℕ) (l : List Slot) (i : ℕ) where
     pub parts-past : length l ≤ i → partsRead air v (k - i) (drop i l) f n at ≡ got v at
     parts-past h = rw (drop-of-length-le l h) (parts-none (k - i))
 
-    pub each-turn : (some b : Bool) → i < k → i < length l → (w : Value) (q : ℕ) → optionRead air i v (here .part) f n at ≡ got (b, w) q
+    pub each-turn : (some b : Bool) → i < k → i < length l → (w : Value) (q : ℕ) → optionRead air i v (slot-here .part) f n at ≡ got (b, w) q
         → eachRead air i some v (k - i) (drop i l) f n at ≡ eachRead air (i + 1) (some || b) w (k - (i + 1)) (drop (i + 1) l) f n q
     unfolding eachRead
-    each-turn some b h m w q e = rw (more h, cut m, e) (ap (λ (j : ℕ). eachRead air j (some || b) w (k - (i + 1)) (drop (i + 1) l) f n q) (sym (add-one i)))
+    each-turn some b h m w q e = rw (slots-more h, slots-cut m, e) (ap (λ (j : ℕ). eachRead air j (some || b) w (k - (i + 1)) (drop (i + 1) l) f n q) (sym (add-one i)))
 
-    pub each-stop : (some : Bool) → i < k → i < length l → (s : Stop) → optionRead air i v (here .part) f n at ≡ no s → eachRead air i some v (k - i) (drop i l) f n at ≡ no s
+    pub each-stop : (some : Bool) → i < k → i < length l → (s : Stop) → optionRead air i v (slot-here .part) f n at ≡ no s → eachRead air i some v (k - i) (drop i l) f n at ≡ no s
     unfolding eachRead
-    each-stop some h m s e = rw (more h, cut m, e)
+    each-stop some h m s e = rw (slots-more h, slots-cut m, e)
 
     pub each-end : (some : Bool) → k ≤ i → eachRead air i some v (k - i) (drop i l) f n at ≡ got (some, v) at
     unfolding eachRead

@@ -38,7 +38,7 @@ pub(crate) fn read_address(external: bool, buf: &[u8], bits: usize, at: usize) -
     }
 }
 
-fn read_kind(external: bool, buf: &[u8], bits: usize, at: usize) -> ByteTook
+pub(crate) fn read_kind(external: bool, buf: &[u8], bits: usize, at: usize) -> ByteTook
     ensures { λ r. ⌜ byteOf r ≡ kindC external .read (bitAt (now (buf .entry))) bits at ⌝ }
 {
     match element::byte(message::KIND, buf, bits, at, 2) {

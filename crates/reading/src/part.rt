@@ -99,7 +99,7 @@ fn mask_part(air: Air, value: Value, buf: &[u8], bits: usize, at: usize) -> Body
 }
 
 // Users that were read have no more.
-fn few(count: usize) -> usize
+pub(crate) fn few(count: usize) -> usize
     ensures { λ r. ⌜ r ≡ min count 64 ⌝ }
 {
     if count < 64 {
