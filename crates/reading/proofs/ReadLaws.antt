@@ -10,16 +10,17 @@ use lib.Dec.{eqb}
 use lib.ListN.{set, replicate}
 use lib.Pow.{pow-mono, shl-exact}
 use lib.Seq.{sets}
-use Rattle.bits.specs.Fields.{bitAt}
+use Rattle.bits.specs.Fields.{bitAt, fieldOf}
+use Rattle.bits.proofs.FieldLaws.{field-is, field-below}
 use borrow.Author.Tests.{eqb-true}
-use Rattle.codec.specs.Stops.{refusal}
+use Rattle.codec.specs.Stops.{short, refusal}
 use Rattle.codec.specs.Codec.{Codec, Read, got, no, bind, both, number, vecRead}
 use Rattle.codec.specs.Taking.{tookOf, takeOf}
 use Rattle.codec.specs.declared.Stop.{Stop}
 use Rattle.codec.specs.declared.Took.{Took}
 use Rattle.codec.specs.declared.Took.the-variants as took
 use Rattle.codec.proofs.RoundTrips.{read-found, number-lt}
-use Rattle.codec.proofs.TakeLaws.{take-number}
+use Rattle.codec.proofs.TakeLaws.{take-number, take-past, take-there}
 use Rattle.profile.specs.Rules.{meaningIn}
 use Rattle.profile.specs.declared.Air.{Air}
 use Rattle.message.specs.Elements as element
@@ -36,6 +37,18 @@ module _ (e : ℕ) (l : List ℕ) (n at w : ℕ) (t : Took) (said : tookOf t ≡
 
   pub took-lt : (k v p : ℕ) → w ≤ k → k ≤ 64 → t ≡ took.Got v p → v < 2 ^ k
   took-lt k v p h m g = lt-of-lt-of-le (number-lt e l n at w v p (took-number (omega arith) ∙ ap tookOf g)) (pow-mono h)
+
+-- ---- a number of few bits, by its field
+
+module _ (e : ℕ) (l : List ℕ) (n at w : ℕ) (h : w ≤ 64) where
+  pub number-short : n < at + w → number e w .read (bitAt l) n at ≡ no (short e at)
+  number-short k = sym (take-number e l n at w h) ∙ take-past e l n at w h k
+
+  pub number-there : at + w ≤ n → number e w .read (bitAt l) n at ≡ got (fieldOf l at w) (at + w)
+  number-there k = sym (take-number e l n at w h) ∙ take-there e l n at w h k
+
+pub field-fits : (l : List ℕ) (at w v : ℕ) → w ≤ 8 → v ≡ fieldOf l at w → v < 2 ^ 8
+field-fits l at w v h e = rw (e, field-is l at w (omega arith)) (field-below 8 l at w h)
 
 -- ---- a range and a group that were read
 

@@ -27,10 +27,14 @@ pub(crate) fn byte(element: u8, buf: &[u8], bits: usize, at: usize, width: usize
     if width > 8 {
         return ByteTook::Refused(codec::short_at(element, at));
     }
-    match codec::take(element, buf, bits, at, width) {
-        Took::Refused(s) => ByteTook::Refused(s),
-        Took::Got(v, p) => ByteTook::Got(v as u8, p),
+    // and no `take`, whose answer goes by memory: most of what a message is asked for is a few bits
+    if at > bits {
+        return ByteTook::Refused(codec::short_at(element, at));
     }
+    if width <= bits - at {
+        return ByteTook::Got(bits::field(buf, at, width) as u8, at + width);
+    }
+    ByteTook::Refused(codec::short_at(element, at))
 }
 
 pub(crate) fn word(element: u8, buf: &[u8], bits: usize, at: usize, width: usize) -> WordTook
