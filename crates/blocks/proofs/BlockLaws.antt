@@ -1,13 +1,14 @@
 -- Blocks: a line's end looked for byte by byte, and bytes put one after the other. Assumes nothing.
 use Prim.Native.Nat.{ℕ, suc, _+_, _-_, _≤_, _<_, min}
 use mathlib.Core.Path.{_≡_, refl, sym, ap, _∙_}
-use mathlib.Core.Bool.{true, false}
+use mathlib.Core.Bool.{Bool, true, false, _||_}
 use mathlib.Core.List.{List, [], _∷_, _++_, append-nil}
 use mathlib.Core.Logic.{⊎-elim}
-use native.Mathlib.Nat.{add-zero, add-suc, suc-add}
+use native.Mathlib.Nat.{add-zero, add-suc, add-assoc, suc-add}
 use native.Mathlib.Numerals.{add-one}
 use native.Mathlib.Omega.{arith}
-use borrow.Author.Tests.{eq-eqb, ne-eqb}
+use borrow.Author.Tests.{eq-eqb, ne-eqb, eqb-false}
+use lib.Dec.{eqb}
 use lib.ListN.{length, getD, set, take, drop, length-append, drop-of-length-le}
 use lib.Seq.{sets, length-sets, take-all, take-length, take-append-le, take-append-add, take-suc, drop-cons, length-take-le}
 use Rattle.bits.proofs.SetLaws.{lt-or}
@@ -22,6 +23,12 @@ at-lf l i h e = rw (drop-cons l i 0 h, eq-eqb _ _ e) (add-zero i)
 pub past-byte : (l : List ℕ) (i : ℕ) → i < length l → (getD l i 0 ≡ 10 → ⊥) → lineEnd l i ≡ lineEnd l (i + 1)
 unfolding lineEnd beforeLF
 past-byte l i h n = rw (drop-cons l i 0 h, ne-eqb _ _ n, add-one) (rw (add-suc, suc-add))
+
+-- one byte more of some that are looked at together, where none so far is LF
+pub past-bytes : (l : List ℕ) (i j : ℕ) (seen : Bool) → (seen ≡ false → lineEnd l i ≡ lineEnd l (i + j)) → i + j < length l
+    → seen || eqb (getD l (i + j) 0) 10 ≡ false → lineEnd l i ≡ lineEnd l (i + (j + 1))
+past-bytes l i j true h k e = let z : _≡_ {A = ℕ} 0 1 = cc in absurd (omega arith)
+past-bytes l i j false h k e = h refl ∙ past-byte l (i + j) k (eqb-false _ _ e) ∙ ap (λ (n : ℕ). lineEnd l n) (add-assoc i j 1)
 
 pub at-end : (l : List ℕ) (i : ℕ) → length l ≤ i → lineEnd l i ≡ i
 unfolding lineEnd beforeLF

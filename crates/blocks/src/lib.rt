@@ -4,6 +4,7 @@
 // not put and every byte is decided (specs/Blocks). The bounds beside them follow, and are said for those who go on from there. `keep` puts
 // one more piece after a text, of which the first 1,152 bytes are kept (specs/Texts, proofs/TextLaws).
 ghost use mathlib.Core.Path.{_≡_};
+ghost use mathlib.Core.Bool.{false};
 ghost use Prim.Native.Nat.{_+_, _-_, _≤_, min};
 ghost use lib.ListN.{length, take};
 ghost use Rattle.blocks.specs.Blocks.{lineEnd, textEnd, putText};
@@ -15,8 +16,41 @@ pub struct Text {
     pub bytes: [u8; 1152],
 }
 
-// Where the line ends that goes on at an index: at the next LF, or at the block's end; from there on it ends where it is.
+// Where the line ends that goes on at an index: at the next LF, or at the block's end; from there on it ends where it is. As long as there
+// are sixteen bytes they are looked at together.
 pub fn line_end(block: &[u8], from: usize) -> usize
+    ensures { λ r. ⌜ (r ≡ lineEnd (now (block .entry)) from) × ((from ≤ r) × (r ≤ from + (length (now (block .entry)) - from))) ⌝ }
+{
+    if from >= block.len() {
+        return from;
+    }
+    let mut i = from;
+    while block.len() - i >= 16 {
+        if has_lf(block, i) {
+            return next_lf(block, i);
+        }
+        i += 16;
+    }
+    next_lf(block, i)
+}
+
+// Whether an LF may be among the sixteen bytes from an index on. It looks at each byte, and leaves off at none: so the compiler can take
+// them at once.
+fn has_lf(block: &[u8], from: usize) -> bool
+    requires { ⌜ from + 16 ≤ length (now block) ⌝ }
+    ensures { λ r. ⌜ (r ≡ false → lineEnd (now (block .entry)) from ≡ lineEnd (now (block .entry)) (from + 16)) ⌝ }
+{
+    let mut seen = false;
+    let mut j: usize = 0;
+    while j < 16 {
+        seen = seen | (block[from + j] == 10);
+        j += 1;
+    }
+    seen
+}
+
+// The same byte by byte.
+fn next_lf(block: &[u8], from: usize) -> usize
     ensures { λ r. ⌜ (r ≡ lineEnd (now (block .entry)) from) × ((from ≤ r) × (r ≤ from + (length (now (block .entry)) - from))) ⌝ }
 {
     let mut i = from;
