@@ -1,11 +1,32 @@
--- What a reading that was found, and one that was refused, come to. Assumes nothing.
+-- What a reading that was found, and one that was refused, come to; what is said of a line after its bit length; and that the bits read
+-- from a room which has the bytes for them, and anything behind, say what the line says. Assumes nothing.
+use Prim.Native.Nat.{ℕ, _+_, _-_, _*_, _/_, _%_, _^_, _≤_, _<_}
 use mathlib.Core.Path.{_≡_, sym, ap, _∙_}
 use mathlib.Core.Bool.{Bool, true, false}
-use Rattle.codec.specs.Codec.{Read, got, no}
+use mathlib.Core.List.{List}
+use native.Mathlib.Omega.{arith}
+use lib.Dec.{leb}
+use lib.ListN.{length, getD, take}
+use lib.Seq.{getD-take, length-take-le}
+use borrow.Author.Tests.{le-leb, lt-leb}
+use Rattle.bits.specs.Fields.{bitAt}
+use Rattle.codec.specs.Codec.{Read, got, no, both}
+use Rattle.codec.specs.Stops.{refusal}
+use Rattle.codec.proofs.Good.{Agree, both-none}
+use Rattle.profile.specs.Sample.{sample}
+use Rattle.profile.specs.declared.Profile.{Profile}
+use Rattle.profile.proofs.ProfileLaws.{sample-passes}
+use Rattle.message.specs.Reading.{wholeOf, lengthOk, readBits, readOf}
 use Rattle.message.specs.declared.Value.{Value}
+use Rattle.message.proofs.ReadingLaws.{past-unread}
 use Rattle.reading.specs.Answers.{readingOf}
 use Rattle.reading.specs.declared.Reading.{Reading}
-use Rattle.lines.specs.Saying.{nameOf, stopOf, answerOf}
+use Rattle.lines.specs.Shape.{noBytes, noHex, hexAt, lineWith}
+use Rattle.lines.specs.Saying.{nameOf, refusedOf, stopOf, answerOf, sayOf}
+use Rattle.lines.specs.Parsing.{pairsIn, Enough}
+use Rattle.lines.proofs.HexLaws.{length-pairs, pair-at, hex-room, hex-is, hex-none}
+
+-- ---- what a reading comes to
 
 pub said-found : (rd : Read Value) (r : Reading) → r ≡ readingOf rd → r .found ≡ true → answerOf rd ≡ nameOf (r .value .pdu)
 unfolding readingOf answerOf
@@ -16,3 +37,79 @@ pub said-refused : (rd : Read Value) (r : Reading) → r ≡ readingOf rd → r 
 unfolding readingOf answerOf
 said-refused (got v p) r e h = let z : _≡_ {A = Bool} true false = sym (ap (λ (x : Reading). x .found) e) ∙ h in cc
 said-refused (no s) r e h = rw e
+
+-- ---- reading where the length is in order
+
+pub read-whole : (l : List ℕ) (n : ℕ) → 1 ≤ n → n ≤ 4096 → n ≤ 8 * length l → readOf sample l n ≡ wholeOf (sample .air) (bitAt l) n
+unfolding readOf readBits lengthOk both
+read-whole l n some most held = rw (sample-passes, le-leb 1 n some, le-leb n 4096 most, le-leb n (8 * length l) held)
+
+pub read-sample : (r : Reading) (p : Profile) (l : List ℕ) (n : ℕ) → p ≡ sample → r ≡ readingOf (readOf p l n) → 1 ≤ n → n ≤ 4096 → n ≤ 8 * length l
+    → r ≡ readingOf (wholeOf (sample .air) (bitAt l) n)
+read-sample r p l n e k some most held = k ∙ ap (λ (q : Profile). readingOf (readOf q l n)) e ∙ ap (λ (x : Read Value). readingOf x) (read-whole l n some most held)
+
+read-not : (l : List ℕ) (n : ℕ) → lengthOk l n ≡ false → answerOf (readOf sample l n) ≡ refusedOf 3
+unfolding readOf readBits answerOf stopOf refusal
+read-not l n e = rw (sample-passes, e)
+
+-- ---- what is said of a line after its bit length
+
+module _ (l : List ℕ) (from bits : ℕ) where
+  abbrev left : ℕ
+  left = length l - from
+
+  abbrev said-there : List ℕ
+  said-there = sayOf (lineWith bits (hexAt l from))
+
+  abbrev message : List ℕ
+  message = take (left / 2) (pairsIn noBytes l from (left / 2))
+
+  pub say-none : hexAt l from .good ≡ false → said-there ≡ refusedOf 3
+  unfolding lineWith noHex
+  say-none e = rw (hex-none l from e)
+
+  module _ (inside : from ≤ length l) (good : hexAt l from .good ≡ true) where
+    say-message : said-there ≡ answerOf (readOf sample message bits)
+    unfolding lineWith
+    say-message = rw (hex-is l from inside good)
+
+    message-long : length message ≡ left / 2
+    unfolding noBytes
+    message-long = length-take-le _ _ (omega (arith, length-pairs noBytes l from (left / 2), hex-room l from good))
+
+    pub say-no-bits : bits < 1 → said-there ≡ refusedOf 3
+    unfolding lengthOk both
+    say-no-bits h = say-message ∙ read-not message bits (rw (lt-leb 1 bits h))
+
+    pub say-many-bits : 4096 < bits → said-there ≡ refusedOf 3
+    unfolding lengthOk both
+    say-many-bits h = say-message ∙ read-not message bits (rw (lt-leb bits 4096 h) (both-none (leb 1 bits)))
+
+    pub say-few-bytes : left / 2 < (bits + 7) / 8 → said-there ≡ refusedOf 3
+    unfolding lengthOk
+    say-few-bytes h = say-message ∙ read-not message bits (rw (message-long, lt-leb bits (8 * (left / 2)) (omega (arith, h)), both-none (leb bits 4096)) (both-none (leb 1 bits)))
+
+  -- in the room are the bytes that the bits stand in
+  module _ (e : Enough l from bits) (room : List ℕ) (h : (bits + 7) / 8 ≤ length room) where
+    abbrev filled : List ℕ
+    filled = pairsIn room l from ((bits + 7) / 8)
+
+    same-byte : (k : ℕ) → k < (bits + 7) / 8 → getD message k 0 ≡ getD filled k 0
+    unfolding noBytes
+    same-byte k i =
+        getD-take (left / 2) _ k 0 (omega (arith, i, e .held))
+        ∙ pair-at noBytes l from (left / 2) k (omega (arith, i, e .held)) (omega (arith, hex-room l from (e .hex)))
+        ∙ sym (pair-at room l from ((bits + 7) / 8) k i h)
+
+    same-bits : Agree (bitAt message) (bitAt filled) bits
+    unfolding bitAt
+    same-bits i b = ap (λ (x : ℕ). x / 2 ^ (7 - i % 8) % 2) (same-byte (i / 8) (omega (arith, b)))
+
+    pub say-read : said-there ≡ answerOf (wholeOf (sample .air) (bitAt filled) bits)
+    say-read =
+        say-message (e .inside) (e .hex)
+        ∙ ap (λ (r : Read Value). answerOf r) (past-unread sample message filled bits (omega (arith, message-long (e .inside) (e .hex), e .held)) held same-bits)
+        ∙ ap (λ (r : Read Value). answerOf r) (read-whole filled bits (e .some) (e .most) held)
+      where
+        held : bits ≤ 8 * length filled
+        held = omega (arith, h, length-pairs room l from ((bits + 7) / 8))

@@ -12,10 +12,9 @@ use lib.Seq.{drop-cons}
 use borrow.Author.Tests.{lt-ltb, le-ltb, leb-true, ltb-true}
 use Rattle.codec.specs.Codec.{both}
 use Rattle.codec.proofs.Good.{both-left, both-right}
-use Rattle.lines.specs.Shape.{isDigit, isLetter, hexOf, isHex, noBytes, noHex, hexThen, hexIn, hexAt, Line, good, other, lineWith, afterDigits, digitsThen, lineOf}
-use Rattle.lines.specs.Parsing.{Parses}
-use Rattle.lines.specs.declared.Hex.{Hex}
-use Rattle.lines.specs.declared.Parsed.{Parsed}
+use Rattle.lines.specs.Shape.{isDigit, isLetter, hexOf, isHex, noBytes, noHex, hexThen, hexIn, Line, good, other, lineWith, afterDigits, digitsThen, lineOf}
+use Rattle.lines.specs.Parsing.{noHead, Heads}
+use Rattle.lines.specs.declared.Head.{Head}
 
 -- ---- one byte
 
@@ -72,55 +71,16 @@ module _ (l row : List ℕ) (k room n : ℕ) where
   unfolding hexThen
   hex-end h = rw (drop-of-length-le l h)
 
-  pub hex-odd : k < length l → length l - k < 2 → hexThen room n row (drop k l) ≡ noHex
-  unfolding hexThen
-  hex-odd h e =
-      let one : drop k l ≡ getD l k 0 ∷ [] = drop-cons l k 0 h ∙ rw (drop-of-length-le l (last h e)) in
-      rw one
-    where
-      last : k < length l → length l - k < 2 → length l ≤ suc k
-      last h e = omega arith
-
   module _ (h : k + 1 < length l) where
     two : drop k l ≡ getD l k 0 ∷ getD l (k + 1) 0 ∷ drop (k + 2) l
     two =
         let e : suc (suc k) ≡ k + 2 = omega arith in
         drop-cons l k 0 (omega arith) ∙ rw (drop-cons l (suc k) 0 (omega arith), e, ← add-one k)
 
-    pub hex-full : room ≡ 0 → hexThen room n row (drop k l) ≡ noHex
-    unfolding hexThen
-    hex-full e = rw (two, e)
-
     module _ (less : ℕ) (some : room ≡ suc less) (x y : ℕ) (ex : x ≡ hexOf (getD l k 0)) (ey : y ≡ hexOf (getD l (k + 1) 0)) where
-      pub hex-first : 16 ≤ x → hexThen room n row (drop k l) ≡ noHex
-      unfolding hexThen isHex
-      hex-first e = rw (two, some, ← ex, le-ltb _ 16 e)
-
-      pub hex-second : x < 16 → 16 ≤ y → hexThen room n row (drop k l) ≡ noHex
-      unfolding hexThen isHex
-      hex-second e d = rw (two, some, ← ex, ← ey, lt-ltb _ 16 e, le-ltb _ 16 d)
-
       pub hex-more : x < 16 → y < 16 → hexThen room n row (drop k l) ≡ hexThen less (n + 1) (set row n (x * 16 + y)) (drop (k + 2) l)
       unfolding hexThen isHex
       hex-more e d = rw (two, some, ← ex, ← ey, lt-ltb _ 16 e, lt-ltb _ 16 d)
-
--- as many as there is room for
-few-hex : (room n : ℕ) (row l : List ℕ) → hexThen room n row l .count ≤ n + room
-unfolding hexThen noHex
-few-hex room n row [] = omega arith
-few-hex room n row (x ∷ []) = omega arith
-few-hex zero n row (x ∷ y ∷ l) = omega arith
-few-hex (suc room) n row (x ∷ y ∷ l) = go (isHex x) (isHex y) (few-hex room (n + 1) (set row n (hexOf x * 16 + hexOf y)) l)
-  where
-    go : (a b : Bool) → hexThen room (n + 1) (set row n (hexOf x * 16 + hexOf y)) l .count ≤ n + 1 + room
-        → cond a (cond b (hexThen room (n + 1) (set row n (hexOf x * 16 + hexOf y)) l) noHex) noHex .count ≤ n + suc room
-    go true true e = omega arith
-    go true false e = omega arith
-    go false b e = omega arith
-
-pub hex-few : (l : List ℕ) (at : ℕ) → hexAt l at .count ≤ 512
-unfolding hexAt
-hex-few l at = few-hex 512 0 noBytes (drop at l)
 
 -- of more digits than there is room for, none
 pub hex-long : (room n : ℕ) (row l : List ℕ) → 2 * room < length l → hexThen room n row l ≡ noHex
@@ -162,5 +122,10 @@ long-other l h = digits-long 0 0 l (omega arith) (omega arith)
 
 -- ---- the code's answers
 
-pub parses-as : {r : Parsed} {l m : Line} → Parses r l → l ≡ m → Parses r m
-parses-as {r} p e = subst (λ (x : Line). Parses r x) e p
+module _ (l : List ℕ) (r : Head) where
+  pub heads-none : r ≡ noHead → Heads r l other
+  unfolding noHead
+  heads-none e = record { is = rw e; inside = rw e (omega arith) }
+
+  pub heads-as : {m n : Line} → Heads r l m → m ≡ n → Heads r l n
+  heads-as p e = subst (λ (x : Line). Heads r l x) e p

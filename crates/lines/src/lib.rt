@@ -3,14 +3,15 @@
 // `said` equals `saidOf` for every line. Of a line that comes in pieces the first 1,152 bytes are kept (`blocks`), more than a line of the
 // right shape has, and `said_kept` of these says what the whole line says, however long it is (proofs/KeepLaws).
 ghost use mathlib.Core.Path.{_≡_};
-ghost use Prim.Native.Nat.{_+_, _-_, _<_, _≤_};
+ghost use Prim.Native.Nat.{_+_, _*_, _/_, _<_, _≤_};
 ghost use lib.ListN.{length, take, drop};
+ghost use Rattle.bits.specs.Fields.{bitAt};
 ghost use Rattle.profile.specs.Sample.{sample};
-ghost use Rattle.message.specs.Reading.{readOf};
-ghost use Rattle.lines.specs.Shape.{isDigit, hexOf, noHex, hexAt, other, lineWith, afterDigits, lineOf};
-ghost use Rattle.lines.specs.Saying.{nameOf, refusedOf, digitOf, brokeAt, brokeOf, stopOf, answerOf, saidOf, textOf};
+ghost use Rattle.message.specs.Reading.{wholeOf};
+ghost use Rattle.lines.specs.Shape.{isDigit, hexOf, noHex, hexAt, lineWith, afterDigits, lineOf};
+ghost use Rattle.lines.specs.Saying.{nameOf, refusedOf, digitOf, brokeAt, brokeOf, stopOf, answerOf, sayOf, saidOf, textOf};
 use codec::Stop;
-ghost use Rattle.lines.specs.Parsing.{Parses};
+ghost use Rattle.lines.specs.Parsing.{noHead, Heads, hexUpTo, pairsIn, Enough};
 
 // The first `len` of the bytes; the others are zero.
 pub struct Text {
@@ -25,24 +26,64 @@ pub struct Hex {
     pub bytes: [u8; 512],
 }
 
-// A line of the right shape, or not; its first `count` bytes are the message's.
-struct Parsed {
+// The bit length that a line begins with, and where the line goes on after the space; both are 0 where it begins in another way.
+struct Head {
     good: bool,
     bits: usize,
-    count: usize,
-    bytes: [u8; 512],
+    next: usize,
 }
 
 // What is printed for a line after its number.
 pub fn said(line: &[u8]) -> Text
     ensures { λ r. ⌜ r ≡ textOf (saidOf (now (line .entry))) ⌝ }
 {
-    let parsed = parse(line);
-    if parsed.good {
-        let bytes = parsed.bytes;
-        return answered_first(bytes, parsed.count, parsed.bits);
+    let head = head_of(line);
+    if head.good {
+        return said_after(line, head.next, head.bits);
     }
     refused(3)
+}
+
+// The same for a line of this bit length whose hex digits begin at a position. The bytes that they make go into a room of 64, which leaves
+// at least eight after them, or into a larger one.
+fn said_after(line: &[u8], from: usize, bits: usize) -> Text
+    requires { ⌜ from ≤ length (now line) ⌝ }
+    ensures { λ r. ⌜ r ≡ textOf (sayOf (lineWith bits (hexAt (now (line .entry)) from))) ⌝ }
+{
+    if all_hex(line, from) {} else {
+        return refused(3);
+    }
+    if bits < 1 {
+        return refused(3);
+    }
+    if bits > 4096 {
+        return refused(3);
+    }
+    if (bits + 7) / 8 > (line.len() - from) / 2 {
+        return refused(3);
+    }
+    if bits > 448 {
+        return said_long(line, from, bits);
+    }
+    let mut room = [0u8; 64];
+    said_in(line, from, bits, &mut room)
+}
+
+fn said_long(line: &[u8], from: usize, bits: usize) -> Text
+    requires { ⌜ Enough (now line) from bits ⌝ }
+    ensures { λ r. ⌜ r ≡ textOf (sayOf (lineWith bits (hexAt (now (line .entry)) from))) ⌝ }
+{
+    let mut room = [0u8; 520];
+    said_in(line, from, bits, &mut room)
+}
+
+// With a room for the bytes that the bits stand in.
+fn said_in(line: &[u8], from: usize, bits: usize, room: &mut [u8]) -> Text
+    requires { ⌜ Enough (now line) from bits × ((bits + 7) / 8 ≤ length (now room)) ⌝ }
+    ensures { λ r. ⌜ r ≡ textOf (sayOf (lineWith bits (hexAt (now (line .entry)) from))) ⌝ }
+{
+    decode(line, from, (bits + 7) / 8, room);
+    answered(room, bits)
 }
 
 // What is printed for a line that came in pieces.
@@ -65,19 +106,12 @@ fn said_first(bytes: [u8; 1152], len: usize) -> Text
 
 // ---- what is printed
 
-// The message is the first `count` of these bytes.
-fn answered_first(bytes: [u8; 512], count: usize, bits: usize) -> Text
-    requires { ⌜ count ≤ 512 ⌝ }
-    ensures { λ r. ⌜ r ≡ textOf (answerOf (readOf sample (take count bytes) bits)) ⌝ }
+// The message in the first `bits` bits.
+fn answered(room: &[u8], bits: usize) -> Text
+    requires { ⌜ (1 ≤ bits) × ((bits ≤ 4096) × (bits ≤ 8 * length (now room))) ⌝ }
+    ensures { λ r. ⌜ r ≡ textOf (answerOf (wholeOf (sample .air) (bitAt (now (room .entry))) bits)) ⌝ }
 {
-    let message: &[u8] = &bytes;
-    answered(&message[..count], bits)
-}
-
-fn answered(message: &[u8], bits: usize) -> Text
-    ensures { λ r. ⌜ r ≡ textOf (answerOf (readOf sample (now (message .entry)) bits)) ⌝ }
-{
-    let r = reading::read(profile::sample_profile(), message, bits);
+    let r = reading::read(profile::sample_profile(), room, bits);
     if r.found {
         let value = r.value;
         return named(value.pdu);
@@ -689,8 +723,8 @@ fn digit(n: usize) -> u8
 // ---- the shape of a line
 
 // The bit length, up to the first byte that is no digit.
-fn parse(line: &[u8]) -> Parsed
-    ensures { λ r. ⌜ Parses r (lineOf (now (line .entry))) ⌝ }
+fn head_of(line: &[u8]) -> Head
+    ensures { λ r. ⌜ Heads r (now (line .entry)) (lineOf (now (line .entry))) ⌝ }
 {
     let mut bits: usize = 0;
     let mut i: usize = 0;
@@ -700,53 +734,39 @@ fn parse(line: &[u8]) -> Parsed
             return after_digits(line, i, bits, b);
         }
         if i >= 4 {
-            return no_line();
+            return no_head();
         }
         bits = bits * 10 + hex_digit(b) as usize;
         i += 1;
     }
-    no_line()
+    no_head()
 }
 
-// One space after the first digit, and the rest.
-fn after_digits(line: &[u8], seen: usize, bits: usize, b: u8) -> Parsed
+// One space after the first digit.
+fn after_digits(line: &[u8], seen: usize, bits: usize, b: u8) -> Head
     requires { ⌜ seen < length (now line) ⌝ }
-    ensures { λ r. ⌜ Parses r (afterDigits seen bits b (drop (seen + 1) (now (line .entry)))) ⌝ }
+    ensures { λ r. ⌜ Heads r (now (line .entry)) (afterDigits seen bits b (drop (seen + 1) (now (line .entry)))) ⌝ }
 {
     if b == 32 {
         if seen < 1 {
-            return no_line();
+            return no_head();
         }
-        return parse_hex(line, seen + 1, bits);
-    }
-    no_line()
-}
-
-// The pairs of hex digits to the end.
-fn parse_hex(line: &[u8], from: usize, bits: usize) -> Parsed
-    ensures { λ r. ⌜ Parses r (lineWith bits (hexAt (now (line .entry)) from)) ⌝ }
-{
-    let hex = hex_at(line, from);
-    if hex.good {
-        let bytes = hex.bytes;
-        return Parsed {
+        return Head {
             good: true,
             bits: bits,
-            count: hex.count,
-            bytes: bytes,
+            next: seen + 1,
         };
     }
-    no_line()
+    no_head()
 }
 
-fn no_line() -> Parsed
-    ensures { λ r. ⌜ Parses r other ⌝ }
+fn no_head() -> Head
+    ensures { λ r. ⌜ r ≡ noHead ⌝ }
 {
-    Parsed {
+    Head {
         good: false,
         bits: 0,
-        count: 0,
-        bytes: [0; 512],
+        next: 0,
     }
 }
 
@@ -755,31 +775,65 @@ pub fn hex_at(line: &[u8], from: usize) -> Hex
     ensures { λ r. ⌜ r ≡ hexAt (now (line .entry)) from ⌝ }
 {
     let mut bytes = [0u8; 512];
-    let mut count: usize = 0;
-    let mut k = from;
-    while k < line.len() {
-        if line.len() - k < 2 {
-            return no_hex();
-        }
-        if count >= 512 {
-            return no_hex();
-        }
-        let x = hex_digit(line[k]);
-        let y = hex_digit(line[k + 1]);
-        if x >= 16 {
-            return no_hex();
-        }
-        if y >= 16 {
-            return no_hex();
-        }
-        bytes[count] = x * 16 + y;
-        count += 1;
-        k += 2;
+    if from > line.len() {
+        return Hex {
+            good: true,
+            count: 0,
+            bytes: bytes,
+        };
     }
-    Hex {
-        good: true,
-        count: count,
-        bytes: bytes,
+    if all_hex(line, from) {
+        let count = (line.len() - from) / 2;
+        decode(line, from, count, &mut bytes);
+        return Hex {
+            good: true,
+            count: count,
+            bytes: bytes,
+        };
+    }
+    no_hex()
+}
+
+// Whether only hex digits stand from a position to the end, an even number and at most 1,024.
+fn all_hex(line: &[u8], from: usize) -> bool
+    requires { ⌜ from ≤ length (now line) ⌝ }
+    ensures { λ r. ⌜ r ≡ hexAt (now (line .entry)) from .good ⌝ }
+{
+    let n = line.len() - from;
+    if n % 2 == 0 {
+        if n <= 1024 {
+            return each_hex(line, from, n);
+        }
+    }
+    false
+}
+
+// Whether `count` bytes from a position on are hex digits. It looks at each, and leaves off at none: so the compiler can take many at a
+// time.
+fn each_hex(line: &[u8], from: usize, count: usize) -> bool
+    requires { ⌜ from + count ≤ length (now line) ⌝ }
+    ensures { λ r. ⌜ r ≡ hexUpTo (now (line .entry)) from count ⌝ }
+{
+    let mut good = true;
+    let mut i: usize = 0;
+    while i < count {
+        good = good & (hex_digit(line[from + i]) < 16);
+        i += 1;
+    }
+    good
+}
+
+// The bytes that the first `count` pairs of hex digits from a position on make, at the front of a room. What is no hex digit counts as 0.
+fn decode(line: &[u8], from: usize, count: usize, room: &mut [u8])
+    requires { ⌜ (from + 2 * count ≤ length (now line)) × (count ≤ length (now room)) ⌝ }
+    ensures { λ _. ⌜ now (room .exit) ≡ pairsIn (now (room .entry)) (now (line .entry)) from count ⌝ }
+{
+    let mut k: usize = 0;
+    while k < count {
+        let x = hex_digit(line[from + 2 * k]);
+        let y = hex_digit(line[from + 2 * k + 1]);
+        room[k] = x % 16 * 16 + y % 16;
+        k += 1;
     }
 }
 

@@ -1,7 +1,10 @@
 -- Written by tools/proofs from tools/lines.conf. `lines::answered` meets its contract. Assumes nothing.
+use Prim.Native.Nat.{ℕ}
+use mathlib.Core.List.{List}
 use mathlib.Core.Path.{sym, ap, _∙_}
+use denote.Ref.{now}
 use borrow.Author.Needs.{needs}
-use Rattle.lines.proofs.SayLaws.{said-found, said-refused}
+use Rattle.lines.proofs.SayLaws.{said-found, said-refused, read-sample}
 use Rattle.lines.specs.Saying.{textOf}
 use Rattle.lines.proofs.answered.Statement.{statement}
 use Rattle.lines.proofs.answered.Tie as tie
@@ -17,16 +20,16 @@ named-requires c κs = search needs
 
 returns : tie.Need-returns
 returns c =
-    let q = c .before .before .before in
-    rw (← (q .before .sample-profile .ensures)) (c .named .ensures ∙ ap textOf (sym (said-found _ (q .read .result) (q .read .ensures) (c .before .before .if1 .taken))))
+    let r = read-sample _ _ (now (c .before .before .before .before .before .before .args .room)) (c .before .before .before .before .before .before .args .bits) (c .before .before .before .before .sample-profile .ensures) (c .before .before .before .read .ensures) (search needs) (search needs) (search needs) in
+    c .named .ensures ∙ ap (λ (xs : List ℕ). textOf xs) (sym (said-found _ (c .before .before .before .read .result) r (c .before .before .if1 .taken)))
 
 stopped-requires : tie.Need-stopped-requires
 stopped-requires c κs = search needs
 
 returns-2 : tie.Need-returns-2
 returns-2 c =
-    let q = c .before .before .before in
-    rw (← (q .before .sample-profile .ensures)) (c .stopped .ensures ∙ ap textOf (sym (said-refused _ (q .read .result) (q .read .ensures) (c .before .before .if1 .left))))
+    let r = read-sample _ _ (now (c .before .before .before .before .before .before .args .room)) (c .before .before .before .before .before .before .args .bits) (c .before .before .before .before .sample-profile .ensures) (c .before .before .before .read .ensures) (search needs) (search needs) (search needs) in
+    c .stopped .ensures ∙ ap (λ (xs : List ℕ). textOf xs) (sym (said-refused _ (c .before .before .before .read .result) r (c .before .before .if1 .left)))
 
 pub answered-spec : {M : Type 1} → statement M
 answered-spec =

@@ -1,14 +1,14 @@
--- Written by tools/proofs from tools/lines.conf. `lines::parse` meets its contract. Assumes nothing.
+-- Written by tools/proofs from tools/lines.conf. `lines::head_of` meets its contract. Assumes nothing.
 use Prim.Native.Nat.{_-_, _^_, _≤_, _<_}
 use mathlib.Core.Path.{_≡_, refl, sym, _∙_}
 use native.Mathlib.Omega.{arith}
 use denote.Ref.{now}
 use lib.ListN.{length, getD, drop}
 use borrow.Author.Needs.{needs}
-use Rattle.lines.proofs.ShapeLaws.{digit-worth, hex-most, digits-lt, digits-few, digits-end, digits-stop, digits-many, digits-more, parses-as}
+use Rattle.lines.proofs.ShapeLaws.{digit-worth, hex-most, digits-lt, digits-few, digits-end, digits-stop, digits-many, digits-more, heads-none, heads-as}
 use Rattle.lines.specs.Shape.{digitsThen, lineOf}
-use Rattle.lines.proofs.parse.Statement.{statement}
-use Rattle.lines.proofs.parse.Tie as tie
+use Rattle.lines.proofs.head_of.Statement.{statement}
+use Rattle.lines.proofs.head_of.Tie as tie
 
 abbrev Inv-loop : tie.InvT-loop
 Inv-loop line bits₀ i₀ bits i = (i ≤ length line) × ((i ≤ 4) × ((bits < 10 ^ i) × (lineOf line ≡ digitsThen i bits (drop i line))))
@@ -33,16 +33,16 @@ returns : tie.Need-returns Inv-loop μ-loop
 returns c =
     let d = c .before .before in
     let l = d .before .before .before in
-    parses-as (c .after-digits .ensures) (sym (l .loop .inv .1 .1 .1 ∙ digits-stop _ _ _ (search needs) (sym (d .is-digit .ensures) ∙ c .before .if1 .left)))
+    heads-as _ _ (c .after-digits .ensures) (sym (l .loop .inv .1 .1 .1 ∙ digits-stop _ _ _ (search needs) (sym (d .is-digit .ensures) ∙ c .before .if1 .left)))
 
-no-line-requires : tie.Need-no-line-requires Inv-loop μ-loop
-no-line-requires c κs = search needs
+no-head-requires : tie.Need-no-head-requires Inv-loop μ-loop
+no-head-requires c κs = search needs
 
 returns-2 : tie.Need-returns-2 Inv-loop μ-loop
 returns-2 c =
     let d = c .before .before .before in
     let l = d .before .before .before in
-    parses-as (c .no-line .ensures)
+    heads-as _ _ (heads-none _ _ (c .no-head .ensures))
     (sym (l .loop .inv .1 .1 .1 ∙ digits-many _ _ _ (search needs) (sym (d .is-digit .ensures) ∙ c .before .before .if1 .taken) (search needs)))
 
 mul-bits : tie.Need-mul-bits Inv-loop μ-loop
@@ -86,16 +86,16 @@ loop-again c =
       ),
     )
 
-no-line-requires-2 : tie.Need-no-line-requires-2 Inv-loop μ-loop
-no-line-requires-2 c κs = search needs
+no-head-requires-2 : tie.Need-no-head-requires-2 Inv-loop μ-loop
+no-head-requires-2 c κs = search needs
 
 returns-3 : tie.Need-returns-3 Inv-loop μ-loop
 returns-3 c =
     let l = c .before .before in
-    parses-as (c .no-line2 .ensures) (sym (l .loop .inv .1 .1 .1 ∙ digits-end _ _ _ (search needs)))
+    heads-as _ _ (heads-none _ _ (c .no-head2 .ensures)) (sym (l .loop .inv .1 .1 .1 ∙ digits-end _ _ _ (search needs)))
 
-pub parse-spec : {M : Type 1} → statement M
-parse-spec =
+pub head-of-spec : {M : Type 1} → statement M
+head-of-spec =
     tie.close
     (tie.spec
     Inv-loop
@@ -105,7 +105,7 @@ parse-spec =
     is-digit-requires
     after-digits-requires
     returns
-    no-line-requires
+    no-head-requires
     returns-2
     mul-bits
     hex-digit-requires
@@ -114,5 +114,5 @@ parse-spec =
     add-i
     loop-less
     loop-again
-    no-line-requires-2
+    no-head-requires-2
     returns-3)
