@@ -77,7 +77,7 @@ fn left(turns: u64, failed: bool) -> u64
     turns - 1
 }
 
-// The lines that end in a block, and the start of the next.
+// The lines that end in a block, and the start of the next. A line of which no start is kept is read where it stands.
 fn feed(block: &[u8], output: &mut [u8], seen: SoFar) -> SoFar
     requires { ⌜ (length (now output) ≡ 65536) × ((seen .out .filled ≤ 65536) × (seen .number + length (now block) ≤ 2 ^ 62)) ⌝ }
     ensures { λ r. ⌜ (r .out .filled ≤ 65536) × (r .number ≤ seen .number + length (now (block .entry))) ⌝ }
@@ -89,11 +89,18 @@ fn feed(block: &[u8], output: &mut [u8], seen: SoFar) -> SoFar
     while from < block.len() {
         let end = blocks::line_end(block, from);
         if end < block.len() {
-            let text = whole(kept, &block[from..end]);
-            out = print(output, out, number, text);
+            let before = number;
+            let start = from;
             number += 1;
-            kept = blocks::nothing_kept();
             from = end + 1;
+            if kept.len == 0 {
+                let text = lines::said(&block[start..end]);
+                out = print(output, out, before, text);
+            } else {
+                let text = lines::said_kept(blocks::keep(kept, &block[start..end]));
+                out = print(output, out, before, text);
+                kept = blocks::nothing_kept();
+            }
         } else {
             kept = blocks::keep(kept, &block[from..]);
             from = end;
@@ -104,14 +111,6 @@ fn feed(block: &[u8], output: &mut [u8], seen: SoFar) -> SoFar
         out: out,
         kept: kept,
     }
-}
-
-// What a line says of which a start may have come before.
-fn whole(kept: blocks::Text, rest: &[u8]) -> Text {
-    if kept.len == 0 {
-        return lines::said(rest);
-    }
-    lines::said_kept(blocks::keep(kept, rest))
 }
 
 // What is left to answer and to write, and what is to be said of a failure.
@@ -168,24 +167,30 @@ fn print(output: &mut [u8], out: Out, before: u64, text: Text) -> Out
     }
 }
 
+// The number and a space, the text and LF.
 fn put_line(output: &mut [u8], filled: usize, number: u64, text: Text) -> usize
-    requires { ⌜ (length (now output) ≡ 65536) × (filled ≤ 65536) ⌝ }
-    ensures { λ r. ⌜ r ≤ 65536 ⌝ }
-{
-    let bytes = text.bytes;
-    let after_number = put_number(output, filled, number);
-    let after_text = blocks::put_first(output, after_number, &bytes, text.len);
-    blocks::put(output, after_text, b"\n")
-}
-
-fn put_number(output: &mut [u8], filled: usize, number: u64) -> usize
     requires { ⌜ (length (now output) ≡ 65536) × (filled ≤ 65536) ⌝ }
     ensures { λ r. ⌜ r ≤ 65536 ⌝ }
 {
     let mut digits = [0u8; 20];
     let count = io::decimal(number, &mut digits);
-    let after_digits = blocks::put(output, filled, &digits[..count]);
-    blocks::put(output, after_digits, b" ")
+    let after_number = put_ended(output, filled, digits, count, b' ');
+    let bytes = text.bytes;
+    put_ended(output, after_number, bytes, text.len, b'\n')
+}
+
+// The first `len` of the bytes and one more, which is put with them where it fits behind them.
+fn put_ended(output: &mut [u8], filled: usize, bytes: [u8; 20], len: usize, end: u8) -> usize
+    requires { ⌜ (length (now output) ≡ 65536) × (filled ≤ 65536) ⌝ }
+    ensures { λ r. ⌜ r ≤ 65536 ⌝ }
+{
+    let mut ended = bytes;
+    if len < 20 {
+        ended[len] = end;
+        return blocks::put_first(output, filled, &ended, len + 1);
+    }
+    let after_bytes = blocks::put_first(output, filled, &ended, len);
+    blocks::put(output, after_bytes, &[end])
 }
 
 // The block is written first where it might not hold one line more.

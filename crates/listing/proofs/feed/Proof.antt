@@ -20,29 +20,26 @@ loop-holds c = search needs
 line-end-requires : tie.Need-line-end-requires Inv-loop μ-loop
 line-end-requires c κs = search needs
 
-sub-whole : tie.Need-sub-whole Inv-loop μ-loop
-sub-whole c = search needs
-
-part-whole-start : tie.Need-part-whole-start Inv-loop μ-loop
-part-whole-start c = search needs
-
-part-whole-end : tie.Need-part-whole-end Inv-loop μ-loop
-part-whole-end c = search needs
-
-whole-requires : tie.Need-whole-requires Inv-loop μ-loop
-whole-requires c κs = search needs
-
-print-requires : tie.Need-print-requires Inv-loop μ-loop
-print-requires c κs = search needs
-
 add-number : tie.Need-add-number Inv-loop μ-loop
 add-number c = search needs
 
-nothing-kept-requires : tie.Need-nothing-kept-requires Inv-loop μ-loop
-nothing-kept-requires c κs = search needs
-
 add-from : tie.Need-add-from Inv-loop μ-loop
 add-from c = search needs
+
+sub-said : tie.Need-sub-said Inv-loop μ-loop
+sub-said c = search needs
+
+part-said-start : tie.Need-part-said-start Inv-loop μ-loop
+part-said-start c = search needs
+
+part-said-end : tie.Need-part-said-end Inv-loop μ-loop
+part-said-end c = search needs
+
+said-requires : tie.Need-said-requires Inv-loop μ-loop
+said-requires c κs = search needs
+
+print-requires : tie.Need-print-requires Inv-loop μ-loop
+print-requires c κs = search needs
 
 loop-less : tie.Need-loop-less Inv-loop μ-loop
 loop-less c = search needs
@@ -62,11 +59,38 @@ part-keep-end c = search needs
 keep-requires : tie.Need-keep-requires Inv-loop μ-loop
 keep-requires c κs = search needs
 
+said-kept-requires : tie.Need-said-kept-requires Inv-loop μ-loop
+said-kept-requires c κs = search needs
+
+print-requires-2 : tie.Need-print-requires-2 Inv-loop μ-loop
+print-requires-2 c κs = search needs
+
+nothing-kept-requires : tie.Need-nothing-kept-requires Inv-loop μ-loop
+nothing-kept-requires c κs = search needs
+
 loop-less-2 : tie.Need-loop-less-2 Inv-loop μ-loop
 loop-less-2 c = search needs
 
 loop-again-2 : tie.Need-loop-again-2 Inv-loop μ-loop
 loop-again-2 c = search needs
+
+sub-keep-2 : tie.Need-sub-keep-2 Inv-loop μ-loop
+sub-keep-2 c = search needs
+
+part-keep-start-2 : tie.Need-part-keep-start-2 Inv-loop μ-loop
+part-keep-start-2 c = search needs
+
+part-keep-end-2 : tie.Need-part-keep-end-2 Inv-loop μ-loop
+part-keep-end-2 c = search needs
+
+keep-requires-2 : tie.Need-keep-requires-2 Inv-loop μ-loop
+keep-requires-2 c κs = search needs
+
+loop-less-3 : tie.Need-loop-less-3 Inv-loop μ-loop
+loop-less-3 c = search needs
+
+loop-again-3 : tie.Need-loop-again-3 Inv-loop μ-loop
+loop-again-3 c = search needs
 
 same-length : tie.Need-same-length Inv-loop μ-loop
 same-length c = search needs
@@ -82,21 +106,29 @@ feed-spec =
     μ-loop
     loop-holds
     line-end-requires
-    sub-whole
-    part-whole-start
-    part-whole-end
-    whole-requires
-    print-requires
     add-number
-    nothing-kept-requires
     add-from
+    sub-said
+    part-said-start
+    part-said-end
+    said-requires
+    print-requires
     loop-less
     loop-again
     sub-keep
     part-keep-start
     part-keep-end
     keep-requires
+    said-kept-requires
+    print-requires-2
+    nothing-kept-requires
     loop-less-2
     loop-again-2
+    sub-keep-2
+    part-keep-start-2
+    part-keep-end-2
+    keep-requires-2
+    loop-less-3
+    loop-again-3
     same-length
     returns)
