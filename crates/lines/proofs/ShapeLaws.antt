@@ -1,19 +1,21 @@
 -- The shape of a line, byte by byte as the code's loops take it. Assumes nothing.
-use Prim.Native.Nat.{ℕ, zero, suc, _+_, _-_, _*_, _≤_, _<_, _^_}
+use Prim.Native.Nat.{ℕ, zero, suc, _+_, _-_, _*_, _%_, _≤_, _<_, _^_}
 use mathlib.Core.Path.{_≡_, refl, _∙_, subst}
 use mathlib.Core.Bool.{Bool, true, false, cond}
 use mathlib.Core.List.{List, [], _∷_}
+use mathlib.Core.Logic.{⊎-elim}
 use native.Mathlib.Nat.{pow-suc, pow-le-pow-right, lt-of-lt-of-le}
 use native.Mathlib.Numerals.{add-one}
 use native.Mathlib.Omega.{arith}
 use lib.Dec.{eqb, leb, ltb}
 use lib.ListN.{length, getD, take, drop, set, drop-of-length-le}
 use lib.Seq.{drop-cons}
-use borrow.Author.Tests.{lt-ltb, le-ltb, leb-true, ltb-true}
+use borrow.Author.Tests.{lt-ltb, le-ltb, le-leb, lt-leb, leb-true, ltb-true}
+use Rattle.bits.proofs.SetLaws.{lt-or}
 use Rattle.codec.specs.Codec.{both}
-use Rattle.codec.proofs.Good.{both-left, both-right}
+use Rattle.codec.proofs.Good.{both-true, both-left, both-right}
 use Rattle.lines.specs.Shape.{isDigit, isLetter, hexOf, isHex, noBytes, noHex, hexThen, hexIn, Line, good, other, lineWith, afterDigits, digitsThen, lineOf}
-use Rattle.lines.specs.Parsing.{noHead, Heads}
+use Rattle.lines.specs.Parsing.{letterWorth, noHead, Heads}
 use Rattle.lines.specs.declared.Head.{Head}
 
 -- ---- one byte
@@ -33,6 +35,30 @@ hex-most b = go (both (leb 48 b) (leb b 57)) (both (leb 65 b) (leb b 70)) refl r
     go true e h k = omega (arith, leb-true b 57 (both-right (leb 48 b) _ h))
     go false true h k = omega (arith, leb-true b 70 (both-right (leb 65 b) _ k))
     go false false h k = omega arith
+
+-- a byte outside a range
+outside : (least most b : ℕ) → (least ≤ b → b ≤ most → ⊥) → both (leb least b) (leb b most) ≡ false
+unfolding both
+outside least most b out = ⊎-elim (λ h. rw (lt-leb least b h)) (λ h. rw (le-leb least b h) (lt-leb b most (above h))) (lt-or b least)
+  where
+    above : least ≤ b → most < b
+    above h = ⊎-elim (λ k. k) (λ k. absurd (out h k)) (lt-or most b)
+
+-- a byte that is so far past 0 and past A, where what is below wraps round
+module _ (b zeroth : ℕ) (h : zeroth < 256) (e : (zeroth + 48) % 2 ^ 8 ≡ b) where
+  pub worth-digit : zeroth < 10 → zeroth ≡ hexOf b
+  unfolding hexOf isDigit both
+  worth-digit k = rw (le-leb 48 b (omega arith), le-leb b 57 (omega arith)) (omega arith)
+
+  pub worth-letter : (ath : ℕ) → ath < 256 → (ath + 65) % 2 ^ 8 ≡ b → 10 ≤ zeroth → letterWorth ath ≡ hexOf b
+  unfolding letterWorth hexOf isDigit isLetter
+  worth-letter ath a d k = rw (outside 48 57 b (λ u v. omega arith)) (⊎-elim letter none (lt-or ath 6))
+    where
+      letter : ath < 6 → cond (ltb ath 6) (ath + 10) 16 ≡ cond (both (leb 65 b) (leb b 70)) (b - 55) 16
+      letter l = rw (lt-ltb ath 6 l, both-true _ _ (le-leb 65 b (omega arith)) (le-leb b 70 (omega arith))) (omega arith)
+
+      none : 6 ≤ ath → cond (ltb ath 6) (ath + 10) 16 ≡ cond (both (leb 65 b) (leb b 70)) (b - 55) 16
+      none l = rw (le-ltb ath 6 l, outside 65 70 b (λ u v. omega arith))
 
 -- the number of i digits
 pub digits-lt : (i bits d : ℕ) → bits < 10 ^ i → d < 10 → bits * 10 + d < 10 ^ (i + 1)

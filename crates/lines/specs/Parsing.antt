@@ -1,11 +1,18 @@
--- What the code's parts say of a line: how it begins, that it has the bytes that its bit length asks for, and the bytes decoded.
+-- What the code's parts say of a line: the worth of a letter, how it begins, that it has the bytes that its bit length asks for, and the bytes decoded.
 use Prim.Native.Nat.{ℕ, zero, suc, _+_, _-_, _*_, _/_, _%_, _≤_}
 use mathlib.Core.Path.{_≡_}
 use mathlib.Core.Bool.{Bool, true, false, cond, _&&_}
 use mathlib.Core.List.{List}
+use lib.Dec.{ltb}
 use lib.ListN.{length, getD, set}
 use Rattle.lines.specs.Shape.{hexOf, isHex, hexAt, Line, other, lineWith}
 use Rattle.lines.specs.declared.Head.{Head}
+
+-- ---- one byte
+
+-- the worth of the hex digit that stands so far past A
+unfoldable pub letterWorth : ℕ → ℕ
+letterWorth n = cond (ltb n 6) (n + 10) 16
 
 -- ---- the bit length and the space
 

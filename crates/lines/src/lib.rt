@@ -11,7 +11,7 @@ ghost use Rattle.message.specs.Reading.{wholeOf};
 ghost use Rattle.lines.specs.Shape.{isDigit, hexOf, noHex, hexAt, lineWith, afterDigits, lineOf};
 ghost use Rattle.lines.specs.Saying.{nameOf, refusedOf, digitOf, brokeAt, brokeOf, stopOf, answerOf, sayOf, saidOf, textOf};
 use codec::Stop;
-ghost use Rattle.lines.specs.Parsing.{noHead, Heads, hexUpTo, pairsIn, Enough};
+ghost use Rattle.lines.specs.Parsing.{letterWorth, noHead, Heads, hexUpTo, pairsIn, Enough};
 
 // The first `len` of the bytes; the others are zero.
 pub struct Text {
@@ -856,21 +856,23 @@ pub fn is_digit(b: u8) -> bool
     b <= 57
 }
 
-// The worth of a hex digit, or 16.
+// The worth of a hex digit, or 16. Digits and letters take one test each, since a byte below a range wraps round to above it.
 pub fn hex_digit(b: u8) -> u8
     ensures { λ r. ⌜ r ≡ hexOf b ⌝ }
 {
-    if b < 48 {
-        return 16;
+    let past = std::num::wrapping_sub_u8(b, 48);
+    if past < 10 {
+        return past;
     }
-    if b <= 57 {
-        return b - 48;
+    letter_worth(std::num::wrapping_sub_u8(b, 65))
+}
+
+// The worth of the hex digit that stands so far past A, or 16.
+fn letter_worth(past: u8) -> u8
+    ensures { λ r. ⌜ r ≡ letterWorth past ⌝ }
+{
+    if past < 6 {
+        return past + 10;
     }
-    if b < 65 {
-        return 16;
-    }
-    if b > 70 {
-        return 16;
-    }
-    b - 55
+    16
 }
