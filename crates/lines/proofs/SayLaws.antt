@@ -14,6 +14,7 @@ use Rattle.codec.specs.Codec.{Read, got, no, both}
 use Rattle.codec.specs.Stops.{refusal}
 use Rattle.codec.proofs.Good.{Agree, both-none}
 use Rattle.profile.specs.Sample.{sample}
+use Rattle.profile.specs.declared.Air.{Air}
 use Rattle.profile.specs.declared.Profile.{Profile}
 use Rattle.profile.proofs.ProfileLaws.{sample-passes}
 use Rattle.message.specs.Reading.{wholeOf, lengthOk, readBits, readOf}
@@ -40,9 +41,13 @@ said-refused (no s) r e h = rw e
 
 -- ---- reading where the length is in order
 
-pub read-whole : (l : List ℕ) (n : ℕ) → 1 ≤ n → n ≤ 4096 → n ≤ 8 * length l → readOf sample l n ≡ wholeOf (sample .air) (bitAt l) n
-unfolding readOf readBits lengthOk both
-read-whole l n some most held = rw (sample-passes, le-leb 1 n some, le-leb n 4096 most, le-leb n (8 * length l) held)
+pub bits-whole : (air : Air) (l : List ℕ) (n : ℕ) → 1 ≤ n → n ≤ 4096 → n ≤ 8 * length l → readBits air l n ≡ wholeOf air (bitAt l) n
+unfolding readBits lengthOk both
+bits-whole air l n some most held = rw (le-leb 1 n some, le-leb n 4096 most, le-leb n (8 * length l) held)
+
+read-whole : (l : List ℕ) (n : ℕ) → 1 ≤ n → n ≤ 4096 → n ≤ 8 * length l → readOf sample l n ≡ wholeOf (sample .air) (bitAt l) n
+unfolding readOf
+read-whole l n some most held = rw sample-passes (bits-whole (sample .air) l n some most held)
 
 pub read-sample : (r : Reading) (p : Profile) (l : List ℕ) (n : ℕ) → p ≡ sample → r ≡ readingOf (readOf p l n) → 1 ≤ n → n ≤ 4096 → n ≤ 8 * length l
     → r ≡ readingOf (wholeOf (sample .air) (bitAt l) n)
