@@ -20,8 +20,8 @@ use Rattle.profile.proofs.ProfileLaws.{sample-passes}
 use Rattle.message.specs.Reading.{wholeOf, lengthOk, readBits, readOf}
 use Rattle.message.specs.declared.Value.{Value}
 use Rattle.message.proofs.ReadingLaws.{past-unread}
-use Rattle.reading.specs.Answers.{readingOf}
-use Rattle.reading.specs.declared.Reading.{Reading}
+use Rattle.reading.specs.Walks.{typeIn, typeOf}
+use Rattle.reading.specs.declared.TypeRead.{TypeRead}
 use Rattle.lines.specs.Shape.{noBytes, noHex, hexAt, lineWith}
 use Rattle.lines.specs.Saying.{nameOf, refusedOf, stopOf, answerOf, sayOf}
 use Rattle.lines.specs.Parsing.{pairsIn, Enough}
@@ -29,14 +29,14 @@ use Rattle.lines.proofs.HexLaws.{length-pairs, pair-at, hex-room, hex-i
 
 -- ---- what a reading comes to
 
-pub said-found : (rd : Read Value) (r : Reading) → r ≡ readingOf rd → r .found ≡ true → answerOf rd ≡ nameOf (r .value .pdu)
-unfolding readingOf answerOf
+pub said-found : (rd : Read Value) (r : TypeRead) → r ≡ typeOf (typeIn rd) → r .found ≡ true → answerOf rd ≡ nameOf (r .pdu)
+unfolding typeOf answerOf
 said-found (got v p) r e h = rw e
-said-found (no s) r e h = let z : _≡_ {A = Bool} false true = sym (ap (λ (x : Reading). x .found) e) ∙ h in cc
+said-found (no s) r e h = let z : _≡_ {A = Bool} false true = sym (ap (λ (x : TypeRead). x .found) e) ∙ h in cc
 
-pub said-refused : (rd : Read Value) (r : Reading) → r ≡ readingOf rd → r .found ≡ false → answerOf rd ≡ stopOf (r .stop)
-unfolding readingOf answerOf
-said-refused (got v p) r e h = let z : _≡_ {A = Bool} true false = sym (ap (λ (x : Reading). x .found) e) ∙ h in cc
+pub said-refused : (rd : Read Value) (r : TypeRead) → r ≡ typeOf (typeIn rd) → r .found ≡ false → answerOf rd ≡ stopOf (r .stop)
+unfolding typeOf answerOf
+said-refused (got v p) r e h = let z : _≡_ {A = Bool} true false = sym (ap (λ (x : TypeRead). x .found) e) ∙ h in cc
 said-refused (no s) r e h = rw e
 
 -- ---- reading where the length is in order
@@ -49,9 +49,12 @@ read-whole : (l : List ℕ) (n : ℕ) → 1 ≤ n → n ≤ 4096 → n ≤ 8 * l
 unfolding readOf
 read-whole l n some most held = rw sample-passes (bits-whole (sample .air) l n some most held)
 
-pub read-sample : (r : Reading) (p : Profile) (l : List ℕ) (n : ℕ) → p ≡ sample → r ≡ readingOf (readOf p l n) → 1 ≤ n → n ≤ 4096 → n ≤ 8 * length l
-    → r ≡ readingOf (wholeOf (sample .air) (bitAt l) n)
-read-sample r p l n e k some most held = k ∙ ap (λ (q : Profile). readingOf (readOf q l n)) e ∙ ap (λ (x : Read Value). readingOf x) (read-whole l n some most held)
+pub type-sample : (r : TypeRead) (p : Profile) (l : List ℕ) (n : ℕ) → p ≡ sample → r ≡ typeOf (typeIn (readBits (p .air) l n)) → 1 ≤ n → n ≤ 4096 → n ≤ 8 * length l
+    → r ≡ typeOf (typeIn (wholeOf (sample .air) (bitAt l) n))
+type-sample r p l n e k some most held =
+    k
+    ∙ ap (λ (q : Profile). typeOf (typeIn (readBits (q .air) l n))) e
+    ∙ ap (λ (x : Read Value). typeOf (typeIn x)) (bits-whole (sample .air) l n some most held)
 
 read-not : (l : List ℕ) (n : ℕ) → lengthOk l n ≡ false → answerOf (readOf sample l n) ≡ refusedOf 3
 unfolding readOf readBits answerOf stopOf refusal

@@ -111,10 +111,11 @@ fn answered(room: &[u8], bits: usize) -> Text
     requires { ⌜ (1 ≤ bits) × ((bits ≤ 4096) × (bits ≤ 8 * length (now room))) ⌝ }
     ensures { λ r. ⌜ r ≡ textOf (answerOf (wholeOf (sample .air) (bitAt (now (room .entry))) bits)) ⌝ }
 {
-    let r = reading::read(profile::sample_profile(), room, bits);
+    let profile = profile::sample_profile();
+    let air = profile.air;
+    let r = reading::read_type(air, room, bits);
     if r.found {
-        let value = r.value;
-        return named(value.pdu);
+        return named(r.pdu);
     }
     let stop = r.stop;
     stopped(stop)
