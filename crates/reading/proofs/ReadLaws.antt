@@ -1,5 +1,5 @@
 -- What the readers go by: bounds of what was read, a kind, the loops over addresses and areas, the mask in its place. Assumes nothing.
-use Prim.Native.Nat.{ℕ, suc, _+_, _-_, _*_, _%_, _≤_, _<_, _^_}
+use Prim.Native.Nat.{ℕ, suc, _+_, _-_, _*_, _/_, _%_, _≤_, _<_, _^_}
 use mathlib.Core.Path.{_≡_, refl, sym, ap, _∙_}
 use mathlib.Core.Bool.{Bool, true, false, not, cond}
 use mathlib.Core.List.{List, _∷_}
@@ -11,7 +11,7 @@ use lib.ListN.{set, replicate}
 use lib.Pow.{pow-mono, shl-exact}
 use lib.Seq.{sets}
 use Rattle.bits.specs.Fields.{bitAt, fieldOf}
-use Rattle.bits.proofs.FieldLaws.{field-is, field-below}
+use Rattle.bits.proofs.FieldLaws.{field-is, field-below, field-split}
 use borrow.Author.Tests.{eqb-true}
 use Rattle.codec.specs.Stops.{short, refusal}
 use Rattle.codec.specs.Codec.{Codec, Read, got, no, bind, both, number, vecRead}
@@ -27,7 +27,8 @@ use Rattle.message.specs.Elements as element
 use Rattle.message.specs.Addresses.{isKind, isInternal, kindC}
 use Rattle.message.specs.Groups.{addressesIn, fifteenC, rangeC}
 use Rattle.message.proofs.GroupLaws.{good-range, range-allowed, few-addresses}
-use Rattle.reading.specs.Parts.{noKind}
+use Rattle.message.specs.Messages.{isKnown, isCarried, headerC}
+use Rattle.reading.specs.Parts.{noKind, judgedOf}
 
 -- ---- take, with a width that it can have
 
@@ -49,6 +50,61 @@ module _ (e : ℕ) (l : List ℕ) (n at w : ℕ) (h : w ≤ 64) where
 
 pub field-fits : (l : List ℕ) (at w v : ℕ) → w ≤ 8 → v ≡ fieldOf l at w → v < 2 ^ 8
 field-fits l at w v h e = rw (e, field-is l at w (omega arith)) (field-below 8 l at w h)
+
+-- ---- the header, by its eleven bits
+
+module _ (ss : ℕ) (l : List ℕ) (n at : ℕ) where
+  -- the tests of the header one after the other
+  abbrev carriedOr : Read (ℕ × ℕ) → Read (ℕ × ℕ)
+  carriedOr r = bind r (λ y q. cond (isCarried (y .1)) (got y q) (no (refusal 7)))
+
+  abbrev knownOr : Read (ℕ × ℕ) → Read (ℕ × ℕ)
+  knownOr r = bind r (λ y q. cond (isKnown (y .1)) (got y q) (no (refusal 6)))
+
+  known : (x t p : ℕ) (b : Bool) → carriedOr (cond b (got (x, t) p) (no (refusal 6))) ≡ cond b (cond (isCarried t) (got (x, t) p) (no (refusal 7))) (no (refusal 6))
+  known x t p true = refl
+  known x t p false = refl
+
+  judge : (x t p : ℕ) (a : Bool)
+      → carriedOr (knownOr (cond a (got (x, t) p) (no (refusal 5)))) ≡ cond a (cond (isKnown t) (cond (isCarried t) (got (x, t) p) (no (refusal 7))) (no (refusal 6))) (no (refusal 5))
+  judge x t p true = known x t p (isKnown t)
+  judge x t p false = refl
+
+  pub header-no-ss : n < at + 6 → headerC ss .read (bitAt l) n at ≡ no (short element.ssType at)
+  unfolding headerC
+  header-no-ss h = rw (number-short element.ssType l n at 6 (omega arith) h)
+
+  pub header-no-pdu : at + 6 ≤ n → n < at + 11 → headerC ss .read (bitAt l) n at ≡ no (short element.pduType (at + 6))
+  unfolding headerC
+  header-no-pdu h k = rw (number-there element.ssType l n at 6 (omega arith) h, number-short element.pduType l n (at + 6) 5 (omega arith) (omega arith))
+
+  head-is : (v : ℕ) → v ≡ fieldOf l at 11 → v ≡ fieldOf l at 6 * 32 + fieldOf l (at + 6) 5
+  head-is v e =
+      e ∙ field-is l at 11 (omega arith) ∙ field-split (bitAt l) at 6 5
+      ∙ rw (field-is l at 6 (omega arith), field-is l (at + 6) 5 (omega arith))
+
+  type-few : fieldOf l (at + 6) 5 < 32
+  type-few = rw (field-is l (at + 6) 5 (omega arith)) (field-below 5 l (at + 6) 5 (omega arith))
+
+  ss-few : fieldOf l at 6 < 64
+  ss-few = rw (field-is l at 6 (omega arith)) (field-below 6 l at 6 (omega arith))
+
+  module _ (v : ℕ) (e : v ≡ fieldOf l at 11) where
+    head-ss : v / 32 ≡ fieldOf l at 6
+    head-ss = omega (arith, head-is v e, type-few)
+
+    head-type : v % 32 ≡ fieldOf l (at + 6) 5
+    head-type = omega (arith, head-is v e, type-few)
+
+    pub head-fits : v / 32 < 256
+    head-fits = omega (arith, head-ss, ss-few)
+
+    pub header-read : at + 11 ≤ n → headerC ss .read (bitAt l) n at ≡ judgedOf ss (v / 32) (v % 32) (at + 11)
+    unfolding headerC judgedOf
+    header-read h =
+        let z : at + 6 + 5 ≡ at + 11 = omega arith in
+        rw (number-there element.ssType l n at 6 (omega arith) (omega arith), number-there element.pduType l n (at + 6) 5 (omega arith) (omega arith), z, ← head-ss, ← head-type)
+        (judge (v / 32) (v % 32) (at + 11) (eqb (v / 32) ss))
 
 -- ---- a range and a group that were read
 

@@ -1,4 +1,4 @@
--- What reading a part, an option, and a row's parts and options makes of the value so far.
+-- What the header is refused with; what reading a part, an option, and a row's parts and options makes of the value so far.
 use Prim.Native.Nat.{ℕ, zero, suc}
 use mathlib.Core.Bool.{Bool, true, false, cond, _||_}
 use mathlib.Core.List.{List, [], _∷_}
@@ -10,6 +10,7 @@ use Rattle.profile.specs.declared.Air.{Air}
 use Rattle.message.specs.Elements as element
 use Rattle.message.specs.Values.{withGiven}
 use Rattle.message.specs.Rows.{partC, put}
+use Rattle.message.specs.Messages.{isKnown, isCarried}
 use Rattle.message.specs.declared.Value.{Value}
 use Rattle.message.specs.declared.Part.{Part}
 use Rattle.message.specs.declared.Slot.{Slot}
@@ -17,6 +18,10 @@ use Rattle.message.specs.declared.Slot.{Slot}
 -- the number that a kind other than 1 and 2 is refused with
 unfoldable pub noKind : Bool → ℕ → ℕ
 noKind external k = cond (both external (eqb k 3)) 27 10
+
+-- an SS type and a PDU type that were read: 5, 6, 7
+unfoldable pub judgedOf : ℕ → ℕ → ℕ → ℕ → Read (ℕ × ℕ)
+judgedOf ss x t p = cond (eqb x ss) (cond (isKnown t) (cond (isCarried t) (got (x, t) p) (no (refusal 7))) (no (refusal 6))) (no (refusal 5))
 
 unfoldable pub partRead : Air → Value → Part → (ℕ → ℕ) → ℕ → ℕ → Read Value
 partRead air v p f n at = bind (partC air v p .read f n at) (λ x q. got (put p x v) q)

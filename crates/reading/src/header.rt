@@ -3,8 +3,7 @@ ghost use mathlib.Core.Path.{_≡_};
 ghost use Rattle.bits.specs.Fields.{bitAt};
 ghost use Rattle.message.specs.Messages.{isKnown, headerC};
 ghost use Rattle.reading.specs.Answers.{headerOf};
-use crate::element;
-use crate::element::ByteTook;
+ghost use Rattle.reading.specs.Parts.{judgedOf};
 use codec::Stop;
 
 pub enum HeaderTook {
@@ -15,24 +14,33 @@ pub enum HeaderTook {
 pub(crate) fn read_header(ss: u8, buf: &[u8], bits: usize, at: usize) -> HeaderTook
     ensures { λ r. ⌜ headerOf r ≡ headerC ss .read (bitAt (now (buf .entry))) bits at ⌝ }
 {
-    match element::byte(message::SS_TYPE, buf, bits, at, 6) {
-        ByteTook::Refused(s) => HeaderTook::Refused(s),
-        ByteTook::Got(x, p) => match element::byte(message::PDU_TYPE, buf, bits, p, 5) {
-            ByteTook::Refused(s) => HeaderTook::Refused(s),
-            ByteTook::Got(pdu, q) => {
-                if x == ss {
-                    if is_known(pdu) {
-                        if message::is_carried(pdu) {
-                            return HeaderTook::Got(x, pdu, q);
-                        }
-                        return HeaderTook::Refused(codec::refuse(7));
-                    }
-                    return HeaderTook::Refused(codec::refuse(6));
-                }
-                HeaderTook::Refused(codec::refuse(5))
-            }
-        },
+    if at > bits {
+        return HeaderTook::Refused(codec::short_at(message::SS_TYPE, at));
     }
+    if bits - at < 6 {
+        return HeaderTook::Refused(codec::short_at(message::SS_TYPE, at));
+    }
+    if bits - at < 11 {
+        return HeaderTook::Refused(codec::short_at(message::PDU_TYPE, at + 6));
+    }
+    let head = bits::field(buf, at, 11);
+    judged(ss, (head / 32) as u8, (head % 32) as u8, at + 11)
+}
+
+// What the two numbers are refused with, if anything.
+fn judged(ss: u8, x: u8, pdu: u8, next: usize) -> HeaderTook
+    ensures { λ r. ⌜ headerOf r ≡ judgedOf ss x pdu next ⌝ }
+{
+    if x == ss {
+        if is_known(pdu) {
+            if message::is_carried(pdu) {
+                return HeaderTook::Got(x, pdu, next);
+            }
+            return HeaderTook::Refused(codec::refuse(7));
+        }
+        return HeaderTook::Refused(codec::refuse(6));
+    }
+    HeaderTook::Refused(codec::refuse(5))
 }
 
 // 2 to 18 are CAD PDU types.
