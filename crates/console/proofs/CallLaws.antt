@@ -18,7 +18,9 @@ use Rattle.message.specs.Reading.{readBits, readOf}
 use Rattle.message.specs.declared.Value.{Value}
 use Rattle.message.proofs.BreakLaws.{position-most}
 use Rattle.reading.specs.Answers.{readingOf}
+use Rattle.reading.specs.Walks.{typeIn, typeOf}
 use Rattle.reading.specs.declared.Reading.{Reading}
+use Rattle.reading.specs.declared.TypeRead.{TypeRead}
 use Rattle.writing.specs.Writing.{Write, laid, refused, writeOf, writtenOf, areaOf}
 use Rattle.writing.specs.declared.Written.{Written}
 use Rattle.validity.specs.Validity.{validOf}
@@ -28,7 +30,7 @@ use Rattle.layouts.specs.Values.{valueSize, valueBytes, listsBytes, valueFrom, 
 use Rattle.layouts.proofs.ListLaws.{no-lists, lists-zero}
 use Rattle.layouts.proofs.LaidLaws.{lists-behind}
 use Rattle.layouts.proofs.RowReads.{Reads}
-use Rattle.console.specs.Console.{roomFor, cadRead, readNumber, readStop, readArea, cadReadStop, cadReadOf, cadReadArea, tells, cadReadPosition, cadReadElement, cadWrite, writeNumber, writeBits, cadWriteOf, cadWriteArea, cadWriteBits}
+use Rattle.console.specs.Console.{roomFor, cadRead, Refused, readNumber, readStop, readArea, cadReadStop, cadReadOf, cadReadArea, tells, cadReadPosition, cadReadElement, cadWrite, writeNumber, writeBits, cadWriteOf, cadWriteArea, cadWriteBits}
 
 -- ---- reading
 
@@ -94,6 +96,26 @@ module _ (profile message : List ℕ) (n : ℕ) (l : List ℕ) where
   by-passes : passes profile ≡ true → readOf (profileFrom profile) message n ≡ readBits (airFrom profile) message n
   unfolding passes readOf profileFrom
   by-passes ok = rw (both-right (isProfile profile) (profileOk (profileFrom profile)) ok)
+
+  -- ---- what a walk refused
+
+  pub refused-leaves : (s : Stop) → Refused profile message n s → CadStop s l
+  unfolding cadReadStop cadReadArea readStop readArea
+  refused-leaves s h = rw (h (length l)) (refl, refl)
+
+  pub none-refused : (s : Stop) → s ≡ noStop → (s .number ≡ 0 → ⊥) → Refused profile message n s
+  unfolding noStop
+  none-refused s e h = absurd (h (ap (λ (y : Stop). y .number) e))
+
+  module _ (ok : passes profile ≡ true) (t : TypeRead) (said : t ≡ typeOf (typeIn (readBits (airFrom profile) message n))) (h : t .stop .number ≡ 0 → ⊥) where
+    stopped : (x : Read Value) → t ≡ typeOf (typeIn x) → (k : ℕ) → roomFor k x ≡ no (t .stop)
+    unfolding typeOf roomFor noStop
+    stopped (got v p) e k = absurd (h (ap (λ (y : TypeRead). y .stop .number) e))
+    stopped (no s) e k = ap (λ (y : TypeRead). no (y .stop)) (sym e)
+
+    pub walk-refused : Refused profile message n (t .stop)
+    unfolding cadRead
+    walk-refused k = rw (ok, by-passes ok) (stopped (readBits (airFrom profile) message n) said k)
 
   module _ (ok : passes profile ≡ true) (area : List ℕ) (x : Reads (airFrom profile) message n area) where
     found-so : readOf (profileFrom profile) message n ≡ got (x .value) n

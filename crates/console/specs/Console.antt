@@ -1,6 +1,7 @@
 -- The C interface: what `cad_read`, `cad_read_at` and `cad_write` answer and leave. 0, or the refusal's number; a refusal leaves everything but
 -- the two numbers that tell of a 4.
 use Prim.Native.Nat.{ℕ}
+use mathlib.Core.Path.{_≡_}
 use mathlib.Core.Bool.{cond}
 use mathlib.Core.List.{List}
 use lib.Dec.{eqb, leb}
@@ -25,6 +26,10 @@ roomFor k (no s) = no s
 -- from the profile's bytes, a message of n bits, and a value area of k bytes
 unfoldable pub cadRead : List ℕ → List ℕ → ℕ → ℕ → Read Value
 cadRead profile message n k = cond (passes profile) (roomFor k (readOf (profileFrom profile) message n)) (no (refusal 1))
+
+-- the message is refused, however long the area is
+abbrev pub Refused : List ℕ → List ℕ → ℕ → Stop → Type 0
+Refused profile message n s = (k : ℕ) → cadRead profile message n k ≡ no s
 
 unfoldable pub readNumber : Read Value → ℕ
 readNumber (got v p) = 0

@@ -5,7 +5,7 @@ ghost use mathlib.Core.Path.{_≡_};
 ghost use mathlib.Core.Bool.{true, false};
 ghost use Rattle.codec.specs.Stops.{noStop};
 ghost use Rattle.console.specs.Drawing.{ReadsBack, Drawn};
-ghost use Rattle.console.specs.Console.{cadReadStop, cadReadOf, cadReadArea, cadReadPosition, cadReadElement, cadWriteOf, cadWriteArea, cadWriteBits};
+ghost use Rattle.console.specs.Console.{Refused, cadReadStop, cadReadOf, cadReadArea, cadReadPosition, cadReadElement, cadWriteOf, cadWriteArea, cadWriteBits};
 use codec::Stop;
 
 mod area;
@@ -60,7 +60,23 @@ fn read_into(profile: &[u8], message: &[u8], bits: usize, value: &mut [u8]) -> S
     if read_quickly(profile, message, bits, value) {
         return codec::no_stop();
     }
+    let s = refused_quickly(profile, message, bits);
+    if s.number > 0 {
+        return s;
+    }
     read_slowly(profile, message, bits, value)
+}
+
+// What a message is refused with, by the walk that keeps no value. 0: that is for the long way to say.
+fn refused_quickly(profile: &[u8], message: &[u8], bits: usize) -> Stop
+    ensures { λ r. ⌜ ((r .number ≡ 0 → ⊥) → Refused (now (profile .entry)) (now (message .entry)) bits r) ⌝ }
+{
+    if profiles::passes(profile) {
+        let t = reading::read_type(profiles::air_from(profile), message, bits);
+        let s = t.stop;
+        return s;
+    }
+    codec::no_stop()
 }
 
 // What can be laid as it is read. False: nothing has changed, and `reading` has to say what is refused, if anything.

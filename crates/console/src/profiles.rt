@@ -208,7 +208,7 @@ pub(crate) fn profile_from(l: &[u8]) -> Profile
     }
 }
 
-fn air_from(l: &[u8]) -> Air
+pub(crate) fn air_from(l: &[u8]) -> Air
     ensures { λ r. ⌜ r ≡ airFrom (now (l .entry)) ⌝ }
 {
     let mut meanings = [RESERVED; 16];
