@@ -411,7 +411,7 @@ module _ (air : Air) (t : ℕ) where
   whole-ends n (no s) (no u) h = ap (λ (s : Stop). no s) (sym h)
 
 module _ (air : Air) (f : ℕ → ℕ) (n : ℕ) where
-  walk-is : wholeWalk air f n ≡ typeIn (wholeOf air f n)
+  pub walk-is : wholeWalk air f n ≡ typeIn (wholeOf air f n)
   unfolding wholeWalk wholeOf messageC
   walk-is = go (headerC (air .ss) .read f n 0)
     where
