@@ -60,9 +60,9 @@ fn read_into(profile: &[u8], message: &[u8], bits: usize, value: &mut [u8]) -> S
     if read_quickly(profile, message, bits, value) {
         return codec::no_stop();
     }
-    let s = refused_quickly(profile, message, bits);
-    if s.number > 0 {
-        return s;
+    let stop = refused_quickly(profile, message, bits);
+    if stop.number > 0 {
+        return stop;
     }
     read_slowly(profile, message, bits, value)
 }
@@ -73,8 +73,8 @@ fn refused_quickly(profile: &[u8], message: &[u8], bits: usize) -> Stop
 {
     if profiles::passes(profile) {
         let t = reading::read_type(profiles::air_from(profile), message, bits);
-        let s = t.stop;
-        return s;
+        let stop = t.stop;
+        return stop;
     }
     codec::no_stop()
 }
