@@ -2,8 +2,10 @@
  * Makes calls of the product and of the plain readers (readers.rs), all in the same way: profile, message and value as bytes, areas not
  * cleared between calls. The profile is the sample, with range 14 as a list.
  *
- *   calls count CALL TIMES LIST BITS HEX   only makes them, so that the instructions of TIMES calls can be counted from outside; range 14
- *                                          is a list of LIST, and cad_write writes what cad_read reads
+ *   calls count CALL TIMES LIST BITS HEX [ANSWER]
+ *                                          only makes them, so that the instructions of TIMES calls can be counted from outside; range 14
+ *                                          is a list of LIST, and cad_write writes what cad_read reads. A read that gives another answer
+ *                                          than ANSWER, or 0, ends it
  *   calls times ROUNDS < MESSAGES          nanoseconds a read of each message (BITS HEX NAME): medians with least and most, and what the
  *                                          plain readers take by what cad_read takes; range 14 is a list of fifteen
  */
@@ -25,6 +27,7 @@ static const struct {
 static uint8_t profile[CAD_PROFILE_BYTES];
 static uint8_t message[CAD_MESSAGE_BYTES];
 static size_t bits;
+static uint32_t answer; /* what every read must give */
 
 static void give_up(const char *why)
 {
@@ -55,11 +58,11 @@ static void set_message(size_t length, const char *hex)
 static void read_it(reader *read, unsigned long times)
 {
     uint8_t value[CAD_VALUE_BYTES];
-    uint32_t refused = 0;
+    uint32_t other = 0;
     for (; times > 0; times--)
-        refused |= read(profile, sizeof profile, message, (bits + 7) / 8, bits, value, sizeof value);
-    if (refused != 0)
-        give_up("refused");
+        other |= read(profile, sizeof profile, message, (bits + 7) / 8, bits, value, sizeof value) ^ answer;
+    if (other != 0)
+        give_up("another answer");
 }
 
 static void write_it(unsigned long times)
@@ -146,12 +149,14 @@ int main(int argc, char **argv)
         }
         return 0;
     }
-    if (argc == 7 && strcmp(argv[1], "count") == 0) {
+    if ((argc == 7 || argc == 8) && strcmp(argv[1], "count") == 0) {
+        if (argc == 8)
+            answer = (uint32_t)strtoul(argv[7], NULL, 10);
         set_profile((unsigned)atoi(argv[4]));
         set_message(strtoul(argv[5], NULL, 10), argv[6]);
         count(argv[2], strtoul(argv[3], NULL, 10));
         return 0;
     }
-    fprintf(stderr, "usage: calls count CALL TIMES LIST BITS HEX | calls times ROUNDS < MESSAGES\n");
+    fprintf(stderr, "usage: calls count CALL TIMES LIST BITS HEX [ANSWER] | calls times ROUNDS < MESSAGES\n");
     return 2;
 }

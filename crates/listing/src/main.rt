@@ -21,6 +21,12 @@ struct SoFar {
     kept: blocks::Text,
 }
 
+// A line's number as it is printed: the first `len` of the bytes.
+struct Shown {
+    len: usize,
+    digits: [u8; 20],
+}
+
 // The longest line printed: a number of 20 digits, a space, 20 bytes and LF.
 const LONGEST: usize = 42;
 
@@ -85,6 +91,7 @@ fn feed(block: &[u8], output: &mut [u8], seen: SoFar) -> SoFar
     let mut number = seen.number;
     let mut out = seen.out;
     let mut kept = seen.kept;
+    let mut shown = shown_of(number);
     let mut from: usize = 0;
     while from < block.len() {
         let end = blocks::line_end(block, from);
@@ -92,13 +99,13 @@ fn feed(block: &[u8], output: &mut [u8], seen: SoFar) -> SoFar
             let before = number;
             let start = from;
             number += 1;
+            shown = next_shown(shown, number);
             from = end + 1;
             if kept.len == 0 {
                 let text = lines::said(&block[start..end]);
-                out = print(output, out, before, text);
+                out = print(output, out, before, shown, text);
             } else {
-                let text = lines::said_kept(blocks::keep(kept, &block[start..end]));
-                out = print(output, out, before, text);
+                out = print_kept(output, out, before, shown, kept, &block[start..end]);
                 kept = blocks::nothing_kept();
             }
         } else {
@@ -139,7 +146,8 @@ fn last_line(output: &mut [u8], seen: SoFar, cut: bool) -> SoFar
     if kept.len == 0 {
         return seen;
     }
-    let out = print(output, seen.out, seen.number, lines::said_kept(kept));
+    let shown = shown_of(seen.number + 1);
+    let out = print(output, seen.out, seen.number, shown, lines::said_kept(kept));
     SoFar {
         number: seen.number + 1,
         out: out,
@@ -155,28 +163,71 @@ fn say(what: &[u8], number: u64) {
 }
 
 // The answer to a line into the output block, after those to `before` lines.
-fn print(output: &mut [u8], out: Out, before: u64, text: Text) -> Out
+fn print(output: &mut [u8], out: Out, before: u64, shown: Shown, text: Text) -> Out
     requires { ⌜ (length (now output) ≡ 65536) × ((out .filled ≤ 65536) × (before ≤ 2 ^ 62)) ⌝ }
     ensures { λ r. ⌜ r .filled ≤ 65536 ⌝ }
 {
     let room = with_room(output, out, before);
     Out {
-        filled: put_line(output, room.filled, before + 1, text),
+        filled: put_line(output, room.filled, shown, text),
         written: room.written,
         failed: room.failed,
     }
 }
 
+// The same of a line of which a start is kept.
+fn print_kept(
+    output: &mut [u8],
+    out: Out,
+    before: u64,
+    shown: Shown,
+    kept: blocks::Text,
+    rest: &[u8],
+) -> Out
+    requires { ⌜ (length (now output) ≡ 65536) × ((out .filled ≤ 65536) × (before ≤ 2 ^ 62)) ⌝ }
+    ensures { λ r. ⌜ r .filled ≤ 65536 ⌝ }
+{
+    let text = lines::said_kept(blocks::keep(kept, rest));
+    print(output, out, before, shown, text)
+}
+
 // The number and a space, the text and LF.
-fn put_line(output: &mut [u8], filled: usize, number: u64, text: Text) -> usize
+fn put_line(output: &mut [u8], filled: usize, shown: Shown, text: Text) -> usize
     requires { ⌜ (length (now output) ≡ 65536) × (filled ≤ 65536) ⌝ }
     ensures { λ r. ⌜ r ≤ 65536 ⌝ }
 {
-    let mut digits = [0u8; 20];
-    let count = io::decimal(number, &mut digits);
-    let after_number = put_ended(output, filled, digits, count, b' ');
+    let digits = shown.digits;
+    let after_number = put_ended(output, filled, digits, shown.len, b' ');
     let bytes = text.bytes;
     put_ended(output, after_number, bytes, text.len, b'\n')
+}
+
+fn shown_of(number: u64) -> Shown {
+    let mut digits = [0u8; 20];
+    let len = io::decimal(number, &mut digits);
+    Shown {
+        len: len,
+        digits: digits,
+    }
+}
+
+// A number as it is printed, after the one before it: most differ in the last digit alone.
+fn next_shown(shown: Shown, number: u64) -> Shown {
+    let len = shown.len;
+    let mut digits = shown.digits;
+    if len > 0 {
+        if len <= 20 {
+            let last = digits[len - 1];
+            if last < b'9' {
+                digits[len - 1] = last + 1;
+                return Shown {
+                    len: len,
+                    digits: digits,
+                };
+            }
+        }
+    }
+    shown_of(number)
 }
 
 // The first `len` of the bytes and one more, which is put with them where it fits behind them.

@@ -7,12 +7,15 @@ use Rattle.listing.proofs.feed.Statement.{statement}
 use Rattle.listing.proofs.feed.Tie as tie
 
 abbrev Inv-loop : tie.InvT-loop
-Inv-loop block output₀ number₀ out₀ kept₀ from₀ output number out kept from =
+Inv-loop block output₀ number₀ out₀ kept₀ shown₀ from₀ output number out kept shown from =
     (from ≤ length block)
     × ((number ≤ number₀ + from) × ((out .filled ≤ 65536) × (length output ≡ length output₀)))
 
 abbrev μ-loop : tie.MeasureT-loop
-μ-loop block output₀ number₀ out₀ kept₀ from₀ output number out kept from = length block - from
+μ-loop block output₀ number₀ out₀ kept₀ shown₀ from₀ output number out kept shown from = length block - from
+
+shown-of-requires : tie.Need-shown-of-requires Inv-loop μ-loop
+shown-of-requires c κs = search needs
 
 loop-holds : tie.Need-loop-holds Inv-loop μ-loop
 loop-holds c = search needs
@@ -22,6 +25,9 @@ line-end-requires c κs = search needs
 
 add-number : tie.Need-add-number Inv-loop μ-loop
 add-number c = search needs
+
+next-shown-requires : tie.Need-next-shown-requires Inv-loop μ-loop
+next-shown-requires c κs = search needs
 
 add-from : tie.Need-add-from Inv-loop μ-loop
 add-from c = search needs
@@ -47,6 +53,27 @@ loop-less c = search needs
 loop-again : tie.Need-loop-again Inv-loop μ-loop
 loop-again c = search needs
 
+sub-print-kept : tie.Need-sub-print-kept Inv-loop μ-loop
+sub-print-kept c = search needs
+
+part-print-kept-start : tie.Need-part-print-kept-start Inv-loop μ-loop
+part-print-kept-start c = search needs
+
+part-print-kept-end : tie.Need-part-print-kept-end Inv-loop μ-loop
+part-print-kept-end c = search needs
+
+print-kept-requires : tie.Need-print-kept-requires Inv-loop μ-loop
+print-kept-requires c κs = search needs
+
+nothing-kept-requires : tie.Need-nothing-kept-requires Inv-loop μ-loop
+nothing-kept-requires c κs = search needs
+
+loop-less-2 : tie.Need-loop-less-2 Inv-loop μ-loop
+loop-less-2 c = search needs
+
+loop-again-2 : tie.Need-loop-again-2 Inv-loop μ-loop
+loop-again-2 c = search needs
+
 sub-keep : tie.Need-sub-keep Inv-loop μ-loop
 sub-keep c = search needs
 
@@ -58,33 +85,6 @@ part-keep-end c = search needs
 
 keep-requires : tie.Need-keep-requires Inv-loop μ-loop
 keep-requires c κs = search needs
-
-said-kept-requires : tie.Need-said-kept-requires Inv-loop μ-loop
-said-kept-requires c κs = search needs
-
-print-requires-2 : tie.Need-print-requires-2 Inv-loop μ-loop
-print-requires-2 c κs = search needs
-
-nothing-kept-requires : tie.Need-nothing-kept-requires Inv-loop μ-loop
-nothing-kept-requires c κs = search needs
-
-loop-less-2 : tie.Need-loop-less-2 Inv-loop μ-loop
-loop-less-2 c = search needs
-
-loop-again-2 : tie.Need-loop-again-2 Inv-loop μ-loop
-loop-again-2 c = search needs
-
-sub-keep-2 : tie.Need-sub-keep-2 Inv-loop μ-loop
-sub-keep-2 c = search needs
-
-part-keep-start-2 : tie.Need-part-keep-start-2 Inv-loop μ-loop
-part-keep-start-2 c = search needs
-
-part-keep-end-2 : tie.Need-part-keep-end-2 Inv-loop μ-loop
-part-keep-end-2 c = search needs
-
-keep-requires-2 : tie.Need-keep-requires-2 Inv-loop μ-loop
-keep-requires-2 c κs = search needs
 
 loop-less-3 : tie.Need-loop-less-3 Inv-loop μ-loop
 loop-less-3 c = search needs
@@ -104,9 +104,11 @@ feed-spec =
     (tie.spec
     Inv-loop
     μ-loop
+    shown-of-requires
     loop-holds
     line-end-requires
     add-number
+    next-shown-requires
     add-from
     sub-said
     part-said-start
@@ -115,19 +117,17 @@ feed-spec =
     print-requires
     loop-less
     loop-again
+    sub-print-kept
+    part-print-kept-start
+    part-print-kept-end
+    print-kept-requires
+    nothing-kept-requires
+    loop-less-2
+    loop-again-2
     sub-keep
     part-keep-start
     part-keep-end
     keep-requires
-    said-kept-requires
-    print-requires-2
-    nothing-kept-requires
-    loop-less-2
-    loop-again-2
-    sub-keep-2
-    part-keep-start-2
-    part-keep-end-2
-    keep-requires-2
     loop-less-3
     loop-again-3
     same-length
