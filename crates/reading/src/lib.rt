@@ -1,7 +1,8 @@
 // Reading a message: from bytes and a bit length to a value, or to the refusal that document 01's order gives.
 //
 // `read` equals `readOf` of `message` for every profile, buffer and length. The files go from small to large: element, address, group,
-// area, ack, part, option, body, header. Each function reads one codec and hands the refusal of what it calls on unchanged.
+// area, ack, part, option, body, header. Each function reads one codec and hands the refusal of what it calls on unchanged. `read_type` gives
+// the same refusals, and of a message its type alone: walk goes along it and makes no value.
 ghost use mathlib.Core.Path.{_≡_};
 ghost use Rattle.bits.specs.Fields.{bitAt};
 ghost use Rattle.codec.specs.Codec.{got, no};
