@@ -3,9 +3,7 @@
 // Each function equals a walk of specs/Walks, and these are what reading is where its value is forgotten (proofs/WalkLaws).
 ghost use mathlib.Core.Path.{_≡_};
 ghost use mathlib.Core.Bool.{false};
-ghost use Prim.Native.Nat.{_-_, _+_, _≤_};
 ghost use Rattle.bits.specs.Fields.{bitAt};
-ghost use Rattle.message.specs.Groups.{rangeOk};
 ghost use Rattle.reading.specs.Walks.{stepOf, walkOf, eachWalkOf, keep, passOf, addressWalk, addressesWalk, endsWalk, listWalk, groupWalk, partWalk, partsWalk, eachWalk, behindWalk, optionsWalk, bodyWalk, wholeWalk};
 ghost use Rattle.message.specs.declared.Part.the-variants.{Masked, Result, Interrogation, Areas};
 use crate::ack;
