@@ -1,33 +1,33 @@
 -- A row's parts and options laid one after the other, and the whole message. Assumes nothing.
-use Prim.Native.Nat.{ℕ, zero, suc, _+_, _-_, _*_, _/_, _%_, _^_, _≤_, _<_}
+use Prim.Native.Nat.{ℕ, _+_, _-_, _*_, _/_, _%_, _≤_, _<_}
 use mathlib.Core.Path.{_≡_, refl, sym, ap, _∙_, subst}
 use mathlib.Core.Bool.{Bool, true, false, cond, _||_}
-use mathlib.Core.List.{List, [], _∷_}
+use mathlib.Core.List.{List}
 use native.Mathlib.Omega.{arith}
-use lib.Dec.{eqb, leb}
 use lib.ListN.{length, getD, drop, set, replicate}
-use borrow.Author.Tests.{eq-eqb, le-leb}
+use borrow.Author.Tests.{eq-eqb}
 use Rattle.bits.specs.Fields.{bitAt, fieldAt}
-use Rattle.bits.proofs.FieldLaws.{bit-lt, field-lt, field-split}
-use Rattle.codec.specs.Codec.{Read, got, no, bind, both, number}
+use Rattle.bits.proofs.FieldLaws.{field-is}
+use Rattle.codec.specs.Codec.{got, both}
 use Rattle.codec.specs.Options.{flag}
-use Rattle.codec.proofs.Good.{Binary, both-true}
 use Rattle.codec.proofs.Combinators.{number-got}
 use Rattle.profile.specs.declared.Air.{Air}
 use Rattle.message.specs.Elements as element
 use Rattle.message.specs.Groups.{nobodies, noGroup}
 use Rattle.message.specs.Areas.{noAreas}
 use Rattle.message.specs.Values.{blank, noLists, withGiven}
-use Rattle.message.specs.Rows.{table, rowIn, rowOf}
+use Rattle.message.specs.Rows.{table, rowOf}
 use Rattle.message.specs.Messages.{bodyC, isKnown, isCarried, headerC, messageC}
-use Rattle.message.specs.Reading.{wholeOf, lengthOk, readBits}
+use Rattle.message.specs.Reading.{wholeOf, readBits}
 use Rattle.message.specs.declared.Part.{Part}
 use Rattle.message.specs.declared.Part.the-variants as part
 use Rattle.message.specs.declared.Slot.{Slot}
 use Rattle.message.specs.declared.Row.{Row}
 use Rattle.message.specs.declared.Value.{Value}
 use Rattle.message.proofs.TableLaws.{each-row}
-use Rattle.reading.specs.Parts.{partRead, partsRead, optionRead, eachRead, behindRead, optionsRead}
+use Rattle.reading.proofs.ReadLaws as read
+use Rattle.reading.proofs.WalkLaws.{length-good}
+use Rattle.reading.specs.Parts.{judgedOf, partRead, partsRead, optionRead, eachRead, behindRead, optionsRead}
 use Rattle.reading.proofs.RowLaws.{parts-start, parts-turn, parts-end, each-start, each-turn, each-end, options-zero, options-some, body-row}
 use Rattle.layouts.specs.Bytes.{numberBytes, rowsBytes}
 use Rattle.layouts.specs.Profiles.{airFrom}
@@ -182,25 +182,17 @@ module _ (air : Air) (l : List ℕ) (n head ss t : ℕ) (is : head ≡ fieldAt (
   abbrev f : ℕ → ℕ
   f = bitAt l
 
-  eleven : head ≡ fieldAt f 0 6 * 32 + fieldAt f 6 5
-  eleven = is ∙ field-split f 0 6 5
-
-  ss-read : fieldAt f 0 6 ≡ air .ss
-  ss-read = omega (arith, eleven, same, field-lt f (bit-lt l) 6 5) ∙ own
-
-  type-read : fieldAt f 6 5 ≡ t
-  type-read = omega (arith, eleven, type, field-lt f (bit-lt l) 6 5)
-
   header-read : 11 ≤ n → headerC (air .ss) .read f n 0 ≡ got (air .ss, t) 11
-  unfolding headerC
+  unfolding judgedOf
   header-read h =
-      rw (number-got element.ssType f n 0 6 (omega arith), ss-read, number-got element.pduType f n 6 5 (omega arith), type-read, eq-eqb (air .ss) (air .ss) refl, carried-known t carried, carried)
+      read.header-read (air .ss) l n 0 head (is ∙ sym (field-is l 0 11 (omega arith))) (omega arith)
+      ∙ rw (same ∙ own, type, eq-eqb (air .ss) (air .ss) refl, carried-known t carried, carried)
 
   pub message-laid : (b : List ℕ) (r : ℕ) (x : Lays (λ n. bodyC air t .read f n 11) 11 b r) → r ≡ n → n ≤ 4096 → n ≤ 8 * length l → readBits air l n ≡ got (x .value) n
-  unfolding readBits lengthOk both wholeOf messageC
+  unfolding readBits wholeOf messageC
   message-laid b r x e h k =
       let body : bodyC air t .read f n 11 ≡ got (x .value) n = x .read n (omega (arith, e)) ∙ ap (λ (q : ℕ). got (x .value) q) e in
-      rw (le-leb 1 n (omega (arith, e, x .after)), le-leb n 4096 h, le-leb n (8 * length l) k, header-read (omega (arith, e, x .after)), body, eq-eqb n n refl)
+      rw (length-good l n (omega (arith, e, x .after)) h k, header-read (omega (arith, e, x .after)), body, eq-eqb n n refl)
 
 -- ---- by the contracts of what goes along a row: `lay_parts`, `lay_behind`, `lay_row`, `lay`
 

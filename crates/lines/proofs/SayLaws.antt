@@ -8,7 +8,7 @@ use native.Mathlib.Omega.{arith}
 use lib.Dec.{leb}
 use lib.ListN.{length, getD, take}
 use lib.Seq.{getD-take, length-take-le}
-use borrow.Author.Tests.{le-leb, lt-leb}
+use borrow.Author.Tests.{lt-leb}
 use Rattle.bits.specs.Fields.{bitAt}
 use Rattle.codec.specs.Codec.{Read, got, no, both}
 use Rattle.codec.specs.Stops.{refusal}
@@ -21,6 +21,7 @@ use Rattle.message.specs.Reading.{wholeOf, lengthOk, readBits, readOf}
 use Rattle.message.specs.declared.Value.{Value}
 use Rattle.message.proofs.ReadingLaws.{past-unread}
 use Rattle.reading.specs.Walks.{typeIn, typeOf}
+use Rattle.reading.proofs.WalkLaws.{length-good}
 use Rattle.reading.specs.declared.TypeRead.{TypeRead}
 use Rattle.lines.specs.Shape.{noBytes, noHex, hexAt, lineWith}
 use Rattle.lines.specs.Saying.{nameOf, refusedOf, stopOf, answerOf, sayOf}
@@ -42,8 +43,8 @@ said-refused (no s) r e h = rw e
 -- ---- reading where the length is in order
 
 pub bits-whole : (air : Air) (l : List ℕ) (n : ℕ) → 1 ≤ n → n ≤ 4096 → n ≤ 8 * length l → readBits air l n ≡ wholeOf air (bitAt l) n
-unfolding readBits lengthOk both
-bits-whole air l n some most held = rw (le-leb 1 n some, le-leb n 4096 most, le-leb n (8 * length l) held)
+unfolding readBits
+bits-whole air l n some most held = rw (length-good l n some most held)
 
 read-whole : (l : List ℕ) (n : ℕ) → 1 ≤ n → n ≤ 4096 → n ≤ 8 * length l → readOf sample l n ≡ wholeOf (sample .air) (bitAt l) n
 unfolding readOf
