@@ -3,6 +3,8 @@
 //
 // Each public function takes every input. `field` equals `field_of`, `put` leaves `put_of` and `pad` leaves `pad_of` of what
 // it found (specs/), so every bit and byte afterwards is decided; the laws of reading after writing are in proofs/RoundLaws.
+#![tactic(auto)]
+
 ghost use Rattle.std.specs.Prelude.{◌≡◌, ◌+◌, ◌*◌, ◌<◌, ◌≤◌, ◌^◌, length, get_or, set};
 ghost use Rattle.bits.specs.Fields.{bit_at, field_at, field_of, eight_of};
 ghost use Rattle.bits.specs.Puts.{with_digit, put_bits, binary, put_of, pad_of};

@@ -3,12 +3,13 @@
 // Each function takes every input. `line_end` equals `line_end`; `put` leaves `put_text` and answers where it ends, so what does not fit is
 // not put and every byte is decided (specs/Blocks). The bounds beside them follow, and are said for those who go on from there. `keep` puts
 // one more piece after a text, of which the first 1,152 bytes are kept (specs/Texts, proofs/TextLaws).
+#![tactic(auto)]
 ghost use Rattle.std.specs.Prelude.{◌≡◌, false, ◌+◌, ◌-◌, ◌≤◌, min, length, take};
 ghost use Rattle.blocks.specs.Blocks.{line_end, text_end, put_text};
 ghost use Rattle.blocks.specs.Texts.{no_text, keep_of};
 
 // The first `len` of the bytes; the others are zero.
-#[derive(Drop)]
+#[derive(Clone, Copy)]
 pub struct Text {
     pub len: usize,
     pub bytes: [u8; 1152],

@@ -2,13 +2,14 @@
 //
 // What is proved of codecs (proofs/): each combinator keeps `Good`, and of every good codec what is written reads back, what reads
 // as a value is valid and has the bits that stood there, and bits past the length are never looked at.
+#![tactic(auto)]
 ghost use Rattle.std.specs.Prelude.{◌≡◌};
 ghost use Rattle.codec.specs.Stops.{short, refusal, no_stop};
 ghost use Rattle.codec.specs.Taking.{took_of, take_of};
 
 // A refusal on its way. It is made by `short_at`, `refuse` and `no_stop` alone, and handed on whole. With a 4 `element` is the element that
 // did not fit, and it begins at position `at`; with any other number both are 0, and no element has the number 0.
-#[derive(Drop)]
+#[derive(Clone, Copy)]
 pub struct Stop {
     pub number: u8,
     pub element: u8,
@@ -16,7 +17,7 @@ pub struct Stop {
 }
 
 // A number and the next position, or a refusal.
-#[derive(Drop)]
+#[derive(Clone, Copy)]
 pub enum Took {
     Got(u64, usize),
     Refused(Stop),

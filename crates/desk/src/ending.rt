@@ -18,7 +18,7 @@ use places::Place;
 use sending::Laid;
 
 // The place of a call that its post may end, or 19 or 20.
-#[derive(Drop)]
+#[derive(Clone, Copy)]
 pub struct Ending {
     pub found: bool,
     pub stop: Stop,

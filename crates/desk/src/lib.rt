@@ -5,6 +5,7 @@
 // has each call's order of refusals, specs/Steps what follows from an answer). `change_shares` changes the posts' shares of the places
 // (specs/Changes). The files: ending (how a waiting call ends), setup, posted (a post's message by its type), marking (ACTIVATE and
 // DEACTIVATE), sharing (new shares).
+#![tactic(auto)]
 ghost use Rattle.std.specs.Prelude.{◌≡◌};
 ghost use Rattle.places.specs.Held.{no_places};
 ghost use Rattle.desk.specs.Changes.{change_of};
@@ -25,14 +26,14 @@ mod posted;
 mod setup;
 mod sharing;
 
-#[derive(Drop)]
+#[derive(Clone, Copy)]
 pub struct Desk {
     pub profile: Profile,
     pub places: Places,
 }
 
 // The desk, or a refusal and a desk that is all zero.
-#[derive(Drop)]
+#[derive(Clone, Copy)]
 pub struct Opened {
     pub found: bool,
     pub stop: Stop,
@@ -40,7 +41,7 @@ pub struct Opened {
 }
 
 // What comes to the desk: a message from a post, a call being set up, and the plain calls that end a waiting one.
-#[derive(Drop)]
+#[derive(Clone, Copy)]
 pub enum Event {
     Message {
         post: u64,
@@ -62,7 +63,7 @@ pub enum Event {
 }
 
 // `State` is 0 no record, 1 another post's, 2 active, 3 not active.
-#[derive(Drop)]
+#[derive(Clone, Copy)]
 pub enum Answer {
     Refused(Stop),
     Acks,
@@ -76,7 +77,7 @@ pub enum Answer {
     Moved { post: u8 },
 }
 
-#[derive(Drop)]
+#[derive(Clone, Copy)]
 pub struct Stepped {
     pub answer: Answer,
     pub laid: Laid,
@@ -85,14 +86,14 @@ pub struct Stepped {
 }
 
 // What a change of the shares is answered: it is taken, or refused.
-#[derive(Drop)]
+#[derive(Clone, Copy)]
 pub struct Change {
     pub taken: bool,
     pub stop: Stop,
 }
 
 // The answer, and the desk afterwards.
-#[derive(Drop)]
+#[derive(Clone, Copy)]
 pub struct Changed {
     pub change: Change,
     pub desk: Desk,

@@ -12,7 +12,7 @@ use profile::{Air, Kind, Meaning};
 use records::Record;
 
 // What a request asks: of these users, answered by ACKs of this type, that the mark of the accepted ones becomes `mark`.
-#[derive(Drop)]
+#[derive(Clone, Copy)]
 pub struct Asked {
     pub users: Group,
     pub ack: u8,

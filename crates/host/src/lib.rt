@@ -4,6 +4,7 @@
 //
 // The functions on lent records or a lent desk (`set_mark`, `set_marks`, `load`, `call`, `change_shares`) are proved by walks, the others
 // as everywhere.
+#![tactic(auto)]
 ghost use Rattle.std.specs.Prelude.{◌≡◌, false, get_or, replicate, set};
 ghost use Rattle.records.specs.Records.{no_record};
 ghost use Rattle.host.specs.Lending.{loaded_of, set_mark, marked_by, told_of, Called, SharesChanged};
@@ -14,7 +15,7 @@ use records::{Marks, Record};
 use sending::Laid;
 
 // What the host is told: the answer, how many messages were laid in the output area, and their lengths in bits.
-#[derive(Drop)]
+#[derive(Clone, Copy)]
 pub struct Told {
     pub answer: Answer,
     pub laid: Laid,

@@ -2,6 +2,7 @@
 //
 // `said` equals `said_of` for every line. Of a line that comes in pieces the first 1,152 bytes are kept (`blocks`), more than a line of the
 // right shape has, and `said_kept` of these says what the whole line says, however long it is (proofs/KeepLaws).
+#![tactic(auto)]
 ghost use Rattle.std.specs.Prelude.{◌≡◌, ◌+◌, ◌*◌, ◌/◌, ◌<◌, ◌≤◌, length, take, drop};
 ghost use Rattle.bits.specs.Fields.{bit_at};
 ghost use Rattle.profile.specs.Sample.{sample};
@@ -13,14 +14,14 @@ ghost use Rattle.lines.specs.Parsing.{letter_worth, no_head, Heads, hex_up_to, p
 use codec::Stop;
 
 // The first `len` of the bytes; the others are zero.
-#[derive(Drop)]
+#[derive(Clone, Copy)]
 pub struct Text {
     pub len: usize,
     pub bytes: [u8; 20],
 }
 
 // The first `count` of the bytes; the others are zero, and all are where it is not good.
-#[derive(Drop)]
+#[derive(Clone, Copy)]
 pub struct Hex {
     pub good: bool,
     pub count: usize,
@@ -28,7 +29,7 @@ pub struct Hex {
 }
 
 // The bit length that a line begins with, and where the line goes on after the space; both are 0 where it begins in another way.
-#[derive(Drop)]
+#[derive(Clone, Copy)]
 struct Head {
     good: bool,
     bits: usize,

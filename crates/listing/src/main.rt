@@ -1,13 +1,14 @@
 // The listing program: for each line of standard input its number and what it says, on standard output (document 01, "Bits and calls
 // worked out"). All that is said of a line is `lines`' work; this reads and writes in blocks, numbers the lines, finds their ends, and says
 // on standard error what failed and after which line (docs/LISTING.md).
+#![tactic(auto)]
 ghost use Rattle.std.specs.Prelude.{◌≡◌, ◌+◌, ◌^◌, ◌≤◌, length};
 
 use lines::Text;
 
 // What became of the answers: how much of the output block they fill, up to which line all are known to be written, and whether a write
 // failed. After that no other is tried.
-#[derive(Drop)]
+#[derive(Clone, Copy)]
 struct Out {
     filled: usize,
     written: u64,
@@ -15,7 +16,7 @@ struct Out {
 }
 
 // How many lines were answered, what became of the answers, and the start of a line whose end is still to come.
-#[derive(Drop)]
+#[derive(Clone, Copy)]
 struct SoFar {
     number: u64,
     out: Out,
@@ -23,7 +24,7 @@ struct SoFar {
 }
 
 // A line's number as it is printed: the first `len` of the bytes.
-#[derive(Drop)]
+#[derive(Clone, Copy)]
 struct Shown {
     len: usize,
     digits: [u8; 20],

@@ -3,6 +3,7 @@
 // there for the asking.
 //
 // The functions are the small ones that reading, validity, writing and the desk share. Each takes every input.
+#![tactic(auto)]
 ghost use Rattle.std.specs.Prelude.{◌≡◌, true, ◌+◌, ◌-◌};
 ghost use Rattle.message.specs.Groups.{addresses_in, allowed_in, range_ok, ends_ok, no_group, address_at, span_in, span_of};
 ghost use Rattle.message.specs.Areas.{rises};
@@ -19,7 +20,7 @@ mod rows;
 mod store;
 
 // With kind 1 the extension is not on the air, and zero.
-#[derive(Drop)]
+#[derive(Clone, Copy)]
 pub struct Address {
     pub kind: u8,
     pub ssi: u32,
@@ -27,21 +28,21 @@ pub struct Address {
 }
 
 // A range number and the addresses that its meaning has; the places beyond are zero.
-#[derive(Drop)]
+#[derive(Clone, Copy)]
 pub struct Group {
     pub range: u8,
     pub addresses: [Address; 15],
 }
 
 // A range number and the areas that its meaning has; the places beyond are zero.
-#[derive(Drop)]
+#[derive(Clone, Copy)]
 pub struct Areas {
     pub range: u8,
     pub areas: [u8; 15],
 }
 
 // What a restriction covers beside its dispatchers.
-#[derive(Drop)]
+#[derive(Clone, Copy)]
 pub struct Lists {
     pub sources: Group,
     pub destinations: Group,
@@ -49,7 +50,7 @@ pub struct Lists {
 }
 
 // What INTERROGATE ACK says of its users: a result; where it is 0 a reason, and where it is 1 the rest.
-#[derive(Drop)]
+#[derive(Clone, Copy)]
 pub struct State {
     pub result: u32,
     pub reason: u32,
@@ -62,7 +63,7 @@ pub struct State {
 // A message. All that it doesn't carry is zero. A number stands at its place (specs/Numbers); `given` says which of the row's options are
 // there. INTERROGATE's address is user address 0, REQUEST's calling and called are user addresses 0 and 1, the dispatcher of INTERCEPTED,
 // DIVERTED and REJECTED is dispatcher address 0, all with range number 0. Identity i, from 0, is bit 63 − i of the mask.
-#[derive(Drop)]
+#[derive(Clone, Copy)]
 pub struct Value {
     pub pdu: u8,
     pub numbers: [u32; 12],
@@ -76,7 +77,7 @@ pub struct Value {
 
 // What a message has next: a number at its place, a group or the address at one of its places, a mask, a result with its reason, a state,
 // areas. (An array holds the first variant past its end.)
-#[derive(Drop)]
+#[derive(Clone, Copy)]
 pub enum Part {
     Nothing,
     Number(u8),
@@ -92,13 +93,13 @@ pub enum Part {
     Areas,
 }
 
-#[derive(Drop)]
+#[derive(Clone, Copy)]
 pub struct Slot {
     pub part: Part,
 }
 
 // A message after the first 11 bits: so many parts, one after the other, then so many options under one O-bit.
-#[derive(Drop)]
+#[derive(Clone, Copy)]
 pub struct Row {
     pub carried: bool,
     pub count: u8,

@@ -6,17 +6,17 @@ ghost use Rattle.message.specs.Values.{with_numbers, with_givens};
 
 use crate::{Address, Group, Value};
 
-#[derive(Drop)]
+#[derive(Clone, Copy)]
 pub struct Addresses {
     pub at: [Address; 15],
 }
 
-#[derive(Drop)]
+#[derive(Clone, Copy)]
 pub struct Numbers {
     pub at: [u32; 12],
 }
 
-#[derive(Drop)]
+#[derive(Clone, Copy)]
 pub struct Givens {
     pub at: [bool; 7],
 }

@@ -3,6 +3,7 @@
 //
 // Every function is total: its contract is an equation for any shares and places, also such as refusal 1 names; refusing those is the
 // caller's, by `places_ok`. The files: count (held, owed), ground (the grounds of refusal 1), search (the lowest place).
+#![tactic(auto)]
 ghost use Rattle.std.specs.Prelude.{◌≡◌, set};
 ghost use Rattle.places.specs.Held.{place_in, admits_of};
 ghost use Rattle.places.specs.Fits.{fits_of};
@@ -16,7 +17,7 @@ mod ground;
 mod search;
 
 // A place for one waiting call; where it is not used, what else it holds is never looked at.
-#[derive(Drop)]
+#[derive(Clone, Copy)]
 pub struct Place {
     pub used: bool,
     pub identifier: u16,
@@ -37,7 +38,7 @@ pub const FREE: Place = Place {
 
 // A waiting call: its identifier, the post where it waits, if one more is asked after that the second post (otherwise `second` is never
 // looked at), and its interception cause.
-#[derive(Drop)]
+#[derive(Clone, Copy)]
 pub struct Call {
     pub identifier: u16,
     pub post: u8,
@@ -46,13 +47,13 @@ pub struct Call {
     pub cause: u8,
 }
 
-#[derive(Drop)]
+#[derive(Clone, Copy)]
 pub struct Places {
     pub place: [Place; 32],
 }
 
 // A place's number, or none; then `place` is 0.
-#[derive(Drop)]
+#[derive(Clone, Copy)]
 pub struct Spot {
     pub found: bool,
     pub place: u8,

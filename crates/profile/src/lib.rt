@@ -4,6 +4,7 @@
 //
 // `Profile::new` gives the profile, or refusal 1 exactly if a rule is broken; `profile_ok` is the same test for a profile that is
 // handed in, since its fields are public and every call checks again. `SAMPLE` is document 01's sample profile, which passes.
+#![tactic(auto)]
 ghost use Rattle.std.specs.Prelude.{◌≡◌, ◌≤◌};
 ghost use Rattle.profile.specs.Counting.{every, sum};
 ghost use Rattle.profile.specs.Rules.{list_ok, meaning_ok, meaning_in, meaning_of, air_ok, is_one, list_of_one, share_ok, share_in, shares_ok, profile_ok, no_profile, new_of};
@@ -12,7 +13,7 @@ ghost use Rattle.profile.specs.Sample.{sample};
 use codec::Stop;
 
 // How many identities follow a range value. (An array holds the first variant past its end.)
-#[derive(Drop)]
+#[derive(Clone, Copy)]
 pub enum Kind {
     Reserved,
     Nobody,
@@ -21,7 +22,7 @@ pub enum Kind {
 }
 
 // What a range value means; `count` is the length of a list.
-#[derive(Drop)]
+#[derive(Clone, Copy)]
 pub struct Meaning {
     pub kind: Kind,
     pub count: u8,
@@ -29,7 +30,7 @@ pub struct Meaning {
 
 // `unknown` is U, the failure of an identity with no record; `other` is N, of another post's user. `unrecorded` and `elsewhere` are
 // what INTERROGATE ACK gives as its reason for the same two.
-#[derive(Drop)]
+#[derive(Clone, Copy)]
 pub struct Air {
     pub ss: u8,
     pub home: u32,
@@ -41,26 +42,26 @@ pub struct Air {
 }
 
 // A post's share of the places: so many are reserved for it, and it may hold no more than its ceiling.
-#[derive(Drop)]
+#[derive(Clone, Copy)]
 pub struct Share {
     pub reserved: u8,
     pub ceiling: u8,
 }
 
 // Rows from `posts` on belong to no post and are never looked at.
-#[derive(Drop)]
+#[derive(Clone, Copy)]
 pub struct Shares {
     pub posts: u8,
     pub share: [Share; 8],
 }
 
-#[derive(Drop)]
+#[derive(Clone, Copy)]
 pub struct Profile {
     pub air: Air,
     pub shares: Shares,
 }
 
-#[derive(Drop)]
+#[derive(Clone, Copy)]
 pub struct NewProfile {
     pub found: bool,
     pub stop: Stop,

@@ -10,19 +10,19 @@ use crate::element::{ByteTook, FlagTook, WordTook};
 use codec::{Stop, Took};
 use message::State;
 
-#[derive(Drop)]
+#[derive(Clone, Copy)]
 pub enum MaskedTook {
     Got(bool, u64, usize),
     Refused(Stop),
 }
 
-#[derive(Drop)]
+#[derive(Clone, Copy)]
 pub enum ResultTook {
     Got(u8, u8, usize),
     Refused(Stop),
 }
 
-#[derive(Drop)]
+#[derive(Clone, Copy)]
 pub enum StateTook {
     Got(State, usize),
     Refused(Stop),

@@ -10,7 +10,7 @@ use crate::element::{ByteTook, WordTook};
 use codec::Stop;
 use message::Address;
 
-#[derive(Drop)]
+#[derive(Clone, Copy)]
 pub enum AddressTook {
     Got(Address, usize),
     Refused(Stop),

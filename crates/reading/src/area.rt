@@ -12,7 +12,7 @@ use codec::Stop;
 use message::Areas;
 use profile::{Air, Meaning};
 
-#[derive(Drop)]
+#[derive(Clone, Copy)]
 pub struct AreaPlaces {
     pub found: bool,
     pub stop: Stop,
@@ -20,7 +20,7 @@ pub struct AreaPlaces {
     pub list: [u8; 15],
 }
 
-#[derive(Drop)]
+#[derive(Clone, Copy)]
 pub struct AreasRead {
     pub found: bool,
     pub stop: Stop,

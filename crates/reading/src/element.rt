@@ -6,19 +6,19 @@ ghost use Rattle.reading.specs.Answers.{byte_of, word_of, flag_of, up_to};
 
 use codec::{Stop, Took};
 
-#[derive(Drop)]
+#[derive(Clone, Copy)]
 pub enum ByteTook {
     Got(u8, usize),
     Refused(Stop),
 }
 
-#[derive(Drop)]
+#[derive(Clone, Copy)]
 pub enum WordTook {
     Got(u32, usize),
     Refused(Stop),
 }
 
-#[derive(Drop)]
+#[derive(Clone, Copy)]
 pub enum FlagTook {
     Got(bool, usize),
     Refused(Stop),

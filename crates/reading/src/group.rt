@@ -12,7 +12,7 @@ use codec::Stop;
 use message::{Address, Group};
 use profile::{Air, Meaning};
 
-#[derive(Drop)]
+#[derive(Clone, Copy)]
 pub struct PlacesRead {
     pub found: bool,
     pub stop: Stop,
@@ -20,7 +20,7 @@ pub struct PlacesRead {
     pub list: [Address; 15],
 }
 
-#[derive(Drop)]
+#[derive(Clone, Copy)]
 pub struct GroupRead {
     pub found: bool,
     pub stop: Stop,

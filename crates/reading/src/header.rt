@@ -7,7 +7,7 @@ ghost use Rattle.reading.specs.Parts.{judged_of};
 
 use codec::Stop;
 
-#[derive(Drop)]
+#[derive(Clone, Copy)]
 pub enum HeaderTook {
     Got(u8, u8, usize),
     Refused(Stop),

@@ -3,6 +3,7 @@
 // `read` equals `read_of` of `message` for every profile, buffer and length. The files go from small to large: element, address, group,
 // area, ack, part, option, body, header. Each function reads one codec and hands the refusal of what it calls on unchanged. `read_type` gives
 // the same refusals, and of a message its type alone: walk goes along it and makes no value.
+#![tactic(auto)]
 ghost use Rattle.std.specs.Prelude.{◌≡◌};
 ghost use Rattle.bits.specs.Fields.{bit_at};
 ghost use Rattle.codec.specs.Codec.{got, no};
@@ -26,7 +27,7 @@ mod part;
 mod walk;
 
 // The value, or a refusal and a value that is all zero.
-#[derive(Drop)]
+#[derive(Clone, Copy)]
 pub struct Reading {
     pub found: bool,
     pub stop: Stop,
@@ -34,7 +35,7 @@ pub struct Reading {
 }
 
 // The PDU type of a message, or a refusal and 0.
-#[derive(Drop)]
+#[derive(Clone, Copy)]
 pub struct TypeRead {
     pub found: bool,
     pub stop: Stop,

@@ -13,7 +13,7 @@ use message::{Part, Slot, Value};
 use profile::Air;
 
 // `some` says whether one of them is there.
-#[derive(Drop)]
+#[derive(Clone, Copy)]
 pub struct Each {
     pub found: bool,
     pub stop: Stop,

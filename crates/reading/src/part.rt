@@ -15,7 +15,7 @@ use codec::Stop;
 use message::{Part, Value};
 use profile::Air;
 
-#[derive(Drop)]
+#[derive(Clone, Copy)]
 pub struct Body {
     pub found: bool,
     pub stop: Stop,

@@ -15,21 +15,21 @@ use message::{Part, Slot};
 use profile::{Air, Kind, Meaning};
 
 // The position after what was passed.
-#[derive(Drop)]
+#[derive(Clone, Copy)]
 pub enum Step {
     On(usize),
     Refused(Stop),
 }
 
 // How many identities the users so far are, and the position.
-#[derive(Drop)]
+#[derive(Clone, Copy)]
 pub enum Walk {
     On(usize, usize),
     Refused(Stop),
 }
 
 // Whether one of the options was there, and the position.
-#[derive(Drop)]
+#[derive(Clone, Copy)]
 pub enum EachWalk {
     On(bool, usize),
     Refused(Stop),

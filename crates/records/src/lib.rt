@@ -3,6 +3,7 @@
 //
 // `rows` has room for 128 records; the first `count` are lent, and the others are never looked at. Every function takes every input,
 // also records that refusal 15 would name. The files go from small to large: identities, search, outcome.
+#![tactic(auto)]
 ghost use Rattle.std.specs.Prelude.{◌≡◌, [], ◌∷◌, take};
 ghost use Rattle.records.specs.Identities.{identity_of, identities_of};
 ghost use Rattle.records.specs.Records.{records_ok, state_of, restricted_of, second_of};
@@ -19,7 +20,7 @@ mod outcome;
 mod search;
 
 // `active` is the mark. A record that is not in use is never looked at.
-#[derive(Drop)]
+#[derive(Clone, Copy)]
 pub struct Record {
     pub in_use: bool,
     pub ssi: u32,
@@ -28,14 +29,14 @@ pub struct Record {
     pub active: bool,
 }
 
-#[derive(Drop)]
+#[derive(Clone, Copy)]
 pub struct Identity {
     pub ssi: u32,
     pub extension: u32,
 }
 
 // The post of the first restricted party; where none is, `found` is false and the post 0.
-#[derive(Drop)]
+#[derive(Clone, Copy)]
 pub struct Party {
     pub found: bool,
     pub post: u8,
@@ -43,21 +44,21 @@ pub struct Party {
 
 // Of each outcome, 0 accepted, 1 failure U, 2 failure N: whether an identity has it, and the mask of those that do. Identity i,
 // from 0, is bit 63 − i. Where U = N both failures are 1.
-#[derive(Drop)]
+#[derive(Clone, Copy)]
 pub struct Sorted {
     pub some: [bool; 3],
     pub mask: [u64; 3],
 }
 
 // Which records' mark is changed, and what it becomes.
-#[derive(Drop)]
+#[derive(Clone, Copy)]
 pub struct Marks {
     pub at: [bool; 128],
     pub mark: bool,
 }
 
 // What a request to change marks comes to: the outcomes of its identities, and the marks of the accepted ones.
-#[derive(Drop)]
+#[derive(Clone, Copy)]
 pub struct Judged {
     pub sorted: Sorted,
     pub marks: Marks,

@@ -6,7 +6,7 @@ use crate::{Identity, Party, Record};
 use profile::Profile;
 
 // A record's number.
-#[derive(Drop)]
+#[derive(Clone, Copy)]
 pub enum Found {
     Nobody,
     At(usize),

@@ -2,6 +2,7 @@
 // (docs/REPLAY.md). What a line asks for is `script`'s work, what an answer says `words`', and what a call does `desk`'s; this keeps the desk,
 // the records and the length of the output area from line to line, reads and writes in blocks, numbers the lines, finds their ends, and says
 // on standard error what failed and after which line.
+#![tactic(auto)]
 ghost use Rattle.std.specs.Prelude.{◌≡◌, ◌+◌, ◌^◌, ◌≤◌, length};
 
 use blocks::Text;
@@ -10,14 +11,14 @@ use places::{Place, Places};
 use records::{Marks, Record};
 use script::{Line, Task};
 
-#[derive(Drop)]
+#[derive(Clone, Copy)]
 struct Rows {
     row: [Record; 128],
 }
 
 // What is lent from call to call: the desk, the first `lent` of 256 records, the first `room` bytes of the output area. These are the first
 // 128 records, which is all that a call looks at: the others are kept beside, and so are not moved with each line.
-#[derive(Drop)]
+#[derive(Clone, Copy)]
 struct State {
     desk: Desk,
     low: Rows,
@@ -26,7 +27,7 @@ struct State {
 }
 
 // How much of the output block is filled, and the state after a line.
-#[derive(Drop)]
+#[derive(Clone, Copy)]
 struct Answered {
     filled: usize,
     state: State,
@@ -34,7 +35,7 @@ struct Answered {
 
 // What became of the answers: how much of the output block they fill, up to which line all are known to be written, and whether a write
 // failed. After that no other is tried.
-#[derive(Drop)]
+#[derive(Clone, Copy)]
 struct Out {
     filled: usize,
     written: u64,
@@ -43,7 +44,7 @@ struct Out {
 
 // How many lines there were, what became of their answers, the state after them with the records from 128 on, and the start of a line whose
 // end is still to come.
-#[derive(Drop)]
+#[derive(Clone, Copy)]
 struct SoFar {
     number: u64,
     out: Out,
@@ -203,7 +204,7 @@ fn finish(output: &mut [u8], seen: SoFar, cut: bool)
 }
 
 // How many lines there were, and what became of their answers.
-#[derive(Drop)]
+#[derive(Clone, Copy)]
 struct Last {
     number: u64,
     out: Out,

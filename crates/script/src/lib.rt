@@ -3,6 +3,7 @@
 // `parse` equals `line_of` for every line. Of a line that comes in pieces the first 1,152 bytes are kept (`blocks`), and `parse_kept` of these
 // is what the whole line asks for, however long it is (proofs/KeepLaws). The files: shape (keyword, numbers), tasks (the lines that
 // are numbers alone), profiles (the profile of a `profile` line, the rows of a `shares` line).
+#![tactic(auto)]
 ghost use Rattle.std.specs.Prelude.{◌≡◌, take};
 ghost use Rattle.script.specs.Lines.{plain_line, message_line, post_line, profile_line, shares_line, task_of, line_of};
 
@@ -19,7 +20,7 @@ mod tasks;
 
 // What a line asks for: nothing that is understood; a call of the desk; a new desk; a record, the length of the output area or a place
 // that is set; all that there is, to be printed; a second post, or a cause, for the call in a place; new shares.
-#[derive(Drop)]
+#[derive(Clone, Copy)]
 pub enum Task {
     Unknown,
     Call(Event),
@@ -35,7 +36,7 @@ pub enum Task {
 
 // A task, and what goes with it: the profile of a new desk; the rows of new shares, which are those of the profile's; of a post's message the
 // first `count` of the bytes. All else is zero.
-#[derive(Drop)]
+#[derive(Clone, Copy)]
 pub struct Line {
     pub task: Task,
     pub profile: Profile,

@@ -143,7 +143,7 @@ fn number_in(number: [u32; 40], at: usize) -> u32
     0
 }
 
-#[derive(Drop)]
+#[derive(Clone, Copy)]
 struct Table {
     meaning: [Meaning; 16],
 }

@@ -3,7 +3,7 @@ ghost use Rattle.std.specs.Prelude.{◌≡◌, ◌≤◌};
 ghost use Rattle.script.specs.Shape.{starts_with, no_number, number_if, number_at, no_numbers, numbers_at};
 
 // A number and the position after it.
-#[derive(Drop)]
+#[derive(Clone, Copy)]
 pub(crate) struct Number {
     pub found: bool,
     pub value: u32,
@@ -11,7 +11,7 @@ pub(crate) struct Number {
 }
 
 // The first `count` of the row; `next` is the position after the space behind them, 0 if the line ends there.
-#[derive(Drop)]
+#[derive(Clone, Copy)]
 pub(crate) struct Numbers {
     pub count: usize,
     pub next: usize,

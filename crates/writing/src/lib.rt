@@ -4,6 +4,7 @@
 // from small to large: element, address, group, area, ack, part, body. Each function writes one codec's bits and answers the next
 // position, whether the area holds them or not; so a first writing into no area gives the length, and 14 comes before any byte is
 // touched. The round trips with `read` are in proofs/RoundTrips.
+#![tactic(auto)]
 ghost use Rattle.std.specs.Prelude.{◌≡◌, ◌+◌, ◌≤◌, true, length};
 ghost use Rattle.validity.specs.Validity.{valid_of};
 ghost use Rattle.writing.specs.Wrote.{Wrote};
@@ -22,7 +23,7 @@ mod group;
 mod part;
 
 // The message's length, or a refusal.
-#[derive(Drop)]
+#[derive(Clone, Copy)]
 pub struct Written {
     pub done: bool,
     pub stop: Stop,

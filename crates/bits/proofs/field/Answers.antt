@@ -1,0 +1,34 @@
+use mathlib.Core.Path.{sym, ◌∙◌}
+use native.Mathlib.Omega.{arith}
+use Prim.Native.Nat.{◌+◌, ◌/◌, ◌<◌}
+use lib.ListN.{get_or}
+use borrow.Author.Rules.{rules}
+use Rattle.bits.proofs.FieldLaws.{field_none, field_wide, field_is, field_below}
+use Rattle.bits.proofs.WordLaws.{one_word, nine_bytes, word_and_byte}
+use Rattle.bits.proofs.field.Goals as goal
+
+-- the ninth byte is a byte
+small : (c : goal.After-byte_at) → get_or c.args.buf.now (c.args.at / 8 + 8) 0 < 256
+small c = omega (arith, c.byte_at.ensures)
+
+pub returns-then-width-eq0 : goal.returns-then-width-eq0
+returns-then-width-eq0 c = sym (field_none _ _ _ (search rules))
+
+pub returns-then-width-gt64 : goal.returns-then-width-gt64
+returns-then-width-gt64 c = sym (field_wide _ _ _ (search rules))
+
+pub returns-then-first-width-le64 : goal.returns-then-first-width-le64
+returns-then-first-width-le64 c =
+    rw c.word.ensures (one_word _ _ _ (omega arith) (omega arith) ∙ sym (field_is _ _ _ (omega arith)))
+
+pub overflow_add-result : goal.overflow_add-result
+overflow_add-result c =
+    let a = c.args in
+    rw (c.word.ensures, c.byte_at.ensures.0)
+    (record { fits = rw (nine_bytes a.buf.now a.at a.width (omega arith) (small c)) (field_below 64 a.buf.now a.at 64 (omega arith)) })
+
+pub returns : goal.returns
+returns c =
+    let a = c.args in
+    rw (c.word.ensures, c.byte_at.ensures.0)
+    (word_and_byte a.buf.now a.at a.width (omega arith) (small c) ∙ sym (field_is _ _ _ (omega arith)))

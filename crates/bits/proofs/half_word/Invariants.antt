@@ -1,0 +1,13 @@
+use Prim.Native.Nat.{◌-◌, ◌*◌, ◌≤◌}
+use mathlib.Core.Path.{◌≡◌, refl, ◌∙◌}
+use native.Mathlib.Omega.{arith}
+use borrow.Author.Rules.{rules}
+use Rattle.bits.proofs.WordLaws.{bytes_lt, byte_more}
+use Rattle.bits.specs.Fields.{bit_at, field_at}
+use Rattle.bits.proofs.half_word.Given as goal
+
+abbrev pub invariant-loop-k : goal.invariant-loop-k
+invariant-loop-k l = (l.k ≤ 4) × (l.v ≡ field_at (bit_at l.buf) (8 * l.i) (8 * l.k))
+
+abbrev pub decreases-loop-k : goal.decreases-loop-k
+decreases-loop-k l = 4 - l.k

@@ -1,0 +1,12 @@
+use mathlib.Core.Path.{sym}
+use native.Mathlib.Omega.{arith}
+use borrow.Author.Rules.{rules}
+use Rattle.bits.proofs.FieldLaws.{field_past}
+use Rattle.bits.proofs.WordLaws.{last_word}
+use Rattle.bits.proofs.word_of_last.Goals as goal
+
+pub returns-then-i-buf : goal.returns-then-i-buf
+returns-then-i-buf c = sym (field_past _ _ _ (omega arith))
+
+pub returns : goal.returns
+returns c = rw c.word_inside.ensures (last_word _ _ (omega arith) (omega arith) (omega arith))
