@@ -4,6 +4,7 @@
 // not put and every byte is decided (specs/Blocks). The bounds beside them follow, and are said for those who go on from there. `keep` puts
 // one more piece after a text, of which the first 1,152 bytes are kept (specs/Texts, proofs/TextLaws).
 #![tactic(auto)]
+
 ghost use Rattle.std.specs.Prelude.{◌≡◌, false, ◌+◌, ◌-◌, ◌≤◌, min, length, take};
 ghost use Rattle.blocks.specs.Blocks.{line_end, text_end, put_text};
 ghost use Rattle.blocks.specs.Texts.{no_text, keep_of};
