@@ -50,6 +50,7 @@ fn has_lf(block: &[u8], from: usize) -> bool
 }
 
 // The same byte by byte.
+#[tactic(auto, using(crate::proofs::BlockLaws::at_lf))]
 fn next_lf(block: &[u8], from: usize) -> usize
     ensures { (result ≡ line_end block.now from) × ((from ≤ result) × (result ≤ from + (length block.now - from))) }
 {

@@ -1,13 +1,10 @@
 use mathlib.Core.Path.{refl, sym, ◌∙◌}
 use borrow.Author.Rules.{rules}
-use Rattle.blocks.proofs.BlockLaws.{at_lf, past_byte, at_end}
+use Rattle.blocks.proofs.BlockLaws.{past_byte, at_end}
 use Rattle.blocks.proofs.next_lf.Goals as goal
 
 pub loop-i-init : goal.loop-i-init
 loop-i-init c = (refl, search rules)
-
-pub returns-then-block-i-eq10 : goal.returns-then-block-i-eq10
-returns-then-block-i-eq10 c = (sym (c.loop-i.invariant.0 ∙ at_lf _ _ (search rules) (search rules)), search rules)
 
 pub loop-i-preserved : goal.loop-i-preserved
 loop-i-preserved c = (c.loop-i.invariant.0 ∙ past_byte _ _ (search rules) (search rules), search rules)
