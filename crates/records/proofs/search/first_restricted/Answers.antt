@@ -7,12 +7,6 @@ use Rattle.records.specs.Identities.{no_identity}
 use Rattle.records.specs.Records.{record_of, restricted_of}
 use Rattle.records.proofs.search.first_restricted.Goals as goal
 
-abbrev invariant-parties : tie.invariant-parties
-invariant-parties count rows parties k₀ k = (k ≤ 2) × ((length rows ≡ 128) × ((length parties ≡ 2) × (restricted_of (take count rows) parties ≡ party_left (take count rows) parties k)))
-
-abbrev decreases-parties : tie.decreases-parties
-decreases-parties count rows parties k₀ k = 2 - k
-
 pub parties-init : goal.parties-init
 parties-init c = (search rules, (search rules, (search rules, party_start _ _)))
 

@@ -12,3 +12,9 @@ invariant-loop-i l = (l.i ≤ 128) × (record_of (take l.count l.rows) l.id ≡ 
 
 abbrev pub decreases-loop-i : goal.decreases-loop-i
 decreases-loop-i l = 128 - l.i
+
+abbrev pub invariant-parties : goal.invariant-parties
+invariant-parties l = (l.k ≤ 2) × ((length l.rows ≡ 128) × ((length l.parties ≡ 2) × (restricted_of (take l.count l.rows) l.parties ≡ party_left (take l.count l.rows) l.parties l.k)))
+
+abbrev pub decreases-parties : goal.decreases-parties
+decreases-parties l = 2 - l.k
