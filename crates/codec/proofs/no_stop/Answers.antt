@@ -1,4 +1,3 @@
-use borrow.Author.Rules.{rules}
 use Rattle.codec.specs.Stops.{refusal, no_stop}
 use Rattle.codec.proofs.no_stop.Goals as goal
 

@@ -1,3 +1,4 @@
+-- `codec::take` meets its contract: a law of `take_of` at each return.
 use mathlib.Core.Path.{sym}
 use native.Mathlib.Omega.{arith}
 use borrow.Author.Rules.{rules}

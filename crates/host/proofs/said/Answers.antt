@@ -1,3 +1,4 @@
+-- `host::said` meets its contract: past the end `get_or` gives false.
 use mathlib.Core.Bool.{false}
 use mathlib.Core.Path.{◌≡◌, sym}
 use native.Mathlib.Omega.{arith}

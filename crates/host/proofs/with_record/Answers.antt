@@ -1,3 +1,4 @@
+-- `host::with_record` meets its contract: past the end `set` changes nothing.
 use mathlib.Core.Path.{◌≡◌, sym}
 use native.Mathlib.Omega.{arith}
 use lib.ListN.{length}

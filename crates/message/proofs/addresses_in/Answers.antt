@@ -1,4 +1,3 @@
-use borrow.Author.Rules.{rules}
 use Rattle.message.specs.Groups.{addresses_in}
 use Rattle.message.proofs.addresses_in.Goals as goal
 

@@ -1,4 +1,3 @@
-use borrow.Author.Rules.{rules}
 use Rattle.message.specs.Groups.{allowed_in}
 use Rattle.message.proofs.allowed.Goals as goal
 

@@ -1,4 +1,3 @@
-use borrow.Author.Rules.{rules}
 use Rattle.message.specs.Areas.{rises}
 use Rattle.message.proofs.areas_rise.Goals as goal
 

@@ -1,4 +1,3 @@
-use borrow.Author.Rules.{rules}
 use Rattle.message.specs.Areas.{no_areas}
 use Rattle.message.specs.Values.{no_lists, blank}
 use Rattle.message.proofs.blank.Goals as goal

@@ -1,4 +1,3 @@
-use borrow.Author.Rules.{rules}
 use Rattle.message.specs.Groups.{ends_ok}
 use Rattle.message.proofs.ends_ok.Goals as goal
 

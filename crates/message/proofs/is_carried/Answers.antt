@@ -1,4 +1,3 @@
-use borrow.Author.Rules.{rules}
 use Rattle.message.specs.Messages.{is_carried}
 use Rattle.message.proofs.is_carried.Goals as goal
 

@@ -1,4 +1,3 @@
-use borrow.Author.Rules.{rules}
 use borrow.Author.Tests.{eq-eqb, ne_eqb}
 use Rattle.message.specs.Rows.{table, row_in, row_of}
 use Rattle.message.proofs.row_of.Goals as goal

@@ -1,4 +1,3 @@
-use borrow.Author.Rules.{rules}
 use Rattle.message.specs.Groups.{span_in}
 use Rattle.message.proofs.span_in.Goals as goal
 

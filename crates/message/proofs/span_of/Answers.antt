@@ -1,4 +1,3 @@
-use borrow.Author.Rules.{rules}
 use Rattle.message.specs.Groups.{span_of}
 use Rattle.message.proofs.span_of.Goals as goal
 

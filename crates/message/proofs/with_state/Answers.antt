@@ -1,4 +1,3 @@
-use borrow.Author.Rules.{rules}
 use Rattle.message.proofs.with_state.Goals as goal
 
 pub returns : goal.returns

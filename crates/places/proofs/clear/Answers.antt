@@ -1,4 +1,3 @@
-use borrow.Author.Rules.{rules}
 use Rattle.places.specs.Spots.{clear_of}
 use Rattle.places.proofs.clear.Goals as goal
 

@@ -1,5 +1,4 @@
 use mathlib.Core.Path.{sym, ◌∙◌}
-use borrow.Author.Rules.{rules}
 use Rattle.codec.specs.Codec.{both}
 use Rattle.places.specs.Fits.{fits_of}
 use Rattle.places.proofs.fits.Goals as goal

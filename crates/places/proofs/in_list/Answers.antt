@@ -1,6 +1,5 @@
 use mathlib.Core.Path.{refl, sym}
 use native.Mathlib.Omega.{arith}
-use borrow.Author.Rules.{rules}
 use Rattle.places.proofs.HeldLaws.{past_free}
 use Rattle.places.specs.Held.{place_in}
 use Rattle.places.proofs.in_list.Goals as goal

@@ -1,4 +1,3 @@
-use borrow.Author.Rules.{rules}
 use Rattle.places.proofs.SpotLaws.{spot_back}
 use Rattle.places.specs.Spots.{lowest_free}
 use Rattle.places.proofs.lowest_free.Goals as goal

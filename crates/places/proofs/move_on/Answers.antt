@@ -1,4 +1,3 @@
-use borrow.Author.Rules.{rules}
 use Rattle.places.proofs.MoveLaws.{moved_place}
 use Rattle.places.proofs.move_on.Goals as goal
 

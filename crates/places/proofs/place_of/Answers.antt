@@ -1,4 +1,3 @@
-use borrow.Author.Rules.{rules}
 use Rattle.places.proofs.SpotLaws.{spot_back}
 use Rattle.places.specs.Spots.{place_of}
 use Rattle.places.proofs.place_of.Goals as goal

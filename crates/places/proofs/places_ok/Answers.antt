@@ -1,5 +1,4 @@
 use mathlib.Core.Path.{sym, ◌∙◌}
-use borrow.Author.Rules.{rules}
 use Rattle.codec.specs.Codec.{both}
 use Rattle.places.specs.Grounds.{places_ok}
 use Rattle.places.proofs.places_ok.Goals as goal

@@ -1,4 +1,3 @@
-use borrow.Author.Rules.{rules}
 use Rattle.places.specs.Spots.{take_of}
 use Rattle.places.proofs.take.Goals as goal
 

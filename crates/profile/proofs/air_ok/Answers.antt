@@ -1,4 +1,4 @@
-use borrow.Author.Rules.{rules}
+-- `profile::air_ok` meets its contract: a test at each return.
 use borrow.Author.Tests.{le-leb, lt-leb}
 use Rattle.codec.specs.Codec.{both}
 use Rattle.profile.specs.Rules.{air_ok}

@@ -1,10 +1,8 @@
-use Prim.Native.Nat.{◌-◌, ◌*◌, ◌≤◌}
+-- `profile::all_reserved` meets its contract: the loop's invariant: the total is over the posts passed, each at most 255.
 use mathlib.Core.Path.{◌≡◌, sym, ◌∙◌}
 use native.Mathlib.Omega.{arith}
-use lib.ListN.{length}
 use borrow.Author.Rules.{rules}
 use Rattle.profile.proofs.CountLaws.{sum_none, sum_more}
-use Rattle.profile.specs.Counting.{sum}
 use Rattle.profile.specs.Rules.{share_in}
 use Rattle.profile.proofs.all_reserved.Goals as goal
 

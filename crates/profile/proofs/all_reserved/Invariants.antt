@@ -1,9 +1,6 @@
 use Prim.Native.Nat.{◌-◌, ◌*◌, ◌≤◌}
-use mathlib.Core.Path.{◌≡◌, sym, ◌∙◌}
-use native.Mathlib.Omega.{arith}
+use mathlib.Core.Path.{◌≡◌}
 use lib.ListN.{length}
-use borrow.Author.Rules.{rules}
-use Rattle.profile.proofs.CountLaws.{sum_none, sum_more}
 use Rattle.profile.specs.Counting.{sum}
 use Rattle.profile.specs.Rules.{share_in}
 use Rattle.profile.proofs.all_reserved.Given as goal

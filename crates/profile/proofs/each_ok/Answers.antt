@@ -1,12 +1,9 @@
-use Prim.Native.Nat.{◌-◌, ◌≤◌}
-use mathlib.Core.Bool.{true}
-use mathlib.Core.Path.{◌≡◌, sym, ◌∙◌}
+-- `profile::each_ok` meets its contract: the loop's invariant: every share passed is good.
+use mathlib.Core.Path.{sym, ◌∙◌}
 use native.Mathlib.Omega.{arith}
-use lib.ListN.{length}
 use borrow.Author.Rules.{rules}
 use Rattle.profile.proofs.CountLaws.{every_none, every_more, every_not, every_end}
-use Rattle.profile.specs.Counting.{every}
-use Rattle.profile.specs.Rules.{share_ok, share_in}
+use Rattle.profile.specs.Rules.{share_in}
 use Rattle.profile.proofs.each_ok.Goals as goal
 
 pub loop-p-init : goal.loop-p-init

@@ -1,10 +1,7 @@
 use Prim.Native.Nat.{◌-◌, ◌≤◌}
 use mathlib.Core.Bool.{true}
-use mathlib.Core.Path.{◌≡◌, sym, ◌∙◌}
-use native.Mathlib.Omega.{arith}
+use mathlib.Core.Path.{◌≡◌}
 use lib.ListN.{length}
-use borrow.Author.Rules.{rules}
-use Rattle.profile.proofs.CountLaws.{every_none, every_more, every_not, every_end}
 use Rattle.profile.specs.Counting.{every}
 use Rattle.profile.specs.Rules.{share_ok, share_in}
 use Rattle.profile.proofs.each_ok.Given as goal

@@ -1,4 +1,3 @@
-use borrow.Author.Rules.{rules}
 use Rattle.profile.specs.Rules.{is_one}
 use Rattle.profile.proofs.is_one.Goals as goal
 

@@ -1,11 +1,9 @@
-use Prim.Native.Nat.{◌-◌, ◌≤◌}
-use mathlib.Core.Path.{◌≡◌, refl, sym, ◌∙◌}
+-- `profile::list_of_one` meets its contract: the loop's invariant: what is left to look at gives what was asked for.
+use mathlib.Core.Path.{refl, sym, ◌∙◌}
 use native.Mathlib.Omega.{arith}
-use lib.ListN.{length}
 use borrow.Author.Rules.{rules}
 use Rattle.profile.proofs.CountLaws.{lowest_turn, lowest_here, lowest_end}
-use Rattle.profile.specs.Counting.{lowest_from}
-use Rattle.profile.specs.Rules.{meaning_in, is_one, list_of_one}
+use Rattle.profile.specs.Rules.{meaning_in, list_of_one}
 use Rattle.profile.proofs.list_of_one.Goals as goal
 
 pub loop-r-init : goal.loop-r-init

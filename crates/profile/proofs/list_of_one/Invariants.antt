@@ -1,9 +1,6 @@
 use Prim.Native.Nat.{◌-◌, ◌≤◌}
-use mathlib.Core.Path.{◌≡◌, refl, sym, ◌∙◌}
-use native.Mathlib.Omega.{arith}
+use mathlib.Core.Path.{◌≡◌}
 use lib.ListN.{length}
-use borrow.Author.Rules.{rules}
-use Rattle.profile.proofs.CountLaws.{lowest_turn, lowest_here, lowest_end}
 use Rattle.profile.specs.Counting.{lowest_from}
 use Rattle.profile.specs.Rules.{meaning_in, is_one, list_of_one}
 use Rattle.profile.proofs.list_of_one.Given as goal

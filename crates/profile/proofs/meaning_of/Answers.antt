@@ -1,8 +1,8 @@
+-- `profile::meaning_of` meets its contract: past the sixteen `get_or` gives the reserved one.
 use Prim.Native.Nat.{◌≤◌}
 use mathlib.Core.Path.{refl, sym}
 use native.Mathlib.Omega.{arith}
 use lib.ListN.{length, get_or-eq_default}
-use borrow.Author.Rules.{rules}
 use Rattle.profile.specs.Rules.{reserved, meaning_in}
 use Rattle.profile.proofs.meaning_of.Goals as goal
 

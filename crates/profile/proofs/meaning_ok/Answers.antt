@@ -1,4 +1,4 @@
-use borrow.Author.Rules.{rules}
+-- `profile::meaning_ok` meets its contract: a case of the kind each.
 use Rattle.profile.specs.Rules.{meaning_ok}
 use Rattle.profile.proofs.meaning_ok.Goals as goal
 

@@ -1,5 +1,5 @@
+-- `profile::profile_ok` meets its contract: a test at each return.
 use mathlib.Core.Path.{sym, ◌∙◌}
-use borrow.Author.Rules.{rules}
 use Rattle.codec.specs.Codec.{both}
 use Rattle.profile.specs.Rules.{profile_ok}
 use Rattle.profile.proofs.profile_ok.Goals as goal

@@ -1,5 +1,5 @@
+-- `profile::shares_ok` meets its contract: a test at each return.
 use mathlib.Core.Path.{sym, ◌∙◌}
-use borrow.Author.Rules.{rules}
 use borrow.Author.Tests.{le-leb, lt-leb}
 use Rattle.codec.specs.Codec.{both}
 use Rattle.profile.specs.Rules.{shares_ok}

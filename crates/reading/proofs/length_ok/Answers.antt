@@ -1,6 +1,5 @@
 use mathlib.Core.Path.{sym}
 use native.Mathlib.Omega.{arith}
-use borrow.Author.Rules.{rules}
 use Rattle.reading.proofs.WalkLaws.{empty_bits, many_bits, few_bytes, length_good}
 use Rattle.reading.proofs.length_ok.Goals as goal
 

@@ -1,5 +1,4 @@
 use mathlib.Core.Path.{sym, ◌∙◌}
-use borrow.Author.Rules.{rules}
 use Rattle.message.specs.Reading.{read_of}
 use Rattle.reading.proofs.read.Goals as goal
 

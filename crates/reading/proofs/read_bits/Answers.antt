@@ -1,5 +1,4 @@
 use mathlib.Core.Path.{sym, ◌∙◌}
-use borrow.Author.Rules.{rules}
 use Rattle.message.specs.Reading.{read_bits}
 use Rattle.reading.proofs.read_bits.Goals as goal
 

@@ -1,5 +1,4 @@
 use mathlib.Core.Path.{sym, ◌∙◌}
-use borrow.Author.Rules.{rules}
 use Rattle.reading.proofs.WalkLaws.{type_short, type_walked}
 use Rattle.reading.proofs.read_type.Goals as goal
 

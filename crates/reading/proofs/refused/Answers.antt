@@ -1,4 +1,3 @@
-use borrow.Author.Rules.{rules}
 use Rattle.reading.specs.Answers.{reading_of}
 use Rattle.reading.proofs.refused.Goals as goal
 

@@ -1,16 +1,13 @@
-use Prim.Native.Nat.{◌-◌, ◌≤◌}
 use mathlib.Core.Path.{◌≡◌, refl, ◌∙◌}
 use native.Mathlib.Omega.{arith}
-use lib.ListN.{length, take}
+use lib.ListN.{length}
 use borrow.Author.Rules.{rules}
 use Rattle.records.proofs.IdentityLaws.{count_le}
-use Rattle.records.proofs.JudgeLaws.{masks_to, masks_start, masks_more, masks_room, judged_end}
-use Rattle.records.proofs.MarkLaws.{with_none, with_at, marks_left, marks_start, marks_more, marks_end}
+use Rattle.records.proofs.JudgeLaws.{masks_start, masks_more, masks_room, judged_end}
+use Rattle.records.proofs.MarkLaws.{with_none, with_at, marks_start, marks_more, marks_end}
 use Rattle.records.proofs.OutcomeLaws.{out_none, acc_none, out_yes, acc_yes, out_other, acc_no, other_lt}
 use Rattle.records.proofs.RecordLaws.{found_in, found_row}
-use Rattle.records.specs.Identities.{count_of, identities_of}
-use Rattle.records.specs.Marking.{unmarked, nobody_marked, marks_of}
-use Rattle.records.specs.Outcomes.{outcomes_of}
+use Rattle.records.specs.Marking.{unmarked, nobody_marked}
 use Rattle.records.proofs.judged_of.Goals as goal
 
 pub loop-i-init : goal.loop-i-init

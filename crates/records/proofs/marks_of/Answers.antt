@@ -1,4 +1,3 @@
-use borrow.Author.Rules.{rules}
 use Rattle.records.proofs.JudgeLaws.{judged_marks}
 use Rattle.records.proofs.marks_of.Goals as goal
 

@@ -1,4 +1,3 @@
-use borrow.Author.Rules.{rules}
 use Rattle.records.proofs.PartyLaws.{second_free, second_alone, second_same, second_there}
 use Rattle.records.proofs.second.Goals as goal
 

@@ -1,4 +1,3 @@
-use borrow.Author.Rules.{rules}
 use Rattle.records.proofs.JudgeLaws.{judged_sorted}
 use Rattle.records.proofs.sorted_of.Goals as goal
 

@@ -1,5 +1,4 @@
 use mathlib.Core.Path.{sym, ◌∙◌}
-use borrow.Author.Rules.{rules}
 use Rattle.validity.proofs.ValidLaws.{header_fits, header_wide}
 use Rattle.validity.proofs.header_ok.Goals as goal
 

@@ -1,5 +1,4 @@
 use mathlib.Core.Path.{sym, ◌∙◌}
-use borrow.Author.Rules.{rules}
 use Rattle.codec.specs.Codec.{both}
 use Rattle.message.specs.Messages.{message_c}
 use Rattle.validity.specs.Validity.{valid_of}

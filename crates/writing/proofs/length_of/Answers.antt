@@ -1,4 +1,4 @@
-use Rattle.std.proofs.Common.{arith, rules}
+use Rattle.std.proofs.Common.{arith}
 use Rattle.writing.proofs.LayLaws.{ends_at}
 use Rattle.writing.proofs.LengthLaws.{message_most}
 use Rattle.writing.proofs.length_of.Goals as goal

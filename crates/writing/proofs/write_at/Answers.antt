@@ -1,4 +1,4 @@
-use Rattle.std.proofs.Common.{sym, ◌∙◌, rules}
+use Rattle.std.proofs.Common.{sym, ◌∙◌}
 use Rattle.writing.proofs.LayLaws.{refusing}
 use Rattle.writing.specs.Writing.{write_of}
 use Rattle.writing.proofs.write_at.Goals as goal

@@ -1,4 +1,3 @@
-use Rattle.std.proofs.Common.{rules}
 use Rattle.codec.specs.Codec.{number}
 use Rattle.message.specs.Messages.{header_c, message_c}
 use Rattle.writing.proofs.WroteLaws.{wrote_join}

@@ -1,4 +1,3 @@
-use borrow.Author.Rules.{rules}
 use Rattle.message.specs.Rows.{copy_of}
 use Rattle.message.proofs.copy.destinations.Goals as goal
 

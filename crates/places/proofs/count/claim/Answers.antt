@@ -1,4 +1,3 @@
-use borrow.Author.Rules.{rules}
 use Rattle.places.proofs.FitLaws.{claim_is}
 use Rattle.places.proofs.count.claim.Goals as goal
 

@@ -1,5 +1,4 @@
 use native.Mathlib.Omega.{arith}
-use borrow.Author.Rules.{rules}
 use Rattle.places.proofs.HeldLaws.{used_few}
 use Rattle.places.specs.Held.{free_of}
 use Rattle.places.proofs.count.free.Goals as goal

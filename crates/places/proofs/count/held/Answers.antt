@@ -1,13 +1,10 @@
-use Prim.Native.Nat.{◌-◌, ◌≤◌}
-use mathlib.Core.Path.{◌≡◌, sym}
+use mathlib.Core.Path.{sym}
 use native.Mathlib.Omega.{arith}
-use lib.ListN.{length}
 use borrow.Author.Rules.{rules}
 use Rattle.places.proofs.HeldLaws.{one_few}
 use Rattle.places.proofs.SumLaws.{sum_turn, sum_end}
-use Rattle.places.specs.Held.{place_in, waits_at, held_of}
+use Rattle.places.specs.Held.{place_in, held_of}
 use Rattle.profile.proofs.CountLaws.{sum_none}
-use Rattle.profile.specs.Counting.{sum, one}
 use Rattle.places.proofs.count.held.Goals as goal
 
 pub loop-i-init : goal.loop-i-init

@@ -1,4 +1,3 @@
-use borrow.Author.Rules.{rules}
 use Rattle.places.specs.Held.{load_of}
 use Rattle.places.proofs.count.load.Goals as goal
 

@@ -1,4 +1,3 @@
-use borrow.Author.Rules.{rules}
 use Rattle.places.specs.Held.{owed_of}
 use Rattle.places.proofs.count.owed.Goals as goal
 

@@ -1,10 +1,6 @@
 use Prim.Native.Nat.{◌-◌, ◌*◌, ◌≤◌}
-use mathlib.Core.Path.{◌≡◌, sym}
-use native.Mathlib.Omega.{arith}
-use borrow.Author.Rules.{rules}
-use Rattle.places.proofs.SumLaws.{sum_turn, sum_end}
-use Rattle.places.specs.Held.{owed_of, owed_all}
-use Rattle.profile.proofs.CountLaws.{sum_none}
+use mathlib.Core.Path.{◌≡◌}
+use Rattle.places.specs.Held.{owed_of}
 use Rattle.profile.specs.Counting.{sum}
 use Rattle.places.proofs.count.owed_all.Given as goal
 

@@ -1,12 +1,8 @@
 use Prim.Native.Nat.{◌-◌, ◌*◌, ◌≤◌}
 use mathlib.Core.Bool.{cond}
-use mathlib.Core.Path.{◌≡◌, sym}
-use native.Mathlib.Omega.{arith}
+use mathlib.Core.Path.{◌≡◌}
 use lib.Dec.{eqb}
-use borrow.Author.Rules.{rules}
-use Rattle.places.proofs.SumLaws.{sum_turn, sum_end}
-use Rattle.places.specs.Held.{owed_of, owed_others}
-use Rattle.profile.proofs.CountLaws.{sum_none}
+use Rattle.places.specs.Held.{owed_of}
 use Rattle.profile.specs.Counting.{sum}
 use Rattle.places.proofs.count.owed_others.Given as goal
 

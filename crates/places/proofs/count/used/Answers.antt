@@ -1,13 +1,11 @@
-use Prim.Native.Nat.{◌-◌, ◌≤◌}
-use mathlib.Core.Path.{◌≡◌, sym}
+use mathlib.Core.Path.{sym}
 use native.Mathlib.Omega.{arith}
-use lib.ListN.{length, get_or}
+use lib.ListN.{get_or}
 use borrow.Author.Rules.{rules}
 use Rattle.places.proofs.HeldLaws.{one_few}
 use Rattle.places.proofs.SumLaws.{sum_turn, sum_end}
 use Rattle.places.specs.Held.{no_place, place_in, used_of}
 use Rattle.profile.proofs.CountLaws.{sum_none}
-use Rattle.profile.specs.Counting.{sum, one}
 use Rattle.places.proofs.count.used.Goals as goal
 
 pub loop-at-init : goal.loop-at-init

@@ -1,12 +1,7 @@
 use Prim.Native.Nat.{◌-◌, ◌≤◌}
-use mathlib.Core.Path.{◌≡◌, sym}
-use native.Mathlib.Omega.{arith}
-use lib.ListN.{length, get_or}
-use borrow.Author.Rules.{rules}
-use Rattle.places.proofs.HeldLaws.{one_few}
-use Rattle.places.proofs.SumLaws.{sum_turn, sum_end}
-use Rattle.places.specs.Held.{no_place, place_in, used_of}
-use Rattle.profile.proofs.CountLaws.{sum_none}
+use mathlib.Core.Path.{◌≡◌}
+use lib.ListN.{length}
+use Rattle.places.specs.Held.{place_in}
 use Rattle.profile.specs.Counting.{sum, one}
 use Rattle.places.proofs.count.used.Given as goal
 

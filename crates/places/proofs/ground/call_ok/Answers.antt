@@ -1,4 +1,3 @@
-use borrow.Author.Rules.{rules}
 use Rattle.places.proofs.PlaceLaws.{call_free, call_wide, call_past, call_second, call_cause}
 use Rattle.places.proofs.ground.call_ok.Goals as goal
 

@@ -1,13 +1,8 @@
-use Prim.Native.Nat.{◌-◌, ◌≤◌}
-use mathlib.Core.Bool.{true}
-use mathlib.Core.Path.{◌≡◌, sym, ◌∙◌}
+use mathlib.Core.Path.{sym, ◌∙◌}
 use native.Mathlib.Omega.{arith}
-use lib.ListN.{length}
 use borrow.Author.Rules.{rules}
-use Rattle.places.specs.Grounds.{call_ok}
 use Rattle.places.specs.Held.{place_in}
 use Rattle.profile.proofs.CountLaws.{every_none, every_more, every_not, every_end}
-use Rattle.profile.specs.Counting.{every}
 use Rattle.places.proofs.ground.calls_ok.Goals as goal
 
 pub loop-i-init : goal.loop-i-init

@@ -1,4 +1,3 @@
-use borrow.Author.Rules.{rules}
 use Rattle.places.specs.Grounds.{under_ceiling}
 use Rattle.places.proofs.ground.under_ceiling.Goals as goal
 

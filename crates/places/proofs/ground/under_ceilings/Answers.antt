@@ -1,11 +1,7 @@
-use Prim.Native.Nat.{◌-◌, ◌≤◌}
-use mathlib.Core.Bool.{true}
-use mathlib.Core.Path.{◌≡◌, sym, ◌∙◌}
+use mathlib.Core.Path.{sym, ◌∙◌}
 use native.Mathlib.Omega.{arith}
 use borrow.Author.Rules.{rules}
-use Rattle.places.specs.Grounds.{under_ceiling}
 use Rattle.profile.proofs.CountLaws.{every_none, every_more, every_not, every_end}
-use Rattle.profile.specs.Counting.{every}
 use Rattle.places.proofs.ground.under_ceilings.Goals as goal
 
 pub loop-p-init : goal.loop-p-init

@@ -1,11 +1,9 @@
-use Prim.Native.Nat.{◌-◌, ◌≤◌}
-use mathlib.Core.Path.{◌≡◌, sym, ◌∙◌}
+use mathlib.Core.Path.{sym, ◌∙◌}
 use native.Mathlib.Omega.{arith}
-use lib.ListN.{length}
 use borrow.Author.Rules.{rules}
-use Rattle.places.proofs.SpotLaws.{NoneBelow, none_below, none_turn, number_found, number_none}
+use Rattle.places.proofs.SpotLaws.{none_below, none_turn, number_found, number_none}
 use Rattle.places.specs.Held.{place_in}
-use Rattle.places.specs.Spots.{has_call, place_of}
+use Rattle.places.specs.Spots.{place_of}
 use Rattle.places.proofs.search.call_number.Goals as goal
 
 pub loop-i-init : goal.loop-i-init

@@ -1,12 +1,9 @@
 use Prim.Native.Nat.{◌-◌, ◌≤◌}
 use mathlib.Core.Bool.{not}
 use mathlib.Core.Path.{◌≡◌}
-use native.Mathlib.Omega.{arith}
 use lib.ListN.{length}
-use borrow.Author.Rules.{rules}
-use Rattle.places.proofs.SpotLaws.{NoneBelow, none_below, none_turn, number_found, number_none}
+use Rattle.places.proofs.SpotLaws.{NoneBelow}
 use Rattle.places.specs.Held.{place_in}
-use Rattle.places.specs.Spots.{lowest_free}
 use Rattle.places.proofs.search.free_number.Given as goal
 
 abbrev pub invariant-loop-i : goal.invariant-loop-i

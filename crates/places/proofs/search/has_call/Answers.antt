@@ -1,4 +1,3 @@
-use borrow.Author.Rules.{rules}
 use Rattle.codec.specs.Codec.{both}
 use Rattle.places.specs.Spots.{has_call}
 use Rattle.places.proofs.search.has_call.Goals as goal

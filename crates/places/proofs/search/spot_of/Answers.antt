@@ -1,4 +1,3 @@
-use borrow.Author.Rules.{rules}
 use borrow.Author.Tests.{lt-ltb, le-ltb}
 use Rattle.places.specs.Spots.{spot_of}
 use Rattle.places.proofs.search.spot_of.Goals as goal

@@ -1,5 +1,4 @@
 use mathlib.Core.Path.{sym, ◌∙◌}
-use borrow.Author.Rules.{rules}
 use Rattle.profile.specs.Rules.{new_of}
 use Rattle.profile.proofs.Profile.new.Goals as goal
 

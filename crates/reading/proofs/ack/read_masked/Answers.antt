@@ -1,5 +1,4 @@
 use mathlib.Core.Path.{sym, ap, ◌∙◌}
-use borrow.Author.Rules.{rules}
 use Rattle.codec.specs.Taking.{took_of}
 use Rattle.message.specs.Acks.{masked_c}
 use Rattle.reading.specs.Answers.{flag_of}

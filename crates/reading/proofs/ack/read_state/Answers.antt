@@ -1,5 +1,4 @@
 use mathlib.Core.Path.{sym, ap, ◌∙◌}
-use borrow.Author.Rules.{rules}
 use Rattle.message.specs.Acks.{state_c}
 use Rattle.reading.specs.Answers.{word_of}
 use Rattle.reading.proofs.ack.read_state.Goals as goal

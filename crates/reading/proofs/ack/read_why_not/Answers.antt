@@ -1,4 +1,3 @@
-use borrow.Author.Rules.{rules}
 use borrow.Author.Tests.{eq-eqb, ne_eqb}
 use Rattle.message.specs.Acks.{why_not_c}
 use Rattle.reading.proofs.ack.read_why_not.Goals as goal

@@ -1,5 +1,4 @@
 use mathlib.Core.Path.{sym, ap, ◌∙◌}
-use borrow.Author.Rules.{rules}
 use Rattle.message.specs.Addresses.{address_c}
 use Rattle.reading.specs.Answers.{byte_of, word_of}
 use Rattle.reading.proofs.address.read_address.Goals as goal

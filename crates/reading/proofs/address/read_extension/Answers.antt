@@ -1,4 +1,3 @@
-use borrow.Author.Rules.{rules}
 use borrow.Author.Tests.{eq-eqb, ne_eqb}
 use Rattle.message.specs.Addresses.{extension_c}
 use Rattle.reading.proofs.address.read_extension.Goals as goal

@@ -1,5 +1,4 @@
 use mathlib.Core.Path.{sym, ap, ◌∙◌}
-use borrow.Author.Rules.{rules}
 use borrow.Author.Tests.{eq-eqb, ne_eqb}
 use Rattle.reading.proofs.ReadLaws.{kind_read}
 use Rattle.reading.specs.Answers.{byte_of}

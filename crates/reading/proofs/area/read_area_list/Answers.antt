@@ -1,5 +1,4 @@
 use mathlib.Core.Path.{sym, ap, ◌∙◌}
-use borrow.Author.Rules.{rules}
 use Rattle.message.specs.Areas.{area_list_c}
 use Rattle.reading.proofs.AnswerLaws.{area_places_got, area_places_no}
 use Rattle.reading.specs.Answers.{area_places_of}

@@ -1,12 +1,8 @@
-use Prim.Native.Nat.{◌-◌, ◌≤◌}
-use mathlib.Core.Path.{◌≡◌, sym, ap, ◌∙◌}
-use lib.ListN.{length}
+use mathlib.Core.Path.{sym, ap, ◌∙◌}
 use borrow.Author.Rules.{rules}
-use Rattle.bits.specs.Fields.{bit_at}
-use Rattle.codec.specs.Codec.{vec_read}
 use Rattle.message.specs.Addresses.{is_zero}
 use Rattle.message.specs.Areas.{area_c, area_places_c}
-use Rattle.reading.proofs.ReadLaws.{fill, start, turn, turn_stop, turns_end}
+use Rattle.reading.proofs.ReadLaws.{start, turn, turn_stop, turns_end}
 use Rattle.reading.specs.Answers.{byte_of, area_places_of}
 use Rattle.reading.proofs.area.read_area_places.Goals as goal
 

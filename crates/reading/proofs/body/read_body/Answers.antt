@@ -1,4 +1,3 @@
-use borrow.Author.Rules.{rules}
 use Rattle.reading.proofs.AnswerLaws.{body_got, body_no}
 use Rattle.reading.proofs.RowLaws.{body_row}
 use Rattle.reading.proofs.body.read_body.Goals as goal

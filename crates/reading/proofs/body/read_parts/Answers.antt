@@ -1,12 +1,8 @@
-use Prim.Native.Nat.{◌-◌}
-use mathlib.Core.Path.{◌≡◌, sym, ap, ◌∙◌}
-use lib.ListN.{length, drop}
+use mathlib.Core.Path.{sym, ap, ◌∙◌}
 use borrow.Author.Rules.{rules}
-use Rattle.bits.specs.Fields.{bit_at}
 use Rattle.reading.proofs.AnswerLaws.{body_got, body_no}
 use Rattle.reading.proofs.RowLaws.{parts_turn, parts_stop, parts_end, parts_past, parts_start}
 use Rattle.reading.specs.Answers.{body_of}
-use Rattle.reading.specs.Parts.{parts_read}
 use Rattle.reading.proofs.body.read_parts.Goals as goal
 
 pub loop-i-init : goal.loop-i-init

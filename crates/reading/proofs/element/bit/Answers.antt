@@ -1,5 +1,4 @@
 use mathlib.Core.Path.{sym, ap, ◌∙◌}
-use borrow.Author.Rules.{rules}
 use Rattle.codec.specs.Options.{flag}
 use Rattle.reading.specs.Answers.{byte_of}
 use Rattle.reading.proofs.element.bit.Goals as goal

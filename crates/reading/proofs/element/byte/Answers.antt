@@ -1,6 +1,5 @@
 use mathlib.Core.Path.{sym}
 use native.Mathlib.Omega.{arith}
-use borrow.Author.Rules.{rules}
 use borrow.Author.Tests.{le-leb, lt-leb}
 use Rattle.reading.proofs.ReadLaws.{number_short, number_there, field_fits}
 use Rattle.reading.proofs.element.byte.Goals as goal

@@ -1,4 +1,3 @@
-use borrow.Author.Rules.{rules}
 use Rattle.reading.specs.Answers.{group_of}
 use Rattle.reading.proofs.group.no_group.Goals as goal
 

@@ -1,5 +1,4 @@
 use mathlib.Core.Path.{sym, ap, ◌∙◌}
-use borrow.Author.Rules.{rules}
 use Rattle.message.specs.Groups.{group_c}
 use Rattle.reading.proofs.AnswerLaws.{places_got, places_no}
 use Rattle.reading.proofs.ReadLaws.{range_few}

@@ -1,12 +1,8 @@
-use Prim.Native.Nat.{◌-◌, ◌≤◌}
-use mathlib.Core.Path.{◌≡◌, sym, ap, ◌∙◌}
-use lib.ListN.{length}
+use mathlib.Core.Path.{sym, ap, ◌∙◌}
 use borrow.Author.Rules.{rules}
-use Rattle.bits.specs.Fields.{bit_at}
-use Rattle.codec.specs.Codec.{vec_read}
 use Rattle.message.specs.Addresses.{nobody, is_nobody, address_c}
 use Rattle.message.specs.Groups.{places_c}
-use Rattle.reading.proofs.ReadLaws.{fill, start, turn, turn_stop, turns_end}
+use Rattle.reading.proofs.ReadLaws.{start, turn, turn_stop, turns_end}
 use Rattle.reading.specs.Answers.{address_of, places_of}
 use Rattle.reading.proofs.group.read_places.Goals as goal
 

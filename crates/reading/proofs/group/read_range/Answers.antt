@@ -1,5 +1,4 @@
 use mathlib.Core.Path.{sym, ap, ◌∙◌}
-use borrow.Author.Rules.{rules}
 use Rattle.message.specs.Groups.{range_c}
 use Rattle.reading.specs.Answers.{byte_of}
 use Rattle.reading.proofs.group.read_range.Goals as goal

@@ -1,5 +1,4 @@
 use mathlib.Core.Path.{sym, ◌∙◌}
-use borrow.Author.Rules.{rules}
 use borrow.Author.Tests.{eq-eqb, ne_eqb}
 use Rattle.reading.specs.Parts.{judged_of}
 use Rattle.reading.proofs.header.judged.Goals as goal

@@ -1,6 +1,5 @@
 use mathlib.Core.Path.{sym, ◌∙◌}
 use native.Mathlib.Omega.{arith}
-use borrow.Author.Rules.{rules}
 use Rattle.reading.proofs.ReadLaws.{header_no_ss, header_no_pdu, head_fits, header_read}
 use Rattle.reading.proofs.header.read_header.Goals as goal
 

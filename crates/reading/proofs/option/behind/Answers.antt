@@ -1,4 +1,3 @@
-use borrow.Author.Rules.{rules}
 use Rattle.reading.proofs.AnswerLaws.{each_got, each_no}
 use Rattle.reading.specs.Parts.{behind_read}
 use Rattle.reading.proofs.option.behind.Goals as goal

@@ -1,4 +1,3 @@
-use borrow.Author.Rules.{rules}
 use Rattle.reading.specs.Answers.{each_of}
 use Rattle.reading.proofs.option.no_each.Goals as goal
 

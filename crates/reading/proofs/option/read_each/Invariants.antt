@@ -1,11 +1,8 @@
 use Prim.Native.Nat.{◌-◌}
 use mathlib.Core.Bool.{false}
-use mathlib.Core.Path.{◌≡◌, sym, ap, ◌∙◌}
+use mathlib.Core.Path.{◌≡◌}
 use lib.ListN.{length, drop}
-use borrow.Author.Rules.{rules}
 use Rattle.bits.specs.Fields.{bit_at}
-use Rattle.reading.proofs.AnswerLaws.{each_got, each_no}
-use Rattle.reading.proofs.RowLaws.{each_turn, each_stop, each_end, each_past, each_start}
 use Rattle.reading.specs.Answers.{each_of}
 use Rattle.reading.specs.Parts.{each_read}
 use Rattle.reading.proofs.option.read_each.Given as goal

@@ -1,5 +1,4 @@
 use mathlib.Core.Path.{sym, ap, ◌∙◌}
-use borrow.Author.Rules.{rules}
 use Rattle.reading.proofs.AnswerLaws.{body_got, body_no}
 use Rattle.reading.specs.Answers.{flag_of}
 use Rattle.reading.specs.Parts.{option_read}

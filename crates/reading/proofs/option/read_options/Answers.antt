@@ -1,5 +1,4 @@
 use mathlib.Core.Path.{sym, ap, ◌∙◌}
-use borrow.Author.Rules.{rules}
 use Rattle.reading.proofs.RowLaws.{options_zero, options_some}
 use Rattle.reading.specs.Answers.{flag_of}
 use Rattle.reading.proofs.option.read_options.Goals as goal

@@ -1,4 +1,3 @@
-use borrow.Author.Rules.{rules}
 use Rattle.reading.proofs.AnswerLaws.{areas_got, areas_no}
 use Rattle.reading.specs.Parts.{part_read}
 use Rattle.reading.proofs.part.areas_part.Goals as goal

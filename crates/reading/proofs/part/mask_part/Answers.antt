@@ -1,5 +1,4 @@
 use mathlib.Core.Path.{sym, ap, ◌∙◌}
-use borrow.Author.Rules.{rules}
 use Rattle.reading.specs.Answers.{masked_of}
 use Rattle.reading.specs.Parts.{part_read}
 use Rattle.reading.proofs.part.mask_part.Goals as goal

@@ -1,4 +1,3 @@
-use borrow.Author.Rules.{rules}
 use Rattle.reading.specs.Answers.{body_of}
 use Rattle.reading.proofs.part.no_body.Goals as goal
 

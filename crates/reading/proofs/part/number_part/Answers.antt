@@ -1,5 +1,4 @@
 use mathlib.Core.Path.{sym, ap, ◌∙◌}
-use borrow.Author.Rules.{rules}
 use Rattle.reading.proofs.RowLaws.{word_number}
 use Rattle.reading.specs.Answers.{word_of}
 use Rattle.reading.specs.Parts.{part_read}

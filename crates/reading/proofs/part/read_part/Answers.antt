@@ -1,4 +1,3 @@
-use borrow.Author.Rules.{rules}
 use Rattle.reading.proofs.AnswerLaws.{group_got, group_no}
 use Rattle.reading.proofs.RowLaws.{nothing_read, users_read}
 use Rattle.reading.proofs.part.read_part.Goals as goal

@@ -1,4 +1,3 @@
-use borrow.Author.Rules.{rules}
 use Rattle.reading.proofs.AnswerLaws.{group_got, group_no}
 use Rattle.reading.specs.Parts.{part_read}
 use Rattle.reading.proofs.part.sources_part.Goals as goal

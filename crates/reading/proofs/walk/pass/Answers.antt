@@ -1,6 +1,5 @@
 use mathlib.Core.Path.{sym}
 use native.Mathlib.Omega.{arith}
-use borrow.Author.Rules.{rules}
 use Rattle.reading.proofs.WalkLaws.{pass_past, pass_there}
 use Rattle.reading.proofs.walk.pass.Goals as goal
 

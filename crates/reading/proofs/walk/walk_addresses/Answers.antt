@@ -1,10 +1,8 @@
-use Prim.Native.Nat.{◌-◌, ◌≤◌}
-use mathlib.Core.Path.{◌≡◌, sym, ap, ◌∙◌}
+use mathlib.Core.Path.{sym, ap, ◌∙◌}
 use native.Mathlib.Nat.{sub-zero}
 use borrow.Author.Rules.{rules}
-use Rattle.bits.specs.Fields.{bit_at}
 use Rattle.reading.proofs.WalkLaws.{addresses_turn, addresses_stop, addresses_end}
-use Rattle.reading.specs.Walks.{step_of, addresses_walk}
+use Rattle.reading.specs.Walks.{step_of}
 use Rattle.reading.proofs.walk.walk_addresses.Goals as goal
 
 pub loop-i-init : goal.loop-i-init

@@ -1,10 +1,7 @@
 use Prim.Native.Nat.{◌-◌, ◌≤◌}
-use mathlib.Core.Path.{◌≡◌, sym, ap, ◌∙◌}
-use native.Mathlib.Nat.{sub-zero}
-use borrow.Author.Rules.{rules}
+use mathlib.Core.Path.{◌≡◌}
 use Rattle.bits.specs.Fields.{bit_at}
-use Rattle.reading.proofs.WalkLaws.{addresses_turn, addresses_stop, addresses_end}
-use Rattle.reading.specs.Walks.{step_of, addresses_walk}
+use Rattle.reading.specs.Walks.{addresses_walk}
 use Rattle.reading.proofs.walk.walk_addresses.Given as goal
 
 abbrev pub invariant-loop-i : goal.invariant-loop-i

@@ -1,4 +1,3 @@
-use borrow.Author.Rules.{rules}
 use Rattle.reading.proofs.AnswerLaws.{areas_got, areas_no}
 use Rattle.reading.specs.Walks.{part_walk}
 use Rattle.reading.proofs.walk.walk_areas.Goals as goal

@@ -1,5 +1,4 @@
 use mathlib.Core.Path.{sym, ap, ◌∙◌}
-use borrow.Author.Rules.{rules}
 use Rattle.reading.specs.Walks.{each_walk_of, behind_walk}
 use Rattle.reading.proofs.walk.walk_behind.Goals as goal
 

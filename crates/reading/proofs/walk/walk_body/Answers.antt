@@ -1,5 +1,4 @@
 use mathlib.Core.Path.{sym, ap, ◌∙◌}
-use borrow.Author.Rules.{rules}
 use Rattle.reading.specs.Walks.{walk_of, body_walk}
 use Rattle.reading.proofs.walk.walk_body.Goals as goal
 

@@ -1,13 +1,9 @@
 use Prim.Native.Nat.{◌-◌}
 use mathlib.Core.Bool.{false}
-use mathlib.Core.Path.{◌≡◌, sym, ap, ◌∙◌}
-use native.Mathlib.Nat.{sub-zero}
+use mathlib.Core.Path.{◌≡◌}
 use lib.ListN.{length, drop}
-use borrow.Author.Rules.{rules}
 use Rattle.bits.specs.Fields.{bit_at}
-use Rattle.reading.proofs.WalkLaws.{option_there, option_absent, flag_stop, option_stop, options_end, options_past}
-use Rattle.reading.specs.Answers.{flag_of}
-use Rattle.reading.specs.Walks.{walk_of, each_walk}
+use Rattle.reading.specs.Walks.{each_walk}
 use Rattle.reading.proofs.walk.walk_each.Given as goal
 
 abbrev pub invariant-loop-i : goal.invariant-loop-i

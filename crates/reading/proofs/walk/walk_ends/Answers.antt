@@ -1,5 +1,4 @@
 use mathlib.Core.Path.{sym, ap, ◌∙◌}
-use borrow.Author.Rules.{rules}
 use Rattle.reading.specs.Answers.{address_of}
 use Rattle.reading.specs.Walks.{ends_walk}
 use Rattle.reading.proofs.walk.walk_ends.Goals as goal

@@ -1,5 +1,4 @@
 use mathlib.Core.Path.{sym, ap, ◌∙◌}
-use borrow.Author.Rules.{rules}
 use Rattle.reading.specs.Answers.{byte_of}
 use Rattle.reading.specs.Walks.{group_walk}
 use Rattle.reading.proofs.walk.walk_group.Goals as goal

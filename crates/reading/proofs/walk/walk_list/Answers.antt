@@ -1,4 +1,3 @@
-use borrow.Author.Rules.{rules}
 use Rattle.reading.specs.Walks.{list_walk}
 use Rattle.reading.proofs.walk.walk_list.Goals as goal
 

@@ -1,5 +1,4 @@
 use mathlib.Core.Path.{sym, ap, ◌∙◌}
-use borrow.Author.Rules.{rules}
 use Rattle.reading.proofs.WalkLaws.{walk_optionless, walk_optional}
 use Rattle.reading.specs.Answers.{flag_of}
 use Rattle.reading.proofs.walk.walk_options.Goals as goal

@@ -1,4 +1,3 @@
-use borrow.Author.Rules.{rules}
 use Rattle.reading.specs.Walks.{part_walk}
 use Rattle.reading.proofs.walk.walk_part.Goals as goal
 

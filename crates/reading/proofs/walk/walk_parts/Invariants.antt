@@ -1,11 +1,8 @@
 use Prim.Native.Nat.{◌-◌}
-use mathlib.Core.Path.{◌≡◌, sym, ap, ◌∙◌}
-use native.Mathlib.Nat.{sub-zero}
+use mathlib.Core.Path.{◌≡◌}
 use lib.ListN.{length, drop}
-use borrow.Author.Rules.{rules}
 use Rattle.bits.specs.Fields.{bit_at}
-use Rattle.reading.proofs.WalkLaws.{walk_turn, walk_stop, walk_end, walk_past}
-use Rattle.reading.specs.Walks.{walk_of, parts_walk}
+use Rattle.reading.specs.Walks.{parts_walk}
 use Rattle.reading.proofs.walk.walk_parts.Given as goal
 
 abbrev pub invariant-loop-i : goal.invariant-loop-i

@@ -1,5 +1,4 @@
 use mathlib.Core.Path.{sym, ap, ◌∙◌}
-use borrow.Author.Rules.{rules}
 use Rattle.reading.specs.Answers.{state_of}
 use Rattle.reading.specs.Walks.{part_walk}
 use Rattle.reading.proofs.walk.walk_state.Goals as goal

@@ -1,5 +1,4 @@
 use native.Mathlib.Omega.{arith}
-use borrow.Author.Rules.{rules}
 use Rattle.records.specs.Identities.{count_of}
 use Rattle.records.proofs.identities.count_of.Goals as goal
 

@@ -1,5 +1,4 @@
 use mathlib.Core.Path.{refl}
-use borrow.Author.Rules.{rules}
 use Rattle.records.specs.Identities.{later}
 use Rattle.records.proofs.identities.identity_after.Goals as goal
 

@@ -1,4 +1,3 @@
-use borrow.Author.Rules.{rules}
 use Rattle.records.proofs.IdentityLaws.{count_in}
 use Rattle.records.specs.Identities.{identity_at}
 use Rattle.records.proofs.identities.identity_at.Goals as goal

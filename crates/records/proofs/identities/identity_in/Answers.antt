@@ -1,4 +1,3 @@
-use borrow.Author.Rules.{rules}
 use Rattle.records.proofs.IdentityLaws.{range_in}
 use Rattle.records.specs.Identities.{identity_in}
 use Rattle.records.proofs.identities.identity_in.Goals as goal

@@ -1,7 +1,6 @@
 use mathlib.Core.Path.{◌≡◌, sym}
 use native.Mathlib.Omega.{arith}
 use lib.ListN.{length, get_or-eq_default}
-use borrow.Author.Rules.{rules}
 use Rattle.records.proofs.identities.nth.Goals as goal
 
 pub returns : goal.returns

@@ -1,9 +1,5 @@
-use Prim.Native.Nat.{◌-◌, ◌≤◌}
-use mathlib.Core.Path.{◌≡◌}
-use lib.ListN.{length, take}
 use borrow.Author.Rules.{rules}
-use Rattle.records.proofs.RecordLaws.{ok_left, ok_start, ok_more, ok_not, ok_end}
-use Rattle.records.specs.Records.{all_ok}
+use Rattle.records.proofs.RecordLaws.{ok_start, ok_more, ok_not, ok_end}
 use Rattle.records.proofs.search.all_ok.Goals as goal
 
 pub loop-i-init : goal.loop-i-init

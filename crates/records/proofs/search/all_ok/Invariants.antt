@@ -1,8 +1,7 @@
 use Prim.Native.Nat.{◌-◌, ◌≤◌}
 use mathlib.Core.Path.{◌≡◌}
 use lib.ListN.{length, take}
-use borrow.Author.Rules.{rules}
-use Rattle.records.proofs.RecordLaws.{ok_left, ok_start, ok_more, ok_not, ok_end}
+use Rattle.records.proofs.RecordLaws.{ok_left}
 use Rattle.records.specs.Records.{all_ok}
 use Rattle.records.proofs.search.all_ok.Given as goal
 

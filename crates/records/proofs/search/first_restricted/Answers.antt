@@ -1,10 +1,7 @@
-use Prim.Native.Nat.{◌-◌, ◌≤◌}
-use mathlib.Core.Path.{◌≡◌, refl}
-use lib.ListN.{length, take}
+use mathlib.Core.Path.{refl}
 use borrow.Author.Rules.{rules}
-use Rattle.records.proofs.RecordLaws.{row_in, rec_left, rec_start, rec_more, rec_here, rec_full, rec_end, party_left, party_start, party_end, party_none, party_free, party_here}
+use Rattle.records.proofs.RecordLaws.{row_in, rec_start, rec_more, rec_here, rec_full, rec_end, party_start, party_end, party_none, party_free, party_here}
 use Rattle.records.specs.Identities.{no_identity}
-use Rattle.records.specs.Records.{record_of, restricted_of}
 use Rattle.records.proofs.search.first_restricted.Goals as goal
 
 pub parties-init : goal.parties-init

@@ -1,8 +1,7 @@
 use Prim.Native.Nat.{◌-◌, ◌≤◌}
 use mathlib.Core.Path.{◌≡◌}
 use lib.ListN.{length, take}
-use borrow.Author.Rules.{rules}
-use Rattle.records.proofs.RecordLaws.{rec_left, rec_start, rec_more, rec_here, rec_full, rec_end}
+use Rattle.records.proofs.RecordLaws.{rec_left}
 use Rattle.records.specs.Records.{record_of}
 use Rattle.records.proofs.search.record_of.Given as goal
 

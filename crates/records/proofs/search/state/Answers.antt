@@ -1,7 +1,6 @@
 use mathlib.Core.Path.{◌≡◌}
 use native.Mathlib.Omega.{arith}
 use lib.ListN.{length}
-use borrow.Author.Rules.{rules}
 use Rattle.records.proofs.RecordLaws.{state_none, state_other, state_active, state_not, found_in, found_row}
 use Rattle.records.proofs.search.state.Goals as goal
 

@@ -1,5 +1,4 @@
 use mathlib.Core.Path.{sym, ◌∙◌}
-use borrow.Author.Rules.{rules}
 use Rattle.validity.proofs.ValidLaws.{masked_there, masked_none}
 use Rattle.validity.proofs.ack.masked_ok.Goals as goal
 

@@ -1,5 +1,4 @@
 use mathlib.Core.Path.{sym, ◌∙◌}
-use borrow.Author.Rules.{rules}
 use Rattle.codec.specs.Codec.{both}
 use Rattle.message.proofs.GroupLaws.{few_addresses, range_allowed}
 use Rattle.message.specs.Areas.{areas_c}

@@ -1,13 +1,8 @@
 use Prim.Native.Nat.{◌-◌, ◌≤◌}
-use mathlib.Core.Path.{◌≡◌, sym, ◌∙◌}
-use native.Mathlib.Nat.{sub-zero}
-use native.Mathlib.Omega.{arith}
+use mathlib.Core.Path.{◌≡◌}
 use lib.ListN.{length, take, drop}
-use borrow.Author.Rules.{rules}
-use borrow.Author.Tests.{lt-ltb, le-ltb}
-use Rattle.codec.specs.Codec.{number, vec_ok}
+use Rattle.codec.specs.Codec.{vec_ok}
 use Rattle.message.specs.Areas.{area_c}
-use Rattle.validity.proofs.ValidLaws.{first_more, first_not, first_end}
 use Rattle.validity.proofs.area.first_ok.Given as goal
 
 abbrev pub invariant-loop-i : goal.invariant-loop-i

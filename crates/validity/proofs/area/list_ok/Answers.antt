@@ -1,5 +1,4 @@
 use mathlib.Core.Path.{sym, ◌∙◌}
-use borrow.Author.Rules.{rules}
 use Rattle.codec.specs.Codec.{both}
 use Rattle.message.specs.Areas.{area_list_c}
 use Rattle.validity.proofs.area.list_ok.Goals as goal

@@ -1,12 +1,8 @@
 use Prim.Native.Nat.{◌-◌, ◌≤◌}
-use mathlib.Core.Path.{◌≡◌, refl, sym, ◌∙◌}
-use native.Mathlib.Omega.{arith}
+use mathlib.Core.Path.{◌≡◌}
 use lib.ListN.{length, drop}
-use borrow.Author.Rules.{rules}
-use borrow.Author.Tests.{eq-eqb, ne_eqb}
 use Rattle.message.specs.Addresses.{is_zero}
 use Rattle.message.specs.Groups.{are_none}
-use Rattle.validity.proofs.ValidLaws.{rest_more, rest_not, rest_end}
 use Rattle.validity.proofs.area.rest_zero.Given as goal
 
 abbrev pub invariant-loop-i : goal.invariant-loop-i

@@ -1,4 +1,3 @@
-use borrow.Author.Rules.{rules}
 use Rattle.validity.proofs.RowLaws.{body_row}
 use Rattle.validity.proofs.body.body_ok.Goals as goal
 

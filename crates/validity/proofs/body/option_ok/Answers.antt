@@ -1,5 +1,4 @@
 use mathlib.Core.Path.{sym, ◌∙◌}
-use borrow.Author.Rules.{rules}
 use Rattle.validity.proofs.RowLaws.{option_given, option_not}
 use Rattle.validity.proofs.body.option_ok.Goals as goal
 

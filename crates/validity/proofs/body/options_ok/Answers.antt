@@ -1,10 +1,6 @@
-use Prim.Native.Nat.{◌-◌}
-use mathlib.Core.Path.{◌≡◌, sym, ◌∙◌}
-use lib.ListN.{length, drop}
+use mathlib.Core.Path.{sym, ◌∙◌}
 use borrow.Author.Rules.{rules}
-use Rattle.message.specs.Rows.{first_parts}
 use Rattle.validity.proofs.RowLaws.{options_turn, options_not, options_end, options_past, options_start}
-use Rattle.validity.specs.Parts.{options_ok}
 use Rattle.validity.proofs.body.options_ok.Goals as goal
 
 pub loop-i-init : goal.loop-i-init

@@ -1,9 +1,7 @@
 use Prim.Native.Nat.{◌-◌}
-use mathlib.Core.Path.{◌≡◌, sym, ◌∙◌}
+use mathlib.Core.Path.{◌≡◌}
 use lib.ListN.{length, drop}
-use borrow.Author.Rules.{rules}
 use Rattle.message.specs.Rows.{first_parts}
-use Rattle.validity.proofs.RowLaws.{options_turn, options_not, options_end, options_past, options_start}
 use Rattle.validity.specs.Parts.{options_ok}
 use Rattle.validity.proofs.body.options_ok.Given as goal
 

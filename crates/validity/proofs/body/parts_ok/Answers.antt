@@ -1,10 +1,6 @@
-use Prim.Native.Nat.{◌-◌}
-use mathlib.Core.Path.{◌≡◌, sym, ◌∙◌}
-use lib.ListN.{length, drop}
+use mathlib.Core.Path.{sym, ◌∙◌}
 use borrow.Author.Rules.{rules}
-use Rattle.message.specs.Rows.{first_parts, options_of}
 use Rattle.validity.proofs.RowLaws.{parts_turn, parts_not, parts_end, parts_past, parts_start}
-use Rattle.validity.specs.Parts.{parts_ok}
 use Rattle.validity.proofs.body.parts_ok.Goals as goal
 
 pub loop-i-init : goal.loop-i-init

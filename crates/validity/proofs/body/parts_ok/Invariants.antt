@@ -1,9 +1,7 @@
 use Prim.Native.Nat.{◌-◌}
-use mathlib.Core.Path.{◌≡◌, sym, ◌∙◌}
+use mathlib.Core.Path.{◌≡◌}
 use lib.ListN.{length, drop}
-use borrow.Author.Rules.{rules}
 use Rattle.message.specs.Rows.{first_parts, options_of}
-use Rattle.validity.proofs.RowLaws.{parts_turn, parts_not, parts_end, parts_past, parts_start}
 use Rattle.validity.specs.Parts.{parts_ok}
 use Rattle.validity.proofs.body.parts_ok.Given as goal
 

@@ -1,5 +1,4 @@
 use mathlib.Core.Path.{sym, ◌∙◌}
-use borrow.Author.Rules.{rules}
 use Rattle.codec.specs.Codec.{both}
 use Rattle.message.specs.Groups.{addresses_c}
 use Rattle.validity.proofs.group.addresses_ok.Goals as goal

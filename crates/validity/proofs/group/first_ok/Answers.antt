@@ -1,11 +1,8 @@
-use Prim.Native.Nat.{◌-◌, ◌≤◌}
 use mathlib.Core.Bool.{false}
-use mathlib.Core.Path.{◌≡◌, sym, ◌∙◌}
+use mathlib.Core.Path.{sym, ◌∙◌}
 use native.Mathlib.Nat.{sub-zero}
 use native.Mathlib.Omega.{arith}
-use lib.ListN.{length, take, drop}
 use borrow.Author.Rules.{rules}
-use Rattle.codec.specs.Codec.{vec_ok}
 use Rattle.message.specs.Addresses.{nobody, address_c}
 use Rattle.validity.proofs.ValidLaws.{first_more, first_not, first_end}
 use Rattle.validity.proofs.group.first_ok.Goals as goal

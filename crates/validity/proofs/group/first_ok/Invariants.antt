@@ -1,13 +1,9 @@
 use Prim.Native.Nat.{◌-◌, ◌≤◌}
 use mathlib.Core.Bool.{false}
-use mathlib.Core.Path.{◌≡◌, sym, ◌∙◌}
-use native.Mathlib.Nat.{sub-zero}
-use native.Mathlib.Omega.{arith}
+use mathlib.Core.Path.{◌≡◌}
 use lib.ListN.{length, take, drop}
-use borrow.Author.Rules.{rules}
 use Rattle.codec.specs.Codec.{vec_ok}
-use Rattle.message.specs.Addresses.{nobody, address_c}
-use Rattle.validity.proofs.ValidLaws.{first_more, first_not, first_end}
+use Rattle.message.specs.Addresses.{address_c}
 use Rattle.validity.proofs.group.first_ok.Given as goal
 
 abbrev pub invariant-loop-i : goal.invariant-loop-i

@@ -1,11 +1,8 @@
 use Prim.Native.Nat.{◌-◌, ◌≤◌}
-use mathlib.Core.Path.{◌≡◌, refl, sym, ◌∙◌}
-use native.Mathlib.Omega.{arith}
+use mathlib.Core.Path.{◌≡◌}
 use lib.ListN.{length, drop}
-use borrow.Author.Rules.{rules}
-use Rattle.message.specs.Addresses.{nobody, is_nobody}
+use Rattle.message.specs.Addresses.{is_nobody}
 use Rattle.message.specs.Groups.{are_none}
-use Rattle.validity.proofs.ValidLaws.{rest_more, rest_not, rest_end}
 use Rattle.validity.proofs.group.rest_zero.Given as goal
 
 abbrev pub invariant-loop-i : goal.invariant-loop-i

@@ -1,4 +1,3 @@
-use borrow.Author.Rules.{rules}
 use Rattle.validity.specs.Parts.{part_ok}
 use Rattle.validity.proofs.part.areas_ok.Goals as goal
 

@@ -1,5 +1,4 @@
 use mathlib.Core.Path.{sym, ◌∙◌}
-use borrow.Author.Rules.{rules}
 use Rattle.validity.proofs.ValidLaws.{group_alike}
 use Rattle.validity.specs.Parts.{part_ok}
 use Rattle.validity.proofs.part.destinations_ok.Goals as goal

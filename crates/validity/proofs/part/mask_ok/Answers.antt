@@ -1,4 +1,3 @@
-use borrow.Author.Rules.{rules}
 use Rattle.message.specs.Acks.{masked_c}
 use Rattle.validity.specs.Parts.{part_ok}
 use Rattle.validity.proofs.part.mask_ok.Goals as goal

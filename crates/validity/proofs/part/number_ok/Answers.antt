@@ -1,4 +1,3 @@
-use borrow.Author.Rules.{rules}
 use Rattle.codec.specs.Codec.{number}
 use Rattle.message.proofs.RowLaws.{width_few}
 use Rattle.validity.specs.Parts.{part_ok}

@@ -1,4 +1,3 @@
-use borrow.Author.Rules.{rules}
 use Rattle.validity.proofs.RowLaws.{nothing_ok}
 use Rattle.validity.proofs.part.part_ok.Goals as goal
 

@@ -1,4 +1,3 @@
-use borrow.Author.Rules.{rules}
 use Rattle.message.specs.Acks.{result_c}
 use Rattle.validity.specs.Parts.{part_ok}
 use Rattle.validity.proofs.part.result_ok.Goals as goal

@@ -1,5 +1,4 @@
 use mathlib.Core.Path.{ap, ◌∙◌}
-use borrow.Author.Rules.{rules}
 use Rattle.message.specs.Acks.{state_c}
 use Rattle.validity.specs.Parts.{part_ok}
 use Rattle.validity.proofs.part.state_ok.Goals as goal

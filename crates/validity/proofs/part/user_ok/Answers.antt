@@ -1,4 +1,3 @@
-use borrow.Author.Rules.{rules}
 use Rattle.message.specs.Addresses.{address_c}
 use Rattle.validity.specs.Parts.{part_ok}
 use Rattle.validity.proofs.part.user_ok.Goals as goal

@@ -1,8 +1,5 @@
-use Prim.Native.Nat.{◌-◌, ◌≤◌}
-use mathlib.Core.Path.{◌≡◌, refl, sym, ◌∙◌}
-use lib.ListN.{length, drop}
+use mathlib.Core.Path.{refl, sym, ◌∙◌}
 use borrow.Author.Rules.{rules}
-use Rattle.message.specs.Values.{same_addresses}
 use Rattle.validity.proofs.SameLaws.{addresses_more, addresses_not, addresses_end}
 use Rattle.validity.proofs.same.same_addresses.Goals as goal
 

@@ -1,8 +1,5 @@
-use Prim.Native.Nat.{◌-◌, ◌≤◌}
-use mathlib.Core.Path.{◌≡◌, refl, sym, ◌∙◌}
-use lib.ListN.{length, drop}
+use mathlib.Core.Path.{refl, sym, ◌∙◌}
 use borrow.Author.Rules.{rules}
-use Rattle.message.specs.Values.{same_bools}
 use Rattle.validity.proofs.SameLaws.{bools_more, bools_not, bools_end}
 use Rattle.validity.proofs.same.same_bools.Goals as goal
 

@@ -1,9 +1,7 @@
 use Prim.Native.Nat.{◌-◌, ◌≤◌}
-use mathlib.Core.Path.{◌≡◌, refl, sym, ◌∙◌}
+use mathlib.Core.Path.{◌≡◌}
 use lib.ListN.{length, drop}
-use borrow.Author.Rules.{rules}
 use Rattle.message.specs.Values.{same_bools}
-use Rattle.validity.proofs.SameLaws.{bools_more, bools_not, bools_end}
 use Rattle.validity.proofs.same.same_bools.Given as goal
 
 abbrev pub invariant-loop-i : goal.invariant-loop-i

@@ -1,5 +1,4 @@
 use mathlib.Core.Path.{sym, ◌∙◌}
-use borrow.Author.Rules.{rules}
 use Rattle.codec.specs.Codec.{both}
 use Rattle.message.specs.Values.{same_lists}
 use Rattle.validity.proofs.same.same_lists.Goals as goal

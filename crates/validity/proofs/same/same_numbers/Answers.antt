@@ -1,8 +1,5 @@
-use Prim.Native.Nat.{◌-◌, ◌≤◌}
-use mathlib.Core.Path.{◌≡◌, refl, sym, ◌∙◌}
-use lib.ListN.{length, drop}
+use mathlib.Core.Path.{refl, sym, ◌∙◌}
 use borrow.Author.Rules.{rules}
-use Rattle.message.specs.Values.{same_numbers}
 use Rattle.validity.proofs.SameLaws.{numbers_more, numbers_not, numbers_end}
 use Rattle.validity.proofs.same.same_numbers.Goals as goal
 

@@ -1,9 +1,7 @@
 use Prim.Native.Nat.{◌-◌, ◌≤◌}
-use mathlib.Core.Path.{◌≡◌, refl, sym, ◌∙◌}
+use mathlib.Core.Path.{◌≡◌}
 use lib.ListN.{length, drop}
-use borrow.Author.Rules.{rules}
 use Rattle.message.specs.Values.{same_numbers}
-use Rattle.validity.proofs.SameLaws.{numbers_more, numbers_not, numbers_end}
 use Rattle.validity.proofs.same.same_small.Given as goal
 
 abbrev pub invariant-loop-i : goal.invariant-loop-i

@@ -1,4 +1,3 @@
-use Rattle.std.proofs.Common.{rules}
 use Rattle.codec.specs.Codec.{number}
 use Rattle.codec.specs.Options.{flag}
 use Rattle.message.specs.Acks.{mask_c, masked_c}

@@ -1,4 +1,3 @@
-use Rattle.std.proofs.Common.{rules}
 use Rattle.writing.proofs.PartLaws.{state_bits}
 use Rattle.writing.proofs.WroteLaws.{wrote_join}
 use Rattle.writing.proofs.ack.write_state.Goals as goal

@@ -1,4 +1,3 @@
-use Rattle.std.proofs.Common.{rules}
 use Rattle.codec.specs.Codec.{number}
 use Rattle.message.specs.Areas.{area_list_c, areas_c}
 use Rattle.message.specs.Groups.{range_c}

@@ -1,8 +1,8 @@
-use Rattle.std.proofs.Common.{◌≡◌, ◌-◌, ◌≤◌, min, length, arith, rules}
+use Rattle.std.proofs.Common.{arith, rules}
 use Rattle.codec.specs.Codec.{number}
 use Rattle.message.specs.Areas.{area_c, area_places_c}
-use Rattle.writing.proofs.PartLaws.{rest_of, rest_more, rest_end}
-use Rattle.writing.proofs.WroteLaws.{Left, left_all, left_some, left_none}
+use Rattle.writing.proofs.PartLaws.{rest_more, rest_end}
+use Rattle.writing.proofs.WroteLaws.{left_all, left_some, left_none}
 use Rattle.writing.proofs.area.write_places.Goals as goal
 
 pub loop-i-init : goal.loop-i-init

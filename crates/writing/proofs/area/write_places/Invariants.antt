@@ -1,8 +1,7 @@
-use Rattle.std.proofs.Common.{◌≡◌, ◌-◌, ◌≤◌, min, length, arith, rules}
-use Rattle.codec.specs.Codec.{number}
+use Rattle.std.proofs.Common.{◌≡◌, ◌-◌, ◌≤◌, min, length}
 use Rattle.message.specs.Areas.{area_c, area_places_c}
-use Rattle.writing.proofs.PartLaws.{rest_of, rest_more, rest_end}
-use Rattle.writing.proofs.WroteLaws.{Left, left_all, left_some, left_none}
+use Rattle.writing.proofs.PartLaws.{rest_of}
+use Rattle.writing.proofs.WroteLaws.{Left}
 use Rattle.writing.proofs.area.write_places.Given as goal
 
 abbrev pub invariant-loop-i : goal.invariant-loop-i

@@ -1,6 +1,5 @@
-use Rattle.std.proofs.Common.{◌≡◌, ◌-◌, sym, ◌∙◌, rules}
+use Rattle.std.proofs.Common.{sym, ◌∙◌, rules}
 use Rattle.writing.proofs.RowLaws.{given_turn, given_found, given_end, given_start}
-use Rattle.writing.specs.Parts.{some_given}
 use Rattle.writing.proofs.body.some_given.Goals as goal
 
 pub loop-i-init : goal.loop-i-init

@@ -1,5 +1,4 @@
-use Rattle.std.proofs.Common.{◌≡◌, ◌-◌, sym, ◌∙◌, rules}
-use Rattle.writing.proofs.RowLaws.{given_turn, given_found, given_end, given_start}
+use Rattle.std.proofs.Common.{◌≡◌, ◌-◌}
 use Rattle.writing.specs.Parts.{some_given}
 use Rattle.writing.proofs.body.some_given.Given as goal
 

@@ -1,4 +1,3 @@
-use Rattle.std.proofs.Common.{rules}
 use Rattle.writing.proofs.RowLaws.{body_row}
 use Rattle.writing.proofs.body.write_body.Goals as goal
 

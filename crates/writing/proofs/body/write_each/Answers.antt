@@ -1,8 +1,5 @@
-use Rattle.std.proofs.Common.{◌≡◌, ◌-◌, length, drop, rules}
-use Rattle.message.specs.Rows.{first_parts}
+use Rattle.std.proofs.Common.{rules}
 use Rattle.writing.proofs.RowLaws.{each_turn, each_end, each_past, each_start}
-use Rattle.writing.proofs.WroteLaws.{Left}
-use Rattle.writing.specs.Parts.{each_bits}
 use Rattle.writing.proofs.body.write_each.Goals as goal
 
 pub loop-i-init : goal.loop-i-init

@@ -1,6 +1,5 @@
-use Rattle.std.proofs.Common.{◌≡◌, ◌-◌, length, drop, rules}
+use Rattle.std.proofs.Common.{◌≡◌, ◌-◌, length, drop}
 use Rattle.message.specs.Rows.{first_parts}
-use Rattle.writing.proofs.RowLaws.{each_turn, each_end, each_past, each_start}
 use Rattle.writing.proofs.WroteLaws.{Left}
 use Rattle.writing.specs.Parts.{each_bits}
 use Rattle.writing.proofs.body.write_each.Given as goal

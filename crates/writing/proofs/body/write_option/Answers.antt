@@ -1,4 +1,4 @@
-use Rattle.std.proofs.Common.{sym, ◌∙◌, rules}
+use Rattle.std.proofs.Common.{sym, ◌∙◌}
 use Rattle.writing.proofs.RowLaws.{option_there, option_none}
 use Rattle.writing.proofs.body.write_option.Goals as goal
 

@@ -1,6 +1,5 @@
-use Rattle.std.proofs.Common.{◌≡◌, ◌-◌, length, drop, rules}
+use Rattle.std.proofs.Common.{◌≡◌, ◌-◌, length, drop}
 use Rattle.message.specs.Rows.{first_parts, options_of}
-use Rattle.writing.proofs.RowLaws.{parts_turn, parts_end, parts_past, parts_start}
 use Rattle.writing.proofs.WroteLaws.{Left}
 use Rattle.writing.specs.Parts.{parts_bits}
 use Rattle.writing.proofs.body.write_parts.Given as goal

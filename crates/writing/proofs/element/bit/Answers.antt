@@ -1,4 +1,3 @@
-use Rattle.std.proofs.Common.{rules}
 use Rattle.writing.proofs.element.bit.Goals as goal
 
 pub returns-then-value : goal.returns-then-value

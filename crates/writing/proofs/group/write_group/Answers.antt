@@ -1,4 +1,3 @@
-use Rattle.std.proofs.Common.{rules}
 use Rattle.codec.specs.Codec.{number}
 use Rattle.message.specs.Groups.{addresses_c, range_c, group_c}
 use Rattle.writing.proofs.WroteLaws.{wrote_join}

@@ -1,8 +1,8 @@
-use Rattle.std.proofs.Common.{◌≡◌, ◌-◌, ◌≤◌, min, false, length, arith, rules}
+use Rattle.std.proofs.Common.{◌≡◌, ◌-◌, ◌≤◌, min, false, length}
 use Rattle.message.specs.Addresses.{nobody, address_c}
 use Rattle.message.specs.Groups.{places_c}
-use Rattle.writing.proofs.PartLaws.{rest_of, rest_more, rest_end}
-use Rattle.writing.proofs.WroteLaws.{Left, left_all, left_some, left_none}
+use Rattle.writing.proofs.PartLaws.{rest_of}
+use Rattle.writing.proofs.WroteLaws.{Left}
 use Rattle.writing.proofs.group.write_places.Given as goal
 
 abbrev pub invariant-loop-i : goal.invariant-loop-i

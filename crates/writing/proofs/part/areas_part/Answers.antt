@@ -1,4 +1,3 @@
-use Rattle.std.proofs.Common.{rules}
 use Rattle.writing.specs.Parts.{part_bits}
 use Rattle.writing.proofs.part.areas_part.Goals as goal
 

@@ -1,4 +1,4 @@
-use Rattle.std.proofs.Common.{arith, rules}
+use Rattle.std.proofs.Common.{arith}
 use Rattle.codec.specs.Codec.{number}
 use Rattle.message.proofs.RowLaws.{width_few}
 use Rattle.writing.specs.Parts.{part_bits}

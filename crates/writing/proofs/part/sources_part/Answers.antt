@@ -1,4 +1,3 @@
-use Rattle.std.proofs.Common.{rules}
 use Rattle.message.specs.Groups.{range_c, group_c}
 use Rattle.writing.specs.Parts.{part_bits}
 use Rattle.writing.proofs.part.sources_part.Goals as goal

@@ -1,4 +1,3 @@
-use Rattle.std.proofs.Common.{rules}
 use Rattle.message.specs.Addresses.{address_c}
 use Rattle.writing.specs.Parts.{part_bits}
 use Rattle.writing.proofs.part.user_part.Goals as goal
