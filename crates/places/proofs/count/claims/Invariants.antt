@@ -1,0 +1,15 @@
+use Prim.Native.Nat.{◌-◌, ◌*◌, ◌≤◌}
+use mathlib.Core.Path.{◌≡◌, sym}
+use native.Mathlib.Omega.{arith}
+use borrow.Author.Rules.{rules}
+use Rattle.places.proofs.SumLaws.{sum_turn, sum_end}
+use Rattle.places.specs.Fits.{claim_of, claims_of}
+use Rattle.profile.proofs.CountLaws.{sum_none}
+use Rattle.profile.specs.Counting.{sum}
+use Rattle.places.proofs.count.claims.Given as goal
+
+abbrev pub invariant-loop-q : goal.invariant-loop-q
+invariant-loop-q l = (l.q ≤ l.posts) × ((l.total ≤ 255 * l.q) × (l.total ≡ sum l.q (λ p. claim_of l.shares l.list p)))
+
+abbrev pub decreases-loop-q : goal.decreases-loop-q
+decreases-loop-q l = l.posts - l.q

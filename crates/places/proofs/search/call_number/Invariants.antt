@@ -1,0 +1,15 @@
+use Prim.Native.Nat.{◌-◌, ◌≤◌}
+use mathlib.Core.Path.{◌≡◌, sym, ◌∙◌}
+use native.Mathlib.Omega.{arith}
+use lib.ListN.{length}
+use borrow.Author.Rules.{rules}
+use Rattle.places.proofs.SpotLaws.{NoneBelow, none_below, none_turn, number_found, number_none}
+use Rattle.places.specs.Held.{place_in}
+use Rattle.places.specs.Spots.{has_call, place_of}
+use Rattle.places.proofs.search.call_number.Given as goal
+
+abbrev pub invariant-loop-i : goal.invariant-loop-i
+invariant-loop-i l = (l.i ≤ 32) × ((length l.list ≡ 32) × NoneBelow l.i (λ j. has_call (place_in l.list j) l.identifier))
+
+abbrev pub decreases-loop-i : goal.decreases-loop-i
+decreases-loop-i l = 32 - l.i

@@ -1,0 +1,6 @@
+use borrow.Author.Rules.{rules}
+use Rattle.records.proofs.JudgeLaws.{judged_marks}
+use Rattle.records.proofs.marks_of.Goals as goal
+
+pub returns : goal.returns
+returns c = judged_marks _ _ _ _ _ _ c.judged_of-judged.ensures

@@ -1,0 +1,5 @@
+use borrow.Author.Rules.{rules}
+use Rattle.records.proofs.restricted.Goals as goal
+
+pub returns : goal.returns
+returns c = c.first_restricted.ensures
