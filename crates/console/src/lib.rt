@@ -2,6 +2,7 @@
 // specs/Values of `layouts`); any other bytes get 1 or 22. Each function answers 0 or the refusal's number, and a refusal changes
 // nothing that was lent but the two numbers that tell of a 4.
 #![tactic(auto)]
+
 ghost use Rattle.std.specs.Prelude.{◌≡◌, true, false, ◌≢◌};
 ghost use Rattle.codec.specs.Stops.{no_stop};
 ghost use Rattle.console.specs.Drawing.{ReadsBack, Drawn};
