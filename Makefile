@@ -1,6 +1,6 @@
 # The messages of the call desk for C: the archive, the header, the example console; the programs listing and replay; the installation.
 #
-#   make                      build/libcad.a, from the proved crate console (proves what is not proved yet), and build/cad.pc
+#   make                      build/libcad.a, from the proved crate console_c (proves what is not proved yet), and build/cad.pc
 #   make console              build/console, from examples/console.c
 #   make programs             build/listing and build/replay, from the proved crates of these names
 #   make install [PREFIX=/usr/local] [DESTDIR=]    header, archive, cad.pc, manual pages and the two programs
@@ -8,8 +8,9 @@
 #   make check-c              the tests of all this
 #   make clean                removes build/
 #
-# ARCHIVE=FILE takes an archive that `rt staticlib console` wrote elsewhere, and PROGRAMS=DIR the two programs that `rt check` wrote into
-# DIR (its target/bin), so that the rest needs no Rattle kit. PROGRAMS=none, as it is where ARCHIVE alone is given, leaves them out.
+# ARCHIVE=FILE takes an archive that `rt lib` wrote elsewhere, in crates/console_c/out, and PROGRAMS=DIR the two programs, copied from
+# crates/listing/out and crates/replay/out into a folder DIR, so that the rest needs no Rattle kit. PROGRAMS=none, as it is where ARCHIVE
+# alone is given, leaves them out.
 
 PREFIX = /usr/local
 DESTDIR =
@@ -31,12 +32,11 @@ console: build/console
 
 programs: $(BUILT)
 
-# The archive is asked for every time, since only rt knows whether a source is newer; what it wrote is taken over if it is another one.
+# The archive is asked for every time, since tools/built knows what it is made from; what was built is taken over if it is another one.
 build/libcad.a: FORCE
 	@mkdir -p build
 ifeq ($(ARCHIVE),)
-	@tools/proving console build/staticlib.log rt staticlib console
-	@cmp -s target/staticlib/libconsole.a $@ || cp target/staticlib/libconsole.a $@
+	@built=$$(tools/built console_c build/lib.log) && { cmp -s $$built $@ || cp $$built $@; }
 else
 	@cmp -s $(ARCHIVE) $@ || cp $(ARCHIVE) $@
 endif
@@ -45,8 +45,7 @@ endif
 build/listing build/replay: build/%: FORCE
 	@mkdir -p build
 ifeq ($(PROGRAMS),)
-	@tools/proving $* build/$*.log rt check $*
-	@cmp -s target/bin/$* $@ || cp target/bin/$* $@
+	@built=$$(tools/built $* build/$*.log) && { cmp -s $$built $@ || cp $$built $@; }
 else
 	@cmp -s $(PROGRAMS)/$* $@ || cp $(PROGRAMS)/$* $@
 endif
@@ -81,7 +80,7 @@ check-c:
 clean:
 	rm -rf build
 
-# two rt at once would write the same target/
+# two rt at once would wait for each other all the same
 .NOTPARALLEL:
 
 FORCE:
