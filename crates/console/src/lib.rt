@@ -123,12 +123,7 @@ fn read_slowly(profile: &[u8], message: &[u8], bits: usize, value: &mut [u8]) ->
 }
 
 // Writes the message of the value's bytes from the first byte of `message` on, and its length into `bits`.
-pub fn cad_write(
-    profile: &[u8],
-    value: &[u8],
-    message: &mut [u8],
-    bits: &mut usize,
-) -> u32
+pub fn cad_write(profile: &[u8], value: &[u8], message: &mut [u8], bits: &mut usize) -> u32
     ensures { (result ≡ cad_write_of profile.now value.now message.old)
         × ((message.new ≡ cad_write_area profile.now value.now message.old)
         × (bits.new ≡ cad_write_bits profile.now value.now message.old bits.old)) }

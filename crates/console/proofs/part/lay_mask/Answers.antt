@@ -26,8 +26,7 @@ pub overflow_add-result-3 : goal.overflow_add-result-3
 overflow_add-result-3 c = omega (arith, c.requires, c.if-k-gt64.false)
 
 pub returns : goal.returns
-returns c =
-    (
+returns c = (
   search rules,
   λ z v l.
       mask_lay (air_from c.args.profile.now) (bit_at c.args.buf.now) (bit_lt c.args.buf.now) c.args.area.now _ c.args.at _ v l _ _ (c.span_in-k.ensures.1 (omega (arith, c.if-k-gt64.false)) v l) (one_bit c.args.buf.now c.args.at _ c.bit.ensures c.if-bit-eq0.false) (c.aligned.ensures ∙ mask_is c.args.buf.now _ _ _ c.field.ensures c.if-k-gt64.false) refl c.put_mask-2.ensures,
