@@ -1,4 +1,4 @@
-use Rattle.std.proofs.Common.{rules, le-leb}
+use Rattle.std.proofs.Common.{le-leb}
 use borrow.Author.Tests.{lt-leb}
 use Rattle.lines.specs.Saying.{broke_of, text_of, broke_at}
 use Rattle.lines.proofs.broke.Goals as goal

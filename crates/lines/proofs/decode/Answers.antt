@@ -1,4 +1,4 @@
-use Rattle.std.proofs.Common.{◌≡◌, ℕ, ◌-◌, ◌≤◌, length, refl, ap, ◌∙◌, arith, rules}
+use Rattle.std.proofs.Common.{◌≡◌, ℕ, refl, ap, ◌∙◌, arith, rules}
 use Rattle.lines.proofs.HexLaws.{pairs_more}
 use Rattle.lines.specs.Parsing.{pairs_in}
 use Rattle.lines.proofs.decode.Goals as goal

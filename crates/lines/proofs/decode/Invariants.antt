@@ -1,5 +1,4 @@
-use Rattle.std.proofs.Common.{◌≡◌, ℕ, ◌-◌, ◌≤◌, length, refl, ap, ◌∙◌, arith, rules}
-use Rattle.lines.proofs.HexLaws.{pairs_more}
+use Rattle.std.proofs.Common.{◌≡◌, ◌-◌, ◌≤◌, length}
 use Rattle.lines.specs.Parsing.{pairs_in}
 use Rattle.lines.proofs.decode.Given as goal
 

@@ -1,4 +1,4 @@
-use Rattle.std.proofs.Common.{refl, rules}
+use Rattle.std.proofs.Common.{refl}
 use Rattle.lines.specs.Saying.{digit_of}
 use Rattle.lines.proofs.digit.Goals as goal
 

@@ -1,5 +1,4 @@
-use Rattle.std.proofs.Common.{◌≡◌, ℕ, ◌-◌, ◌≤◌, ap, ◌∙◌, arith, rules}
-use Rattle.lines.proofs.HexLaws.{up_to_none, up_to_more}
+use Rattle.std.proofs.Common.{◌≡◌, ◌-◌, ◌≤◌}
 use Rattle.lines.specs.Parsing.{hex_up_to}
 use Rattle.lines.proofs.each_hex.Given as goal
 

@@ -1,6 +1,6 @@
-use Rattle.std.proofs.Common.{◌≡◌, ◌-◌, ◌^◌, ◌<◌, ◌≤◌, length, get_or, drop, sym, refl, ◌∙◌, arith, rules}
+use Rattle.std.proofs.Common.{get_or, sym, refl, ◌∙◌, arith, rules}
 use Rattle.lines.proofs.ShapeLaws.{digit_worth, hex_most, digits_lt, digits_few, digits_end, digits_stop, digits_many, digits_more, heads_none, heads_as}
-use Rattle.lines.specs.Shape.{digits_then, line_of}
+use Rattle.lines.specs.Shape.{line_of}
 use Rattle.lines.proofs.head_of.Goals as goal
 
 pub loop-i-init : goal.loop-i-init

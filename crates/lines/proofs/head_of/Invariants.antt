@@ -1,5 +1,4 @@
-use Rattle.std.proofs.Common.{◌≡◌, ◌-◌, ◌^◌, ◌<◌, ◌≤◌, length, get_or, drop, sym, refl, ◌∙◌, arith, rules}
-use Rattle.lines.proofs.ShapeLaws.{digit_worth, hex_most, digits_lt, digits_few, digits_end, digits_stop, digits_many, digits_more, heads_none, heads_as}
+use Rattle.std.proofs.Common.{◌≡◌, ◌-◌, ◌^◌, ◌<◌, ◌≤◌, length, drop}
 use Rattle.lines.specs.Shape.{digits_then, line_of}
 use Rattle.lines.proofs.head_of.Given as goal
 

@@ -1,4 +1,4 @@
-use Rattle.std.proofs.Common.{rules, le-ltb, lt-ltb}
+use Rattle.std.proofs.Common.{le-ltb, lt-ltb}
 use Rattle.lines.specs.Saying.{refused_of, text_of}
 use Rattle.lines.proofs.refused.Goals as goal
 

@@ -1,4 +1,3 @@
-use Rattle.std.proofs.Common.{rules}
 use Rattle.lines.specs.Saying.{said_of}
 use Rattle.lines.proofs.said.Goals as goal
 

@@ -1,4 +1,4 @@
-use Rattle.std.proofs.Common.{ℕ, List, sym, ap, ◌∙◌, arith, rules}
+use Rattle.std.proofs.Common.{ℕ, List, sym, ap, ◌∙◌, arith}
 use Rattle.bits.specs.Fields.{bit_at}
 use Rattle.lines.proofs.SayLaws.{say_read}
 use Rattle.lines.specs.Saying.{answer_of, text_of}

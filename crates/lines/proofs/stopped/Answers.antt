@@ -1,4 +1,4 @@
-use Rattle.std.proofs.Common.{rules, eq-eqb, ne_eqb}
+use Rattle.std.proofs.Common.{eq-eqb, ne_eqb}
 use Rattle.lines.specs.Saying.{stop_of}
 use Rattle.lines.proofs.stopped.Goals as goal
 
