@@ -1,11 +1,11 @@
 -- A value's bytes where one thing in the value is changed: just its own bytes change. Assumes nothing.
-use Prim.Native.Nat.{ℕ, zero, suc, ◌+◌, ◌*◌, ◌%◌, ◌≤◌, ◌<◌}
+use Prim.Native.Nat.{ℕ, zero, suc, ◌+◌, ◌*◌, ◌≤◌, ◌<◌}
 use mathlib.Core.Path.{◌≡◌, refl, sym, ap, ◌∙◌, subst}
 use mathlib.Core.Bool.{Bool, false}
 use mathlib.Core.List.{List, [], ◌∷◌, ◌++◌, append_assoc, append-nil}
 use native.Mathlib.Omega.{arith}
 use lib.ListN.{length, get_or, drop, set, length-append, length-set}
-use lib.Seq.{sets, length-sets, set-append_left, drop_at}
+use lib.Seq.{sets, set-append_left, drop_at}
 use Rattle.profile.specs.Counting.{one}
 use Rattle.message.specs.Numbers as place
 use Rattle.message.specs.Groups.{with_address}

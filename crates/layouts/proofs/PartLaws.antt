@@ -1,22 +1,19 @@
 -- The bytes of the value so far, and those of the value that a part read makes of it. Assumes nothing.
 use Prim.Native.Nat.{ℕ, zero, suc, ◌+◌, ◌-◌, ◌*◌, ◌/◌, ◌%◌, ◌≤◌, ◌<◌, ◌^◌, min}
 use mathlib.Core.Path.{◌≡◌, refl, sym, ap, ◌∙◌, subst}
-use mathlib.Core.Bool.{Bool, true, false, cond}
-use mathlib.Core.List.{List, [], ◌∷◌, ◌++◌, append-nil}
+use mathlib.Core.Bool.{Bool, true, false}
+use mathlib.Core.List.{List, [], ◌∷◌, append-nil}
 use native.Mathlib.Nat.{lt_of_lt_of_le, mod-eq_of_lt}
 use native.Mathlib.Omega.{arith}
-use lib.Dec.{eqb}
-use lib.ListN.{length, get_or, drop, set}
+use lib.ListN.{length, get_or, set}
 use lib.Pow.{pow_mono}
-use lib.Seq.{sets, length-sets, drop-drop}
-use Rattle.codec.specs.Codec.{Codec, Read, got, no, bind, vec_read, number}
+use lib.Seq.{sets}
+use Rattle.codec.specs.Codec.{Codec, Read, got, no, bind, vec_read}
 use Rattle.codec.specs.Options.{flag}
-use Rattle.codec.specs.declared.Stop.{Stop}
-use Rattle.codec.proofs.Good.{Good, Binary, View, found, refused, Came, Ended, came, failed, broke, not_both}
+use Rattle.codec.proofs.Good.{Good, Binary, View, found, refused, Ended, came, failed, broke, not_both}
 use Rattle.codec.proofs.Combinators.{number_got}
 use Rattle.bits.specs.Fields.{bit_at, field_at}
 use Rattle.bits.proofs.FieldLaws.{bit_lt, field_lt, field_split}
-use Rattle.profile.specs.Counting.{one}
 use Rattle.profile.specs.declared.Air.{Air}
 use Rattle.message.specs.Elements as element
 use Rattle.message.specs.Numbers as place
@@ -34,7 +31,6 @@ use Rattle.message.specs.declared.State.{State}
 use Rattle.message.specs.declared.Part.{Part}
 use Rattle.message.specs.declared.Part.TheVariants as part
 use Rattle.message.specs.declared.Value.{Value}
-use Rattle.message.proofs.AddressLaws.{good_address}
 use Rattle.message.proofs.GroupLaws.{good_group}
 use Rattle.message.proofs.AreaLaws.{good_areas}
 use Rattle.message.proofs.MessageLaws.{good_part}

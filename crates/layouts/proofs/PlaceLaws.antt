@@ -1,18 +1,18 @@
 -- Groups and areas laid: the range, what its meaning has, and zeros in the places beyond. Assumes nothing.
-use Prim.Native.Nat.{ℕ, zero, suc, ◌+◌, ◌-◌, ◌*◌, ◌/◌, ◌%◌, ◌^◌, ◌≤◌, ◌<◌, min}
+use Prim.Native.Nat.{ℕ, zero, suc, ◌+◌, ◌-◌, ◌*◌, ◌≤◌, ◌<◌, min}
 use mathlib.Core.Path.{◌≡◌, refl, sym, ap, ◌∙◌}
-use mathlib.Core.Bool.{Bool, true, false, cond}
-use mathlib.Core.List.{List, [], ◌∷◌, ◌++◌, append_assoc, append-nil}
-use native.Mathlib.Nat.{sub-zero, suc-sub-suc, add-zero}
+use mathlib.Core.Bool.{Bool, true, false}
+use mathlib.Core.List.{List, [], ◌∷◌, ◌++◌, append_assoc}
+use native.Mathlib.Nat.{sub-zero, suc-sub-suc}
 use native.Mathlib.Numerals.{add-one}
 use native.Mathlib.Omega.{arith}
 use lib.Dec.{eqb, leb}
 use lib.ListN.{length, get_or, take, drop, set, replicate, length-append, length-replicate, length-set}
-use lib.Seq.{sets, sets-eq, length-sets, drop-drop, get_or-drop, drop_at, length-take-le}
-use borrow.Author.Tests.{eq-eqb, ne_eqb, le-leb, eqb-true, eqb-false}
+use lib.Seq.{sets, sets-eq, drop-drop, get_or-drop, drop_at, length-take-le}
+use borrow.Author.Tests.{ne_eqb, le-leb, eqb-true, eqb-false}
 use Rattle.bits.specs.Fields.{field_at}
 use Rattle.bits.proofs.FieldLaws.{field_lt}
-use Rattle.codec.specs.Codec.{Read, got, no, bind, both, vec_read}
+use Rattle.codec.specs.Codec.{got, vec_read}
 use Rattle.codec.proofs.Good.{Binary, both_true}
 use Rattle.codec.proofs.Combinators.{number_got, good_vec}
 use Rattle.profile.specs.Rules.{reserved, meaning_of, meaning_in}
@@ -25,15 +25,14 @@ use Rattle.message.specs.Groups.{addresses_in, allowed_in, nobodies, places_c, r
 use Rattle.message.specs.Areas.{area_c, area_places_c, rises, area_list_c, areas_c}
 use Rattle.message.specs.declared.Address.{Address}
 use Rattle.message.specs.declared.Group.{Group}
-use Rattle.message.specs.declared.Areas.{Areas}
 use Rattle.message.specs.declared.Value.{Value}
 use Rattle.layouts.specs.Bytes.{number_from, number_bytes, rows_from, rows_bytes}
 use Rattle.layouts.specs.Profiles.{meaning_from, air_from}
-use Rattle.layouts.specs.Values.{address_bytes, address_from, group_bytes, group_from, byte_bytes, areas_bytes, value_bytes, value_from}
+use Rattle.layouts.specs.Values.{address_bytes, address_from, group_bytes, group_from, byte_bytes, areas_bytes, value_from}
 use Rattle.layouts.proofs.ByteLaws.{byte_here, sets_append}
 use Rattle.layouts.proofs.PutLaws.{length_address}
 use Rattle.message.proofs.AddressLaws.{good_address}
-use Rattle.layouts.proofs.RowLaws.{All, none, more, rows_length, number_back}
+use Rattle.layouts.proofs.RowLaws.{All, none, more}
 use Rattle.layouts.proofs.FitLaws.{AddressFits, ok_run}
 use Rattle.layouts.proofs.LayoutLaws.{address_back, fits_back}
 use Rattle.layouts.proofs.PartLaws.{ok_of, Laid, Grouped, AreaList, Addresses}

@@ -1,22 +1,21 @@
 -- Addresses laid one after the other, each as eight bytes of which the last is overwritten by the next, or put back after the last. Assumes
 -- nothing.
-use Prim.Native.Nat.{ℕ, zero, suc, ◌+◌, ◌-◌, ◌*◌, ◌/◌, ◌%◌, ◌^◌, ◌≤◌, ◌<◌}
+use Prim.Native.Nat.{ℕ, zero, suc, ◌+◌, ◌*◌, ◌/◌, ◌%◌, ◌^◌, ◌≤◌, ◌<◌}
 use mathlib.Core.Path.{◌≡◌, refl, sym, ap, ◌∙◌}
 use mathlib.Core.Bool.{Bool, true, false}
 use mathlib.Core.List.{List, [], ◌∷◌, ◌++◌, append_assoc, append-nil}
-use native.Mathlib.Nat.{add-zero, add-suc, div-one, mul_assoc, sub-zero, suc-sub-suc}
+use native.Mathlib.Nat.{add-zero, add-suc, div-one, mul_assoc}
 use native.Mathlib.Omega.{arith}
-use lib.ListN.{length, get_or, drop, set, replicate, length-append, length-replicate, length-set}
+use lib.ListN.{length, get_or, set, length-append, length-set}
 use lib.Pow.{pow-add, shr-shr, high}
-use lib.Seq.{sets, sets-eq, length-sets, set-set, set_comm, set-get_or, get_or-set_other}
+use lib.Seq.{sets, length-sets, set-set, set_comm, set-get_or, get_or-set_other}
 use Rattle.bits.specs.Fields.{field_at}
 use Rattle.bits.proofs.FieldLaws.{field_lt, field_split, field_front}
-use Rattle.codec.specs.Codec.{Read, got, no, bind, vec_read}
+use Rattle.codec.specs.Codec.{got, vec_read}
 use Rattle.codec.proofs.Good.{Binary}
 use Rattle.codec.proofs.Combinators.{number_got}
 use Rattle.message.specs.Elements as element
-use Rattle.message.specs.Addresses.{nobody, kind_c, extension_c, address_c}
-use Rattle.message.specs.Groups.{nobodies, places_c}
+use Rattle.message.specs.Addresses.{kind_c, extension_c, address_c}
 use Rattle.message.specs.declared.Address.{Address}
 use Rattle.layouts.specs.Bytes.{number_bytes, rows_bytes}
 use Rattle.layouts.specs.Values.{address_bytes}

@@ -13,7 +13,6 @@ use Rattle.codec.specs.Codec.{both}
 use Rattle.lines.specs.Shape.{is_digit, hex_of}
 use Rattle.script.specs.Shape.{starts_with, no_number, number_if, digits_then, number_at, no_numbers, numbers_from}
 use Rattle.script.specs.declared.shape.Number.{Number}
-use Rattle.script.specs.declared.shape.Numbers.{Numbers}
 
 -- ---- one byte more of a list
 

@@ -1,4 +1,3 @@
-use Rattle.std.proofs.Common.{rules}
 use Rattle.console.proofs.CallLaws.{read_number_lem}
 use Rattle.console.proofs.cad_read.Goals as goal
 

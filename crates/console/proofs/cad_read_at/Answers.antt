@@ -1,4 +1,4 @@
-use Rattle.std.proofs.Common.{sym, ◌∙◌, arith, rules}
+use Rattle.std.proofs.Common.{sym, ◌∙◌, arith}
 use Rattle.console.proofs.CallLaws.{read_number_lem, position_low, told_position, told_element, left_position, left_element}
 use Rattle.console.proofs.cad_read_at.Goals as goal
 

@@ -1,4 +1,3 @@
-use Rattle.std.proofs.Common.{rules}
 use Rattle.console.proofs.DrawLaws.{drawn_0, drawn_past}
 use Rattle.console.proofs.cad_write.Goals as goal
 

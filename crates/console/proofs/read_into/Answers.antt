@@ -1,4 +1,4 @@
-use Rattle.std.proofs.Common.{arith, rules}
+use Rattle.std.proofs.Common.{arith}
 use Rattle.console.proofs.CallLaws.{refused_leaves, same_stop}
 use Rattle.console.proofs.read_into.Goals as goal
 

@@ -1,4 +1,4 @@
-use Rattle.std.proofs.Common.{sym, refl, ◌∙◌, rules}
+use Rattle.std.proofs.Common.{sym, refl, ◌∙◌}
 use Rattle.codec.proofs.Good.{not_both}
 use Rattle.console.proofs.CallLaws.{quick_0, quick_tail}
 use Rattle.console.proofs.read_quickly.Goals as goal

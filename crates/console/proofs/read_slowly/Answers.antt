@@ -1,5 +1,4 @@
-use Rattle.std.proofs.Common.{sym, ◌∙◌, rules}
-use borrow.Author.Tests.{not-true, not-false}
+use Rattle.std.proofs.Common.{sym, ◌∙◌}
 use Rattle.console.proofs.CallLaws.{read_1, read_14, read_0, read_no}
 use Rattle.layouts.proofs.ListLaws.{no_lists_lem}
 use Rattle.writing.proofs.RoundTrips.{read_valid}

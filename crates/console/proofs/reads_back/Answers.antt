@@ -1,4 +1,3 @@
-use Rattle.std.proofs.Common.{rules}
 use Rattle.codec.proofs.Good.{not_both}
 use Rattle.console.proofs.DrawLaws.{reads_back}
 use Rattle.console.proofs.reads_back.Goals as goal

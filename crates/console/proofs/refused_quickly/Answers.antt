@@ -1,4 +1,4 @@
-use Rattle.std.proofs.Common.{[], sym, ◌∙◌, rules}
+use Rattle.std.proofs.Common.{[], sym, ◌∙◌}
 use Rattle.console.proofs.CallLaws.{none_refused, walk_refused}
 use Rattle.console.proofs.refused_quickly.Goals as goal
 

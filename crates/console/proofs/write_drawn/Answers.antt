@@ -1,5 +1,4 @@
-use Rattle.std.proofs.Common.{arith, rules}
-use borrow.Author.Tests.{not-false}
+use Rattle.std.proofs.Common.{arith}
 use Rattle.console.proofs.DrawLaws.{drawn_laid, drawn_not}
 use Rattle.console.proofs.write_drawn.Goals as goal
 

@@ -1,4 +1,4 @@
-use Rattle.std.proofs.Common.{sym, ◌∙◌, rules}
+use Rattle.std.proofs.Common.{sym, ◌∙◌}
 use Rattle.console.proofs.CallLaws.{write_1, write_22, write_0, write_no}
 use Rattle.console.proofs.write_slowly.Goals as goal
 

@@ -1,4 +1,3 @@
-use borrow.Author.Rules.{rules}
 use Rattle.desk.proofs.ChangeLaws.{change_1, change_23, change_24, change_taken}
 use Rattle.desk.proofs.change_shares.Goals as goal
 

@@ -1,5 +1,4 @@
 use mathlib.Core.Path.{sym, ◌∙◌}
-use borrow.Author.Rules.{rules}
 use Rattle.codec.specs.Codec.{both}
 use Rattle.desk.specs.Desks.{desk_ok}
 use Rattle.desk.proofs.desk_ok.Goals as goal

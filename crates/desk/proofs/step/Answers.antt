@@ -1,5 +1,4 @@
 use mathlib.Core.Path.{refl, sym, ◌∙◌}
-use borrow.Author.Rules.{rules}
 use Rattle.desk.proofs.PostLaws.{plain_by, refused_by, reject_plain, cancel_plain, setup_plain, desk_passes}
 use Rattle.desk.specs.Orders.{answer_of}
 use Rattle.desk.specs.Steps.{step_of, area_after}

@@ -3,7 +3,6 @@ use mathlib.Core.Bool.{false}
 use mathlib.Core.Path.{◌≡◌, sym}
 use native.Mathlib.Omega.{arith}
 use lib.ListN.{length, get_or-eq_default}
-use borrow.Author.Rules.{rules}
 use Rattle.host.proofs.said.Goals as goal
 
 pub returns-else-i-lt-RECORDS : goal.returns-else-i-lt-RECORDS

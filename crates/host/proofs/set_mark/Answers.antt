@@ -1,8 +1,4 @@
 -- The record that is changed is the record of that number; past the last one a list keeps its elements.
-use Rattle.std.proofs.Common.{rules, sym, arith}
-use lib.Seq.{set_out}
-use Rattle.host.specs.Lending.{mark_as}
-use Rattle.records.specs.Records.{row_of}
 use Rattle.host.proofs.LendLaws.{set_mark_in}
 use Rattle.host.proofs.set_mark.Goals as goal
 

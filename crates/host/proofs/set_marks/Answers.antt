@@ -1,10 +1,10 @@
 -- No mark, one mark more or none there, all of them.
-use Rattle.std.proofs.Common.{◌≡◌, ◌∙◌, rules, ap, sym, arith, refl}
+use Rattle.std.proofs.Common.{◌≡◌, ◌∙◌, rules, ap, sym, arith}
 use Rattle.records.specs.declared.Record.{Record}
 use mathlib.Core.List.{List}
 use lib.ListN.{set, length}
 use Rattle.records.specs.Records.{row_of}
-use Rattle.host.specs.Lending.{marked_as, mark_as}
+use Rattle.host.specs.Lending.{mark_as}
 use Rattle.host.proofs.LendLaws.{mark_none, mark_yes, mark_no, mark_all_lem}
 use Rattle.host.proofs.set_marks.Goals as goal
 use Rattle.host.proofs.set_marks.Goals.{then-says, else-says}

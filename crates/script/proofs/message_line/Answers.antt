@@ -1,4 +1,3 @@
-use borrow.Author.Rules.{rules}
 use Rattle.script.specs.Lines.{message_line}
 use Rattle.script.proofs.message_line.Goals as goal
 

@@ -1,5 +1,4 @@
 use mathlib.Core.Path.{sym, ◌∙◌}
-use borrow.Author.Rules.{rules}
 use Rattle.script.specs.Lines.{line_of}
 use Rattle.script.proofs.parse.Goals as goal
 

@@ -1,4 +1,3 @@
-use borrow.Author.Rules.{rules}
 use Rattle.lines.specs.Shape.{no_bytes}
 use Rattle.script.specs.Lines.{plain_line}
 use Rattle.script.proofs.plain_line.Goals as goal

@@ -1,4 +1,3 @@
-use borrow.Author.Rules.{rules}
 use borrow.Author.Tests.{eq-eqb, ne_eqb, le-leb, lt-leb}
 use Rattle.lines.specs.Shape.{no_bytes}
 use Rattle.script.specs.Lines.{post_line}

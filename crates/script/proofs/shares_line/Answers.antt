@@ -1,5 +1,4 @@
 use mathlib.Core.Path.{sym, ◌∙◌}
-use borrow.Author.Rules.{rules}
 use Rattle.lines.specs.Shape.{no_bytes}
 use Rattle.script.specs.Lines.{shares_line}
 use Rattle.script.proofs.shares_line.Goals as goal

@@ -1,5 +1,4 @@
 use mathlib.Core.Path.{sym, ◌∙◌}
-use borrow.Author.Rules.{rules}
 use Rattle.script.specs.Lines.{task_of}
 use Rattle.script.proofs.task_of.Goals as goal
 

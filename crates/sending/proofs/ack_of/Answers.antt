@@ -1,5 +1,4 @@
 use mathlib.Core.Path.{sym, ◌∙◌}
-use borrow.Author.Rules.{rules}
 use Rattle.sending.specs.Acks.{ack_of}
 use Rattle.sending.proofs.ack_of.Goals as goal
 

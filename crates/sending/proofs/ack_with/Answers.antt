@@ -1,4 +1,3 @@
-use borrow.Author.Rules.{rules}
 use Rattle.sending.specs.Acks.{ack_v}
 use Rattle.sending.proofs.ack_with.Goals as goal
 

@@ -1,4 +1,3 @@
-use borrow.Author.Rules.{rules}
 use Rattle.sending.specs.Acks.{several_in}
 use Rattle.sending.proofs.is_several.Goals as goal
 

@@ -1,5 +1,4 @@
 use mathlib.Core.Path.{refl, sym, ◌∙◌}
-use borrow.Author.Rules.{rules}
 use Rattle.sending.specs.Sending.{all_laid, all_area}
 use Rattle.sending.proofs.send_ack.Goals as goal
 

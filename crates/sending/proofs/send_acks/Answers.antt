@@ -1,4 +1,3 @@
-use borrow.Author.Rules.{rules}
 use Rattle.sending.proofs.SendLaws.{join_three}
 use Rattle.sending.specs.Acks.{acks_of}
 use Rattle.sending.proofs.send_acks.Goals as goal

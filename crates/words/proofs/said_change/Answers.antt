@@ -1,4 +1,3 @@
-use borrow.Author.Rules.{rules}
 use Rattle.blocks.proofs.TextLaws.{wrote_text}
 use Rattle.blocks.specs.Texts.{no_room}
 use Rattle.words.proofs.said_change.Goals as goal

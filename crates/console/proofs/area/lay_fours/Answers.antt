@@ -1,7 +1,5 @@
-use Rattle.std.proofs.Common.{◌≡◌, ◌+◌, ◌-◌, ◌*◌, ◌≤◌, length, sym, refl, ◌∙◌, arith, rules}
-use lib.Seq.{sets}
-use Rattle.bits.specs.Fields.{bit_at}
-use Rattle.layouts.proofs.PlaceLaws.{fours, fours_start, fours_turn, fours_end}
+use Rattle.std.proofs.Common.{sym, refl, ◌∙◌, arith, rules}
+use Rattle.layouts.proofs.PlaceLaws.{fours_start, fours_turn, fours_end}
 use Rattle.console.proofs.area.lay_fours.Goals as goal
 
 pub loop-i-init : goal.loop-i-init

@@ -1,7 +1,7 @@
-use Rattle.std.proofs.Common.{◌≡◌, ◌+◌, ◌-◌, ◌*◌, ◌≤◌, length, sym, refl, ◌∙◌, arith, rules}
+use Rattle.std.proofs.Common.{◌≡◌, ◌+◌, ◌-◌, ◌*◌, ◌≤◌, length}
 use lib.Seq.{sets}
 use Rattle.bits.specs.Fields.{bit_at}
-use Rattle.layouts.proofs.PlaceLaws.{fours, fours_start, fours_turn, fours_end}
+use Rattle.layouts.proofs.PlaceLaws.{fours}
 use Rattle.console.proofs.area.lay_fours.Given as goal
 
 abbrev pub invariant-loop-i : goal.invariant-loop-i

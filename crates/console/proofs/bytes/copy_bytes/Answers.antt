@@ -1,6 +1,5 @@
-use Rattle.std.proofs.Common.{◌≡◌, ◌-◌, ◌≤◌, arith, rules}
+use Rattle.std.proofs.Common.{◌≡◌, arith, rules}
 use Rattle.console.proofs.DrawLaws.{copied_none, copied_more}
-use Rattle.console.specs.Drawing.{Copied}
 use Rattle.console.proofs.bytes.copy_bytes.Goals as goal
 
 pub loop-i-init : goal.loop-i-init

@@ -1,5 +1,4 @@
-use Rattle.std.proofs.Common.{◌≡◌, ◌-◌, ◌≤◌, arith, rules}
-use Rattle.console.proofs.DrawLaws.{copied_none, copied_more}
+use Rattle.std.proofs.Common.{◌-◌, ◌≤◌}
 use Rattle.console.specs.Drawing.{Copied}
 use Rattle.console.proofs.bytes.copy_bytes.Given as goal
 

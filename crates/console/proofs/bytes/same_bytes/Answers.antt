@@ -1,4 +1,3 @@
-use Rattle.std.proofs.Common.{rules}
 use Rattle.codec.proofs.Good.{not_both}
 use Rattle.console.proofs.DrawLaws.{alike_all}
 use Rattle.console.proofs.bytes.same_bytes.Goals as goal

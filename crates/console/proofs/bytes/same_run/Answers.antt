@@ -1,6 +1,5 @@
-use Rattle.std.proofs.Common.{◌≡◌, ◌-◌, true, rules}
+use Rattle.std.proofs.Common.{rules}
 use Rattle.console.proofs.DrawLaws.{alike_none, alike_more, alike_end}
-use Rattle.console.specs.Drawing.{Alike}
 use Rattle.console.proofs.bytes.same_run.Goals as goal
 
 pub loop-i-init : goal.loop-i-init

@@ -1,5 +1,4 @@
-use Rattle.std.proofs.Common.{◌≡◌, ◌-◌, true, rules}
-use Rattle.console.proofs.DrawLaws.{alike_none, alike_more, alike_end}
+use Rattle.std.proofs.Common.{◌≡◌, ◌-◌, true}
 use Rattle.console.specs.Drawing.{Alike}
 use Rattle.console.proofs.bytes.same_run.Given as goal
 

@@ -1,4 +1,4 @@
-use Rattle.std.proofs.Common.{ℕ, ◌+◌, ◌*◌, ◌/◌, ◌%◌, ◌^◌, sym, ap, ◌∙◌, arith, rules, eqb-true}
+use Rattle.std.proofs.Common.{ℕ, ◌+◌, ◌*◌, ◌/◌, ◌%◌, ◌^◌, sym, ap, ◌∙◌, arith, eqb-true}
 use Rattle.codec.proofs.Good.{not_both}
 use Rattle.console.proofs.DrawLaws.{spare_bits}
 use Rattle.console.proofs.bytes.spare_zero.Goals as goal

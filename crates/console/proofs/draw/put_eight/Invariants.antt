@@ -1,4 +1,4 @@
-use Rattle.std.proofs.Common.{◌≡◌, ◌≤◌, length, rules}
+use Rattle.std.proofs.Common.{◌≡◌, ◌≤◌, length}
 use Rattle.console.proofs.draw.put_eight.Given as goal
 
 abbrev pub invariant-loop-k : goal.invariant-loop-k

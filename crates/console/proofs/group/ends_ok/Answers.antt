@@ -1,4 +1,3 @@
-use Rattle.std.proofs.Common.{rules}
 use Rattle.console.proofs.LayLaws.{ends_kind, ends_extension, ends_fall, ends_far, ends_good}
 use Rattle.console.proofs.group.ends_ok.Goals as goal
 

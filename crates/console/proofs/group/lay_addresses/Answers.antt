@@ -1,8 +1,8 @@
-use Rattle.std.proofs.Common.{◌-◌, sym, refl, ◌∙◌, arith, rules}
+use Rattle.std.proofs.Common.{sym, refl, ◌∙◌, arith}
 use Rattle.bits.proofs.FieldLaws.{bit_lt, field_below}
 use Rattle.bits.specs.Fields.{bit_at}
 use Rattle.console.proofs.LayLaws.{double_is}
-use Rattle.layouts.proofs.RunLaws.{Laying, laying_start, laying_length, laying_end, stored_most, laying_turn}
+use Rattle.layouts.proofs.RunLaws.{laying_start, laying_length, laying_end, stored_most, laying_turn}
 use Rattle.console.proofs.group.lay_addresses.Goals as goal
 
 pub shape_of-area-then-buf-lt8 : goal.shape_of-area-then-buf-lt8

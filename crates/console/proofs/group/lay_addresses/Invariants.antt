@@ -1,8 +1,7 @@
-use Rattle.std.proofs.Common.{◌-◌, sym, refl, ◌∙◌, arith, rules}
-use Rattle.bits.proofs.FieldLaws.{bit_lt, field_below}
+use Rattle.std.proofs.Common.{◌-◌}
+use Rattle.bits.proofs.FieldLaws.{bit_lt}
 use Rattle.bits.specs.Fields.{bit_at}
-use Rattle.console.proofs.LayLaws.{double_is}
-use Rattle.layouts.proofs.RunLaws.{Laying, laying_start, laying_length, laying_end, stored_most, laying_turn}
+use Rattle.layouts.proofs.RunLaws.{Laying}
 use Rattle.console.proofs.group.lay_addresses.Given as goal
 
 abbrev pub invariant-loop-p : goal.invariant-loop-p

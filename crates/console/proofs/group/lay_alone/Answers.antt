@@ -1,4 +1,4 @@
-use Rattle.std.proofs.Common.{◌+◌, refl, ◌∙◌, arith, rules}
+use Rattle.std.proofs.Common.{◌+◌, refl, ◌∙◌, arith}
 use Rattle.bits.proofs.FieldLaws.{bit_lt, field_below}
 use Rattle.bits.specs.Fields.{bit_at}
 use Rattle.console.proofs.LayLaws.{double_is}

@@ -1,5 +1,4 @@
-use Rattle.std.proofs.Common.{◌≡◌, ◌-◌, ◌≤◌, length, replicate, refl, arith, rules}
-use lib.Seq.{sets}
+use Rattle.std.proofs.Common.{◌≡◌, ◌-◌, refl, arith, rules}
 use Rattle.console.proofs.LayLaws.{zero_next}
 use Rattle.console.proofs.group.zero_run.Goals as goal
 

@@ -1,6 +1,5 @@
-use Rattle.std.proofs.Common.{◌≡◌, ◌-◌, ◌≤◌, length, replicate, refl, arith, rules}
+use Rattle.std.proofs.Common.{◌≡◌, ◌-◌, ◌≤◌, length, replicate}
 use lib.Seq.{sets}
-use Rattle.console.proofs.LayLaws.{zero_next}
 use Rattle.console.proofs.group.zero_run.Given as goal
 
 abbrev pub invariant-loop-i : goal.invariant-loop-i

@@ -1,4 +1,4 @@
-use Rattle.std.proofs.Common.{◌≡◌, ℕ, ◌+◌, ◌*◌, ◌/◌, ◌%◌, List, length, set, sym, refl, ap, ◌∙◌, arith, rules}
+use Rattle.std.proofs.Common.{◌≡◌, ℕ, ◌+◌, ◌*◌, ◌/◌, ◌%◌, List, length, set, sym, refl, ap, ◌∙◌, arith}
 use Rattle.codec.proofs.Good.{not_both}
 use Rattle.console.proofs.LayLaws.{head_is}
 use Rattle.layouts.proofs.RowReads.{reads_of}

@@ -1,7 +1,7 @@
-use Rattle.std.proofs.Common.{◌≡◌, ◌-◌, length, sym, refl, ◌∙◌, arith, rules}
+use Rattle.std.proofs.Common.{sym, refl, ◌∙◌, arith, rules}
 use Rattle.bits.specs.Fields.{bit_at}
 use Rattle.console.proofs.LayLaws.{one_bit}
-use Rattle.layouts.proofs.RowReads.{options_begin, option_next, option_skip, options_done, OptionsAlong}
+use Rattle.layouts.proofs.RowReads.{options_begin, option_next, option_skip, options_done}
 use Rattle.layouts.specs.Profiles.{air_from}
 use Rattle.console.proofs.lay.lay_behind.Goals as goal
 

@@ -1,6 +1,5 @@
-use Rattle.std.proofs.Common.{◌≡◌, ◌-◌, ◌≤◌, length, sym, refl, ◌∙◌, arith, rules}
-use Rattle.bits.specs.Fields.{bit_at}
-use Rattle.layouts.proofs.RowReads.{parts_begin, parts_next, parts_done, PartsAlong}
+use Rattle.std.proofs.Common.{◌≡◌, ◌-◌, ◌≤◌, length}
+use Rattle.layouts.proofs.RowReads.{PartsAlong}
 use Rattle.layouts.specs.Profiles.{air_from}
 use Rattle.console.proofs.lay.lay_parts.Given as goal
 

@@ -1,4 +1,4 @@
-use Rattle.std.proofs.Common.{ℕ, List, length, sym, refl, ap, ◌∙◌, arith, rules}
+use Rattle.std.proofs.Common.{ℕ, List, length, sym, refl, ap, ◌∙◌, arith}
 use Rattle.bits.specs.Fields.{bit_at}
 use Rattle.console.proofs.LayLaws.{one_bit}
 use Rattle.layouts.proofs.RowReads.{no_options, with_options, without_options, row_lays}

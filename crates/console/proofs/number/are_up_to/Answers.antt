@@ -1,7 +1,6 @@
-use Rattle.std.proofs.Common.{◌≡◌, ◌+◌, ◌-◌, ◌≤◌, true, leb, get_or, sym, arith, rules, le-leb}
+use Rattle.std.proofs.Common.{sym, arith, rules, le-leb}
 use borrow.Author.Tests.{lt-leb}
 use Rattle.profile.proofs.CountLaws.{every_none, every_more, every_not, every_end}
-use Rattle.profile.specs.Counting.{every}
 use Rattle.console.proofs.number.are_up_to.Goals as goal
 
 pub loop-r-init : goal.loop-r-init

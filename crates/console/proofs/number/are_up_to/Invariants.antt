@@ -1,6 +1,4 @@
-use Rattle.std.proofs.Common.{◌≡◌, ◌+◌, ◌-◌, ◌≤◌, true, leb, get_or, sym, arith, rules, le-leb}
-use borrow.Author.Tests.{lt-leb}
-use Rattle.profile.proofs.CountLaws.{every_none, every_more, every_not, every_end}
+use Rattle.std.proofs.Common.{◌≡◌, ◌+◌, ◌-◌, ◌≤◌, true, leb, get_or}
 use Rattle.profile.specs.Counting.{every}
 use Rattle.console.proofs.number.are_up_to.Given as goal
 

@@ -1,4 +1,4 @@
-use Rattle.std.proofs.Common.{◌≤◌, length, sym, arith, rules}
+use Rattle.std.proofs.Common.{◌≤◌, length, sym, arith}
 use lib.ListN.{get_or-eq_default}
 use Rattle.console.proofs.number.byte_at.Goals as goal
 

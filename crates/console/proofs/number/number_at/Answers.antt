@@ -1,6 +1,5 @@
-use Rattle.std.proofs.Common.{◌≡◌, ◌-◌, ◌*◌, ◌^◌, ◌<◌, ◌≤◌, drop, arith, rules}
+use Rattle.std.proofs.Common.{◌≡◌, arith, rules}
 use Rattle.layouts.proofs.ByteLaws.{number_none, number_more, more_lt, fewer_lt}
-use Rattle.layouts.specs.Bytes.{number_from}
 use Rattle.console.proofs.number.number_at.Goals as goal
 
 pub loop-k-init : goal.loop-k-init

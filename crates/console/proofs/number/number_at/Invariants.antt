@@ -1,5 +1,4 @@
-use Rattle.std.proofs.Common.{◌≡◌, ◌-◌, ◌*◌, ◌^◌, ◌<◌, ◌≤◌, drop, arith, rules}
-use Rattle.layouts.proofs.ByteLaws.{number_none, number_more, more_lt, fewer_lt}
+use Rattle.std.proofs.Common.{◌≡◌, ◌-◌, ◌*◌, ◌^◌, ◌<◌, ◌≤◌, drop}
 use Rattle.layouts.specs.Bytes.{number_from}
 use Rattle.console.proofs.number.number_at.Given as goal
 

@@ -1,4 +1,4 @@
-use Rattle.std.proofs.Common.{◌≤◌, length, sym, arith, rules}
+use Rattle.std.proofs.Common.{◌≤◌, length, sym, arith}
 use lib.Seq.{set_out}
 use Rattle.console.proofs.number.put_byte.Goals as goal
 

@@ -1,4 +1,3 @@
-use Rattle.std.proofs.Common.{rules}
 use Rattle.console.proofs.number.put_flag.Goals as goal
 
 pub returns-then-b : goal.returns-then-b

@@ -1,6 +1,5 @@
-use Rattle.std.proofs.Common.{◌≡◌, ◌≤◌, refl, arith, rules}
+use Rattle.std.proofs.Common.{◌≡◌, ◌≤◌}
 use lib.Seq.{sets}
-use Rattle.layouts.proofs.ByteLaws.{put_turn, put_end, put_same}
 use Rattle.layouts.specs.Bytes.{number_bytes}
 use Rattle.console.proofs.number.put_number.Given as goal
 

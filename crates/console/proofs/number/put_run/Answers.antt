@@ -1,7 +1,5 @@
-use Rattle.std.proofs.Common.{◌≡◌, ◌≤◌, length, refl, arith, rules}
-use lib.Seq.{sets}
+use Rattle.std.proofs.Common.{refl, arith, rules}
 use Rattle.layouts.proofs.ByteLaws.{put_turn, put_end}
-use Rattle.layouts.specs.Bytes.{number_bytes}
 use Rattle.console.proofs.number.put_run.Goals as goal
 
 pub loop-k-init : goal.loop-k-init

@@ -1,6 +1,5 @@
-use Rattle.std.proofs.Common.{◌≡◌, ◌≤◌, length, refl, arith, rules}
+use Rattle.std.proofs.Common.{◌≡◌, ◌≤◌, length}
 use lib.Seq.{sets}
-use Rattle.layouts.proofs.ByteLaws.{put_turn, put_end}
 use Rattle.layouts.specs.Bytes.{number_bytes}
 use Rattle.console.proofs.number.put_run.Given as goal
 

@@ -1,4 +1,4 @@
-use Rattle.std.proofs.Common.{arith, rules}
+use Rattle.std.proofs.Common.{arith}
 use Rattle.console.proofs.LayLaws.{triple_is}
 use Rattle.console.proofs.number.triple.Goals as goal
 

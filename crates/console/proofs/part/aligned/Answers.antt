@@ -1,4 +1,3 @@
-use Rattle.std.proofs.Common.{rules}
 use Rattle.console.proofs.LayLaws.{aligned_none, aligned_there}
 use Rattle.console.proofs.part.aligned.Goals as goal
 

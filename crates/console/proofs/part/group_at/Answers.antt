@@ -1,4 +1,4 @@
-use Rattle.std.proofs.Common.{refl, rules}
+use Rattle.std.proofs.Common.{refl}
 use Rattle.layouts.proofs.PartLaws.{of_users, of_dispatchers, of_sources, of_destinations}
 use Rattle.console.proofs.part.group_at.Goals as goal
 

@@ -1,4 +1,4 @@
-use Rattle.std.proofs.Common.{refl, arith, rules}
+use Rattle.std.proofs.Common.{refl, arith}
 use Rattle.bits.proofs.FieldLaws.{bit_lt}
 use Rattle.bits.specs.Fields.{bit_at}
 use Rattle.layouts.proofs.PartLaws.{nothing_lay, dispatcher_lay, group_place, group_lay}

@@ -1,4 +1,4 @@
-use Rattle.std.proofs.Common.{set, ◌∙◌, arith, length-set, rules}
+use Rattle.std.proofs.Common.{set, ◌∙◌, arith, length-set}
 use Rattle.layouts.proofs.PutLaws.{same_sets}
 use Rattle.layouts.specs.Bytes.{number_bytes}
 use Rattle.console.proofs.part.put_mask.Goals as goal

@@ -1,4 +1,4 @@
-use Rattle.std.proofs.Common.{arith, length-set, rules}
+use Rattle.std.proofs.Common.{arith, length-set}
 use Rattle.console.proofs.part.put_pair.Goals as goal
 
 pub bounds-area-at-2 : goal.bounds-area-at-2

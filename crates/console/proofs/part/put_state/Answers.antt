@@ -1,4 +1,4 @@
-use Rattle.std.proofs.Common.{arith, rules}
+use Rattle.std.proofs.Common.{arith}
 use Rattle.console.proofs.LayLaws.{state_stored}
 use Rattle.console.proofs.part.put_state.Goals as goal
 

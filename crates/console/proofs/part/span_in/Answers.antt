@@ -1,4 +1,4 @@
-use Rattle.std.proofs.Common.{ℕ, ◌+◌, get_or, ap, ◌∙◌, arith, rules}
+use Rattle.std.proofs.Common.{ℕ, ◌+◌, get_or, ap, ◌∙◌, arith}
 use Rattle.layouts.proofs.PlaceLaws.{list_spans, none_spans, ends_span}
 use Rattle.console.proofs.part.span_in.Goals as goal
 

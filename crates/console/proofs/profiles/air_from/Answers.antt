@@ -1,7 +1,6 @@
-use Rattle.std.proofs.Common.{◌≡◌, ◌+◌, ◌-◌, ◌≤◌, length, drop, sym, ap, ◌∙◌, arith, rules}
-use Rattle.layouts.proofs.ByteLaws.{byte_here, rows_left, rows_start, rows_more, rows_end}
-use Rattle.layouts.specs.Bytes.{rows_from}
-use Rattle.layouts.specs.Profiles.{meaning_from, air_from}
+use Rattle.std.proofs.Common.{◌+◌, sym, ap, ◌∙◌, arith, rules}
+use Rattle.layouts.proofs.ByteLaws.{byte_here, rows_start, rows_more, rows_end}
+use Rattle.layouts.specs.Profiles.{air_from}
 use Rattle.profile.specs.Rules.{meaning_of}
 use Rattle.console.proofs.profiles.air_from.Goals as goal
 

@@ -1,8 +1,7 @@
-use Rattle.std.proofs.Common.{◌≡◌, ◌+◌, ◌-◌, ◌≤◌, length, drop, sym, ap, ◌∙◌, arith, rules}
-use Rattle.layouts.proofs.ByteLaws.{byte_here, rows_left, rows_start, rows_more, rows_end}
+use Rattle.std.proofs.Common.{◌≡◌, ◌-◌, ◌≤◌, length, drop}
+use Rattle.layouts.proofs.ByteLaws.{rows_left}
 use Rattle.layouts.specs.Bytes.{rows_from}
-use Rattle.layouts.specs.Profiles.{meaning_from, air_from}
-use Rattle.profile.specs.Rules.{meaning_of}
+use Rattle.layouts.specs.Profiles.{meaning_from}
 use Rattle.console.proofs.profiles.air_from.Given as goal
 
 abbrev pub invariant-loop-r : goal.invariant-loop-r

@@ -1,4 +1,4 @@
-use Rattle.std.proofs.Common.{sym, ◌∙◌, rules, le-leb}
+use Rattle.std.proofs.Common.{sym, ◌∙◌, le-leb}
 use borrow.Author.Tests.{lt-leb}
 use Rattle.codec.specs.Codec.{both}
 use Rattle.layouts.proofs.PassLaws.{air_kept}

@@ -1,4 +1,4 @@
-use Rattle.std.proofs.Common.{◌≡◌, ◌+◌, true, false, leb, get_or, sym, ◌∙◌, arith, length-take-le, rules, eq-eqb, ne_eqb}
+use Rattle.std.proofs.Common.{◌≡◌, ◌+◌, true, false, leb, get_or, sym, ◌∙◌, arith, length-take-le, eq-eqb, ne_eqb}
 use Rattle.codec.specs.Codec.{both}
 use Rattle.layouts.specs.Profiles.{is_profile}
 use Rattle.profile.specs.Counting.{every}

@@ -1,7 +1,6 @@
-use Rattle.std.proofs.Common.{◌≡◌, ◌+◌, ◌-◌, ◌≤◌, leb, get_or, sym, ◌∙◌, arith, rules}
+use Rattle.std.proofs.Common.{◌≡◌, sym, ◌∙◌, arith, rules}
 use Rattle.layouts.proofs.PassLaws.{every_next}
 use Rattle.profile.proofs.CountLaws.{every_none}
-use Rattle.profile.specs.Counting.{every}
 use Rattle.console.proofs.profiles.meanings_known.Goals as goal
 
 pub loop-r-init : goal.loop-r-init

@@ -1,6 +1,4 @@
-use Rattle.std.proofs.Common.{◌≡◌, ◌+◌, ◌-◌, ◌≤◌, leb, get_or, sym, ◌∙◌, arith, rules}
-use Rattle.layouts.proofs.PassLaws.{every_next}
-use Rattle.profile.proofs.CountLaws.{every_none}
+use Rattle.std.proofs.Common.{◌≡◌, ◌+◌, ◌-◌, ◌≤◌, leb, get_or}
 use Rattle.profile.specs.Counting.{every}
 use Rattle.console.proofs.profiles.meanings_known.Given as goal
 

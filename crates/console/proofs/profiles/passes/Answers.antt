@@ -1,4 +1,4 @@
-use Rattle.std.proofs.Common.{sym, ◌∙◌, rules}
+use Rattle.std.proofs.Common.{sym, ◌∙◌}
 use Rattle.layouts.proofs.PassLaws.{passes_not, passes_by, passes_other}
 use Rattle.console.proofs.profiles.passes.Goals as goal
 

@@ -1,4 +1,3 @@
-use Rattle.std.proofs.Common.{rules}
 use Rattle.layouts.specs.Profiles.{profile_from}
 use Rattle.console.proofs.profiles.profile_from.Goals as goal
 

@@ -1,5 +1,5 @@
-use Rattle.std.proofs.Common.{◌-◌, ◌*◌, ◌≤◌, sym, ◌∙◌, arith, rules}
-use Rattle.layouts.proofs.PassLaws.{Passed, passed_none, passed_not, row_left, passed_more, passed_spare, passed_end}
+use Rattle.std.proofs.Common.{sym, ◌∙◌, arith, rules}
+use Rattle.layouts.proofs.PassLaws.{passed_none, passed_not, row_left, passed_more, passed_spare, passed_end}
 use Rattle.console.proofs.profiles.rows_pass.Goals as goal
 
 pub loop-p-init : goal.loop-p-init

@@ -1,5 +1,5 @@
-use Rattle.std.proofs.Common.{◌-◌, ◌*◌, ◌≤◌, sym, ◌∙◌, arith, rules}
-use Rattle.layouts.proofs.PassLaws.{Passed, passed_none, passed_not, row_left, passed_more, passed_spare, passed_end}
+use Rattle.std.proofs.Common.{◌-◌, ◌*◌, ◌≤◌}
+use Rattle.layouts.proofs.PassLaws.{Passed}
 use Rattle.console.proofs.profiles.rows_pass.Given as goal
 
 abbrev pub invariant-loop-p : goal.invariant-loop-p

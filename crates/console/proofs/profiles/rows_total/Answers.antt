@@ -1,6 +1,5 @@
-use Rattle.std.proofs.Common.{◌≡◌, ◌+◌, ◌-◌, ◌*◌, ◌≤◌, get_or, sym, ◌∙◌, arith, rules}
+use Rattle.std.proofs.Common.{◌≡◌, sym, ◌∙◌, arith, rules}
 use Rattle.profile.proofs.CountLaws.{sum_none, sum_more}
-use Rattle.profile.specs.Counting.{sum}
 use Rattle.console.proofs.profiles.rows_total.Goals as goal
 
 pub loop-k-init : goal.loop-k-init

@@ -1,5 +1,4 @@
-use Rattle.std.proofs.Common.{◌≡◌, ◌+◌, ◌-◌, ◌*◌, ◌≤◌, get_or, sym, ◌∙◌, arith, rules}
-use Rattle.profile.proofs.CountLaws.{sum_none, sum_more}
+use Rattle.std.proofs.Common.{◌≡◌, ◌+◌, ◌-◌, ◌*◌, ◌≤◌, get_or}
 use Rattle.profile.specs.Counting.{sum}
 use Rattle.console.proofs.profiles.rows_total.Given as goal
 

@@ -1,4 +1,4 @@
-use Rattle.std.proofs.Common.{get_or-drop, rules}
+use Rattle.std.proofs.Common.{get_or-drop}
 use Rattle.layouts.proofs.ByteLaws.{byte_here}
 use Rattle.layouts.specs.Profiles.{share_from}
 use Rattle.console.proofs.profiles.share_at.Goals as goal

@@ -1,7 +1,6 @@
-use Rattle.std.proofs.Common.{◌≡◌, ◌+◌, ◌-◌, ◌*◌, ◌≤◌, length, drop, refl, rules}
-use Rattle.layouts.proofs.ByteLaws.{rows_left, rows_start, rows_more, rows_end}
-use Rattle.layouts.specs.Bytes.{rows_from}
-use Rattle.layouts.specs.Profiles.{share_from, shares_from}
+use Rattle.std.proofs.Common.{◌+◌, ◌*◌, refl, rules}
+use Rattle.layouts.proofs.ByteLaws.{rows_start, rows_more, rows_end}
+use Rattle.layouts.specs.Profiles.{shares_from}
 use Rattle.console.proofs.profiles.shares_from.Goals as goal
 
 pub loop-p-init : goal.loop-p-init

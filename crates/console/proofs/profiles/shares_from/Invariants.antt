@@ -1,7 +1,7 @@
-use Rattle.std.proofs.Common.{◌≡◌, ◌+◌, ◌-◌, ◌*◌, ◌≤◌, length, drop, refl, rules}
-use Rattle.layouts.proofs.ByteLaws.{rows_left, rows_start, rows_more, rows_end}
+use Rattle.std.proofs.Common.{◌≡◌, ◌-◌, ◌≤◌, length, drop}
+use Rattle.layouts.proofs.ByteLaws.{rows_left}
 use Rattle.layouts.specs.Bytes.{rows_from}
-use Rattle.layouts.specs.Profiles.{share_from, shares_from}
+use Rattle.layouts.specs.Profiles.{share_from}
 use Rattle.console.proofs.profiles.shares_from.Given as goal
 
 abbrev pub invariant-loop-p : goal.invariant-loop-p

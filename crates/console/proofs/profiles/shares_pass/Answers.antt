@@ -1,4 +1,4 @@
-use Rattle.std.proofs.Common.{◌∙◌, rules}
+use Rattle.std.proofs.Common.{◌∙◌}
 use Rattle.layouts.proofs.PassLaws.{shares_kept, none_kept, many_kept}
 use Rattle.console.proofs.profiles.shares_pass.Goals as goal
 

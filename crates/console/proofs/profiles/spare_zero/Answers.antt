@@ -1,6 +1,5 @@
-use Rattle.std.proofs.Common.{◌≡◌, ◌-◌, length, drop, rules}
+use Rattle.std.proofs.Common.{rules}
 use Rattle.layouts.proofs.ByteLaws.{zero_more, zero_not, zero_end}
-use Rattle.layouts.specs.Bytes.{are_zero}
 use Rattle.layouts.specs.Profiles.{spare_zero}
 use Rattle.console.proofs.profiles.spare_zero.Goals as goal
 

@@ -1,5 +1,4 @@
-use Rattle.std.proofs.Common.{◌≡◌, ◌-◌, length, drop, rules}
-use Rattle.layouts.proofs.ByteLaws.{zero_more, zero_not, zero_end}
+use Rattle.std.proofs.Common.{◌≡◌, ◌-◌, length, drop}
 use Rattle.layouts.specs.Bytes.{are_zero}
 use Rattle.layouts.specs.Profiles.{spare_zero}
 use Rattle.console.proofs.profiles.spare_zero.Given as goal

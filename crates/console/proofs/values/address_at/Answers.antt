@@ -1,4 +1,4 @@
-use Rattle.std.proofs.Common.{drop-drop, rules}
+use Rattle.std.proofs.Common.{drop-drop}
 use Rattle.layouts.proofs.ByteLaws.{byte_here}
 use Rattle.layouts.specs.Values.{address_from}
 use Rattle.console.proofs.values.address_at.Goals as goal

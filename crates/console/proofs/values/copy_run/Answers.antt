@@ -1,5 +1,4 @@
-use Rattle.std.proofs.Common.{◌≡◌, ◌-◌, ◌≤◌, length, take, refl, arith, rules}
-use lib.Seq.{sets}
+use Rattle.std.proofs.Common.{◌≡◌, refl, arith, rules}
 use Rattle.console.proofs.LayLaws.{copy_turn}
 use Rattle.console.proofs.values.copy_run.Goals as goal
 

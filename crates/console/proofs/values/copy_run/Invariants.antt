@@ -1,6 +1,5 @@
-use Rattle.std.proofs.Common.{◌≡◌, ◌-◌, ◌≤◌, length, take, refl, arith, rules}
+use Rattle.std.proofs.Common.{◌≡◌, ◌-◌, ◌≤◌, length, take}
 use lib.Seq.{sets}
-use Rattle.console.proofs.LayLaws.{copy_turn}
 use Rattle.console.proofs.values.copy_run.Given as goal
 
 abbrev pub invariant-loop-i : goal.invariant-loop-i

@@ -1,7 +1,6 @@
-use Rattle.std.proofs.Common.{◌≡◌, ◌+◌, ◌-◌, ◌*◌, ◌≤◌, length, drop, refl, drop-drop, rules}
-use Rattle.layouts.proofs.ByteLaws.{byte_here, rows_left, rows_start, rows_more, rows_end}
-use Rattle.layouts.specs.Bytes.{rows_from}
-use Rattle.layouts.specs.Values.{address_from, group_from}
+use Rattle.std.proofs.Common.{◌+◌, ◌*◌, refl, drop-drop, rules}
+use Rattle.layouts.proofs.ByteLaws.{byte_here, rows_start, rows_more, rows_end}
+use Rattle.layouts.specs.Values.{group_from}
 use Rattle.console.proofs.values.group_at.Goals as goal
 
 pub loop-i-init : goal.loop-i-init

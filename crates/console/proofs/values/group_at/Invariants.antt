@@ -1,7 +1,7 @@
-use Rattle.std.proofs.Common.{◌≡◌, ◌+◌, ◌-◌, ◌*◌, ◌≤◌, length, drop, refl, drop-drop, rules}
-use Rattle.layouts.proofs.ByteLaws.{byte_here, rows_left, rows_start, rows_more, rows_end}
+use Rattle.std.proofs.Common.{◌≡◌, ◌+◌, ◌-◌, ◌≤◌, length, drop}
+use Rattle.layouts.proofs.ByteLaws.{rows_left}
 use Rattle.layouts.specs.Bytes.{rows_from}
-use Rattle.layouts.specs.Values.{address_from, group_from}
+use Rattle.layouts.specs.Values.{address_from}
 use Rattle.console.proofs.values.group_at.Given as goal
 
 abbrev pub invariant-loop-i : goal.invariant-loop-i

@@ -1,4 +1,3 @@
-use Rattle.std.proofs.Common.{rules}
 use Rattle.layouts.specs.Values.{lists_from}
 use Rattle.console.proofs.values.lists_from.Goals as goal
 

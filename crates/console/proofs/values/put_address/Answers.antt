@@ -1,4 +1,3 @@
-use Rattle.std.proofs.Common.{rules}
 use Rattle.layouts.proofs.PutLaws.{address_put}
 use Rattle.console.proofs.values.put_address.Goals as goal
 

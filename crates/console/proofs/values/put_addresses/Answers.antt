@@ -1,8 +1,6 @@
-use Rattle.std.proofs.Common.{◌≡◌, ◌-◌, ◌≤◌, length, refl, arith, rules}
-use lib.Seq.{sets}
-use Rattle.layouts.proofs.ByteLaws.{bytes_left, bytes_start, bytes_more, bytes_end, bytes_same}
+use Rattle.std.proofs.Common.{refl, arith, rules}
+use Rattle.layouts.proofs.ByteLaws.{bytes_start, bytes_more, bytes_end, bytes_same}
 use Rattle.layouts.proofs.PutLaws.{length_address}
-use Rattle.layouts.specs.Bytes.{rows_bytes}
 use Rattle.layouts.specs.Values.{address_bytes}
 use Rattle.message.specs.Addresses.{nobody}
 use Rattle.console.proofs.values.put_addresses.Goals as goal

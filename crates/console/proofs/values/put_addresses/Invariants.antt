@@ -1,10 +1,9 @@
-use Rattle.std.proofs.Common.{◌≡◌, ◌-◌, ◌≤◌, length, refl, arith, rules}
+use Rattle.std.proofs.Common.{◌≡◌, ◌-◌, ◌≤◌, length}
 use lib.Seq.{sets}
-use Rattle.layouts.proofs.ByteLaws.{bytes_left, bytes_start, bytes_more, bytes_end, bytes_same}
+use Rattle.layouts.proofs.ByteLaws.{bytes_left}
 use Rattle.layouts.proofs.PutLaws.{length_address}
 use Rattle.layouts.specs.Bytes.{rows_bytes}
 use Rattle.layouts.specs.Values.{address_bytes}
-use Rattle.message.specs.Addresses.{nobody}
 use Rattle.console.proofs.values.put_addresses.Given as goal
 
 abbrev pub invariant-loop-i : goal.invariant-loop-i

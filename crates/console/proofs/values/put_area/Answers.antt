@@ -1,4 +1,4 @@
-use Rattle.std.proofs.Common.{take, ◌∙◌, arith, rules}
+use Rattle.std.proofs.Common.{take, ◌∙◌, arith}
 use Rattle.console.proofs.LayLaws.{copied_all, copied_front}
 use Rattle.layouts.proofs.PutLaws.{same_sets}
 use Rattle.console.proofs.values.put_area.Goals as goal

@@ -1,7 +1,5 @@
-use Rattle.std.proofs.Common.{◌≡◌, ◌-◌, ◌≤◌, length, refl, one-mul, arith, rules}
-use lib.Seq.{sets}
-use Rattle.layouts.proofs.ByteLaws.{bytes_left, bytes_start, bytes_more, bytes_end, bytes_same}
-use Rattle.layouts.specs.Bytes.{rows_bytes}
+use Rattle.std.proofs.Common.{refl, one-mul, arith, rules}
+use Rattle.layouts.proofs.ByteLaws.{bytes_start, bytes_more, bytes_end, bytes_same}
 use Rattle.layouts.specs.Values.{byte_bytes}
 use Rattle.console.proofs.values.put_bytes.Goals as goal
 

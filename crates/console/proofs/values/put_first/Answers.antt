@@ -1,4 +1,3 @@
-use Rattle.std.proofs.Common.{rules}
 use Rattle.layouts.proofs.PutLaws.{numbers_put}
 use Rattle.console.proofs.values.put_first.Goals as goal
 

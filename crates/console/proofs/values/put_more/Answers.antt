@@ -1,4 +1,3 @@
-use Rattle.std.proofs.Common.{rules}
 use Rattle.layouts.proofs.PutLaws.{same_sets, more_put}
 use Rattle.layouts.specs.Values.{more_bytes}
 use Rattle.console.proofs.values.put_more.Goals as goal

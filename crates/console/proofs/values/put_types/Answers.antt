@@ -1,4 +1,4 @@
-use Rattle.std.proofs.Common.{[], rules}
+use Rattle.std.proofs.Common.{[]}
 use Rattle.layouts.proofs.PutLaws.{types_put}
 use Rattle.console.proofs.values.put_types.Goals as goal
 

@@ -1,4 +1,3 @@
-use Rattle.std.proofs.Common.{rules}
 use Rattle.layouts.proofs.ListLaws.{none_put}
 use Rattle.layouts.proofs.PutLaws.{same_sets, value_put}
 use Rattle.layouts.specs.Values.{value_bytes}

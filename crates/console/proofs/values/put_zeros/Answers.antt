@@ -1,4 +1,4 @@
-use Rattle.std.proofs.Common.{◌∙◌, rules}
+use Rattle.std.proofs.Common.{◌∙◌}
 use Rattle.layouts.proofs.ListLaws.{zeros_all}
 use Rattle.console.proofs.values.put_zeros.Goals as goal
 

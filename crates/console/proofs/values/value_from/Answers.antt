@@ -1,4 +1,3 @@
-use Rattle.std.proofs.Common.{rules}
 use Rattle.layouts.proofs.ByteLaws.{value_from_all}
 use Rattle.console.proofs.values.value_from.Goals as goal
 

@@ -1,5 +1,4 @@
-use Rattle.std.proofs.Common.{◌≡◌, ◌-◌, ◌≤◌, length, replicate, refl, arith, rules}
-use lib.Seq.{sets}
+use Rattle.std.proofs.Common.{◌≡◌, ◌-◌, refl, arith, rules}
 use Rattle.layouts.proofs.ListLaws.{zeros_more}
 use Rattle.console.proofs.values.zeros_to.Goals as goal
 

@@ -1,6 +1,5 @@
-use Rattle.std.proofs.Common.{◌≡◌, ◌-◌, ◌≤◌, length, replicate, refl, arith, rules}
+use Rattle.std.proofs.Common.{◌≡◌, ◌-◌, ◌≤◌, length, replicate}
 use lib.Seq.{sets}
-use Rattle.layouts.proofs.ListLaws.{zeros_more}
 use Rattle.console.proofs.values.zeros_to.Given as goal
 
 abbrev pub invariant-loop-at : goal.invariant-loop-at

@@ -1,4 +1,3 @@
-use Rattle.std.proofs.Common.{rules}
 use Rattle.console.proofs.LayLaws.{ahead_there, ahead_past, ahead_last}
 use Rattle.console.proofs.word.ahead.Goals as goal
 

@@ -1,4 +1,4 @@
-use Rattle.std.proofs.Common.{◌∙◌, rules}
+use Rattle.std.proofs.Common.{◌∙◌}
 use Rattle.console.proofs.LayLaws.{bit_is}
 use Rattle.console.proofs.word.bit.Goals as goal
 

@@ -1,4 +1,4 @@
-use Rattle.std.proofs.Common.{arith, rules}
+use Rattle.std.proofs.Common.{arith}
 use Rattle.bits.proofs.FieldLaws.{field_below}
 use Rattle.console.proofs.word.four.Goals as goal
 

@@ -1,4 +1,3 @@
-use Rattle.std.proofs.Common.{rules}
 use Rattle.console.proofs.LayLaws.{take_is}
 use Rattle.console.proofs.word.take.Goals as goal
 

@@ -1,4 +1,4 @@
-use Rattle.std.proofs.Common.{◌∙◌, arith, rules}
+use Rattle.std.proofs.Common.{◌∙◌, arith}
 use Rattle.bits.proofs.FieldLaws.{field_is}
 use Rattle.console.proofs.LayLaws.{window_past, window_there}
 use Rattle.console.proofs.word.window.Goals as goal

@@ -1,4 +1,3 @@
-use borrow.Author.Rules.{rules}
 use Rattle.desk.proofs.DeskLaws.{open_is}
 use Rattle.desk.proofs.Desk.open.Goals as goal
 

@@ -1,5 +1,4 @@
 use mathlib.Core.Path.{refl, ◌∙◌}
-use borrow.Author.Rules.{rules}
 use Rattle.desk.proofs.EndLaws.{end_found, end_not, decide_14, decide_end, ending_sound, accepted_by_lem}
 use Rattle.desk.proofs.KeepLaws.{refused_plain}
 use Rattle.desk.proofs.PostLaws.{desk_profile}

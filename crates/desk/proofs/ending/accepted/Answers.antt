@@ -1,4 +1,3 @@
-use borrow.Author.Rules.{rules}
 use Rattle.desk.proofs.EndLaws.{same_fits, accepted_moves, accepted_proceeds}
 use Rattle.sending.proofs.AckLaws.{accepted_sends}
 use Rattle.sending.proofs.SentLaws.{one_sent}

@@ -1,5 +1,4 @@
 use mathlib.Core.Path.{refl}
-use borrow.Author.Rules.{rules}
 use Rattle.desk.proofs.EndLaws.{cancel_16, cancel_14, cancel_19, cancel_done, decided}
 use Rattle.desk.proofs.KeepLaws.{refused_plain}
 use Rattle.desk.proofs.NoticeLaws.{cancel_sends}

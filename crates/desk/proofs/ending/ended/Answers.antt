@@ -1,4 +1,3 @@
-use borrow.Author.Rules.{rules}
 use Rattle.desk.specs.Steps.{ended_step}
 use Rattle.desk.proofs.ending.ended.Goals as goal
 

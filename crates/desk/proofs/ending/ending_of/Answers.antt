@@ -1,5 +1,4 @@
 use mathlib.Core.Path.{ap}
-use borrow.Author.Rules.{rules}
 use Rattle.desk.proofs.EndLaws.{ending_here, ending_20, ending_19}
 use Rattle.desk.proofs.ending.ending_of.Goals as goal
 

@@ -1,4 +1,3 @@
-use borrow.Author.Rules.{rules}
 use Rattle.desk.proofs.EndLaws.{moved_18, moved_is}
 use Rattle.desk.proofs.NoticeLaws.{request_sends}
 use Rattle.sending.proofs.SentLaws.{one_sent}

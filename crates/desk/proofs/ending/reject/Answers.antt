@@ -1,5 +1,4 @@
 use native.Mathlib.Omega.{arith}
-use borrow.Author.Rules.{rules}
 use Rattle.desk.proofs.EndLaws.{reject_2, reject_16, reject_decide}
 use Rattle.desk.proofs.KeepLaws.{refused_plain, same_plain}
 use Rattle.desk.proofs.ending.reject.Goals as goal

@@ -1,5 +1,4 @@
 use mathlib.Core.Path.{refl, ◌∙◌}
-use borrow.Author.Rules.{rules}
 use Rattle.desk.proofs.EndLaws.{end_found, end_not, decide_14, decide_end, decided}
 use Rattle.desk.proofs.KeepLaws.{refused_plain}
 use Rattle.desk.proofs.NoticeLaws.{rejected_sends}

@@ -1,4 +1,3 @@
-use borrow.Author.Rules.{rules}
 use Rattle.desk.specs.Steps.{keeps}
 use Rattle.desk.proofs.kept.keeps.Goals as goal
 

@@ -1,4 +1,3 @@
-use borrow.Author.Rules.{rules}
 use Rattle.desk.proofs.MarkingLaws.{acks_are}
 use Rattle.records.proofs.JudgeLaws.{judged_sorted, judged_marks}
 use Rattle.desk.proofs.marking.acks.Goals as goal

@@ -1,5 +1,4 @@
 use mathlib.Core.Path.{sym, ◌∙◌}
-use borrow.Author.Rules.{rules}
 use Rattle.desk.proofs.MarkingLaws.{marking_14, marking_15, marking_21, marking_acks, asked_good}
 use Rattle.desk.proofs.PostLaws.{acks_by, refused_by}
 use Rattle.desk.proofs.marking.change.Goals as goal

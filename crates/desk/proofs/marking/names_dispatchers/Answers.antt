@@ -1,5 +1,4 @@
 use mathlib.Core.Path.{sym, ◌∙◌}
-use borrow.Author.Rules.{rules}
 use Rattle.codec.specs.Codec.{both}
 use Rattle.desk.specs.Orders.{names_dispatchers}
 use Rattle.desk.proofs.marking.names_dispatchers.Goals as goal

@@ -1,4 +1,3 @@
-use borrow.Author.Rules.{rules}
 use Rattle.desk.proofs.notice.cancel.Goals as goal
 
 pub returns : goal.returns

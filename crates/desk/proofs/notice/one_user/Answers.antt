@@ -1,4 +1,3 @@
-use borrow.Author.Rules.{rules}
 use Rattle.desk.specs.Notices.{one_user}
 use Rattle.message.specs.Groups.{nobodies}
 use Rattle.desk.proofs.notice.one_user.Goals as goal

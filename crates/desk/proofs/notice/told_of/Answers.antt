@@ -1,4 +1,3 @@
-use borrow.Author.Rules.{rules}
 use borrow.Author.Tests.{eq-eqb, ne_eqb}
 use Rattle.desk.specs.Notices.{told_of}
 use Rattle.desk.proofs.notice.told_of.Goals as goal

@@ -1,12 +1,10 @@
 use Prim.Native.Nat.{ℕ, ◌<◌}
 use mathlib.Core.Bool.{true, false}
 use mathlib.Core.Path.{◌≡◌, sym, ◌∙◌, subst}
-use borrow.Author.Rules.{rules}
 use Rattle.desk.proofs.KeepLaws.{refused_plain, state_plain}
 use Rattle.desk.proofs.NoticeLaws.{state_sends}
 use Rattle.desk.proofs.PostLaws.{interrogate_14, interrogate_15, interrogate_26, interrogate_state}
 use Rattle.message.specs.Addresses.{address_c}
-use Rattle.records.specs.Outcomes.{has}
 use Rattle.sending.proofs.SentLaws.{one_sent}
 use Rattle.desk.proofs.posted.interrogate.Goals as goal
 

@@ -1,6 +1,5 @@
 use mathlib.Core.Path.{refl}
 use lib.ListN.{length}
-use borrow.Author.Rules.{rules}
 use Rattle.desk.proofs.PostLaws.{refused_by, message_2, message_unread, message_sent}
 use Rattle.writing.proofs.RoundTrips.{read_valid}
 use Rattle.desk.proofs.posted.post_message.Goals as goal

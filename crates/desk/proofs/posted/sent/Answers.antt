@@ -1,7 +1,6 @@
 use Prim.Native.Nat.{ℕ, ◌^◌, ◌<◌}
 use mathlib.Core.Logic.{inl, inr}
 use mathlib.Core.Path.{refl, sym, subst}
-use borrow.Author.Rules.{rules}
 use borrow.Author.Tests.{eq-eqb, ne_eqb}
 use Rattle.desk.proofs.EndLaws.{accept_plain}
 use Rattle.desk.proofs.MarkingLaws.{marking_users}

@@ -1,6 +1,5 @@
 use mathlib.Core.Path.{sym, ◌∙◌}
 use native.Mathlib.Omega.{arith}
-use borrow.Author.Rules.{rules}
 use Rattle.desk.proofs.KeepLaws.{refused_plain}
 use Rattle.desk.proofs.NoticeLaws.{request_sends}
 use Rattle.desk.proofs.SetUpLaws.{admit_18, admitted_is}

@@ -1,5 +1,4 @@
 use mathlib.Core.Path.{sym, ◌∙◌}
-use borrow.Author.Rules.{rules}
 use Rattle.desk.proofs.KeepLaws.{refused_plain, free_plain, same_plain}
 use Rattle.desk.proofs.SetUpLaws.{setup_16, setup_14, setup_15, setup_17, setup_party, party_free, party_admit, setup_identifier, setup_cause}
 use Rattle.desk.proofs.setup.set_up.Goals as goal

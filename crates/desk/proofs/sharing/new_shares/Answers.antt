@@ -1,4 +1,3 @@
-use borrow.Author.Rules.{rules}
 use Rattle.desk.specs.Changes.{new_shares}
 use Rattle.profile.specs.Rules.{share_in}
 use Rattle.desk.proofs.sharing.new_shares.Goals as goal

@@ -1,4 +1,3 @@
-use borrow.Author.Rules.{rules}
 use Rattle.script.specs.Profiles.{air_of}
 use Rattle.script.proofs.profiles.air_of.Goals as goal
 

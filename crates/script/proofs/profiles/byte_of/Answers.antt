@@ -1,4 +1,3 @@
-use borrow.Author.Rules.{rules}
 use borrow.Author.Tests.{le-leb, lt-leb}
 use Rattle.script.specs.Profiles.{byte_of}
 use Rattle.script.proofs.profiles.byte_of.Goals as goal

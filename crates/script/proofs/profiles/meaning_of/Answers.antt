@@ -1,4 +1,3 @@
-use borrow.Author.Rules.{rules}
 use Rattle.script.specs.Profiles.{meaning_by}
 use Rattle.script.proofs.profiles.meaning_of.Goals as goal
 

@@ -1,4 +1,3 @@
-use borrow.Author.Rules.{rules}
 use Rattle.script.proofs.TableLaws.{sixteen}
 use Rattle.script.specs.Profiles.{meanings_of}
 use Rattle.script.proofs.profiles.meanings_of.Goals as goal

@@ -1,4 +1,3 @@
-use borrow.Author.Rules.{rules}
 use borrow.Author.Tests.{eq-eqb, ne_eqb, le-leb, lt-leb}
 use Rattle.script.specs.Profiles.{pairs_in}
 use Rattle.script.proofs.profiles.pairs_in.Goals as goal

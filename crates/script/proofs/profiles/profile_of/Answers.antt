@@ -1,4 +1,3 @@
-use borrow.Author.Rules.{rules}
 use Rattle.script.specs.Profiles.{profile_of}
 use Rattle.script.proofs.profiles.profile_of.Goals as goal
 

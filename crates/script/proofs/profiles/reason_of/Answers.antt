@@ -1,4 +1,3 @@
-use borrow.Author.Rules.{rules}
 use Rattle.script.specs.Profiles.{reason_of}
 use Rattle.script.proofs.profiles.reason_of.Goals as goal
 

@@ -1,4 +1,3 @@
-use borrow.Author.Rules.{rules}
 use Rattle.script.specs.Profiles.{rows_of}
 use Rattle.script.proofs.profiles.rows_of.Goals as goal
 

@@ -1,4 +1,3 @@
-use borrow.Author.Rules.{rules}
 use Rattle.script.specs.Profiles.{share_of}
 use Rattle.script.proofs.profiles.share_of.Goals as goal
 

@@ -1,4 +1,3 @@
-use borrow.Author.Rules.{rules}
 use Rattle.script.proofs.TableLaws.{eight}
 use Rattle.script.specs.Profiles.{share_row, shares_at}
 use Rattle.script.proofs.profiles.shares_at.Goals as goal

@@ -1,4 +1,3 @@
-use borrow.Author.Rules.{rules}
 use Rattle.script.specs.Profiles.{shares_of}
 use Rattle.script.proofs.profiles.shares_of.Goals as goal
 

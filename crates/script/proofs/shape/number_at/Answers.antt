@@ -1,11 +1,10 @@
-use Prim.Native.Nat.{◌-◌, ◌^◌, ◌≤◌, ◌<◌}
-use mathlib.Core.Path.{◌≡◌, refl, sym, ◌∙◌}
+use mathlib.Core.Path.{refl, sym, ◌∙◌}
 use native.Mathlib.Omega.{arith}
-use lib.ListN.{length, get_or, drop}
+use lib.ListN.{get_or}
 use borrow.Author.Rules.{rules}
 use Rattle.lines.proofs.ShapeLaws.{digit_worth, hex_most, digits_lt}
 use Rattle.script.proofs.ShapeLaws.{number_few, number_end, number_stop, number_many, number_more}
-use Rattle.script.specs.Shape.{digits_then, number_at}
+use Rattle.script.specs.Shape.{number_at}
 use Rattle.script.proofs.shape.number_at.Goals as goal
 
 pub loop-i-init : goal.loop-i-init

@@ -1,10 +1,6 @@
 use Prim.Native.Nat.{◌-◌, ◌^◌, ◌≤◌, ◌<◌}
-use mathlib.Core.Path.{◌≡◌, refl, sym, ◌∙◌}
-use native.Mathlib.Omega.{arith}
-use lib.ListN.{length, get_or, drop}
-use borrow.Author.Rules.{rules}
-use Rattle.lines.proofs.ShapeLaws.{digit_worth, hex_most, digits_lt}
-use Rattle.script.proofs.ShapeLaws.{number_few, number_end, number_stop, number_many, number_more}
+use mathlib.Core.Path.{◌≡◌}
+use lib.ListN.{length, drop}
 use Rattle.script.specs.Shape.{digits_then, number_at}
 use Rattle.script.proofs.shape.number_at.Given as goal
 

@@ -1,4 +1,3 @@
-use borrow.Author.Rules.{rules}
 use borrow.Author.Tests.{le-leb, lt-leb}
 use Rattle.script.specs.Shape.{number_if}
 use Rattle.script.proofs.shape.number_if.Goals as goal

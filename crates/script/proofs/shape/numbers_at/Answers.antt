@@ -1,11 +1,9 @@
-use Prim.Native.Nat.{◌-◌, ◌≤◌}
-use mathlib.Core.Path.{◌≡◌, sym, ◌∙◌}
+use mathlib.Core.Path.{sym, ◌∙◌}
 use native.Mathlib.Nat.{sub-zero}
 use native.Mathlib.Omega.{arith}
-use lib.ListN.{length}
 use borrow.Author.Rules.{rules}
 use Rattle.script.proofs.ShapeLaws.{row_full, row_none, row_end, row_other, row_more}
-use Rattle.script.specs.Shape.{no_row, numbers_from, numbers_at}
+use Rattle.script.specs.Shape.{no_row, numbers_at}
 use Rattle.script.proofs.shape.numbers_at.Goals as goal
 
 pub loop-count-init : goal.loop-count-init

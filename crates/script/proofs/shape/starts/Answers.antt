@@ -1,9 +1,6 @@
-use Prim.Native.Nat.{◌-◌, ◌≤◌}
-use mathlib.Core.Path.{◌≡◌, refl, sym, ◌∙◌}
-use lib.ListN.{length, drop}
+use mathlib.Core.Path.{refl, sym, ◌∙◌}
 use borrow.Author.Rules.{rules}
 use Rattle.script.proofs.ShapeLaws.{starts_all, starts_short, starts_other, starts_more}
-use Rattle.script.specs.Shape.{starts_with}
 use Rattle.script.proofs.shape.starts.Goals as goal
 
 pub loop-i-init : goal.loop-i-init

@@ -1,8 +1,6 @@
 use Prim.Native.Nat.{◌-◌, ◌≤◌}
-use mathlib.Core.Path.{◌≡◌, refl, sym, ◌∙◌}
+use mathlib.Core.Path.{◌≡◌}
 use lib.ListN.{length, drop}
-use borrow.Author.Rules.{rules}
-use Rattle.script.proofs.ShapeLaws.{starts_all, starts_short, starts_other, starts_more}
 use Rattle.script.specs.Shape.{starts_with}
 use Rattle.script.proofs.shape.starts.Given as goal
 

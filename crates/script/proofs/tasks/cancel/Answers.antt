@@ -1,4 +1,3 @@
-use borrow.Author.Rules.{rules}
 use borrow.Author.Tests.{eq-eqb, ne_eqb}
 use Rattle.script.specs.Lines.{cancel_task}
 use Rattle.script.proofs.tasks.cancel.Goals as goal

@@ -1,4 +1,3 @@
-use borrow.Author.Rules.{rules}
 use borrow.Author.Tests.{eq-eqb, ne_eqb, le-leb, lt-leb}
 use Rattle.script.specs.Lines.{cause_task}
 use Rattle.script.proofs.tasks.cause.Goals as goal

@@ -1,4 +1,3 @@
-use borrow.Author.Rules.{rules}
 use borrow.Author.Tests.{eq-eqb, ne_eqb}
 use Rattle.script.specs.Lines.{reject_task}
 use Rattle.script.proofs.tasks.reject.Goals as goal

@@ -1,4 +1,3 @@
-use borrow.Author.Rules.{rules}
 use borrow.Author.Tests.{le-leb, lt-leb}
 use Rattle.script.specs.Lines.{set_up_task}
 use Rattle.script.proofs.tasks.set_up.Goals as goal

@@ -1,4 +1,3 @@
-use borrow.Author.Rules.{rules}
 use borrow.Author.Tests.{lt-ltb, le-ltb}
 use Rattle.blocks.proofs.BlockLaws.{wrote_none}
 use Rattle.words.specs.Words.{ack_bits}

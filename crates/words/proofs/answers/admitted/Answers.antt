@@ -1,4 +1,3 @@
-use borrow.Author.Rules.{rules}
 use Rattle.blocks.proofs.BlockLaws.{wrote_join}
 use Rattle.words.specs.Words.{admitted_words}
 use Rattle.words.proofs.answers.admitted.Goals as goal

@@ -1,4 +1,3 @@
-use borrow.Author.Rules.{rules}
 use Rattle.blocks.proofs.BlockLaws.{wrote_join}
 use Rattle.words.proofs.answers.all_hex.Goals as goal
 

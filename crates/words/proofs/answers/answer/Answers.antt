@@ -1,4 +1,3 @@
-use borrow.Author.Rules.{rules}
 use Rattle.words.specs.Words.{words_of}
 use Rattle.words.proofs.answers.answer.Goals as goal
 

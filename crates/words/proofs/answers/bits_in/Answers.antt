@@ -1,4 +1,3 @@
-use borrow.Author.Rules.{rules}
 use Rattle.words.specs.Words.{bits_in}
 use Rattle.words.proofs.answers.bits_in.Goals as goal
 

@@ -1,4 +1,3 @@
-use borrow.Author.Rules.{rules}
 use borrow.Author.Tests.{eq-eqb, ne_eqb}
 use Rattle.blocks.proofs.BlockLaws.{wrote_none, wrote_join}
 use Rattle.words.specs.Words.{broke_words}

@@ -1,4 +1,3 @@
-use borrow.Author.Rules.{rules}
 use Rattle.words.specs.Words.{change_words}
 use Rattle.words.proofs.answers.change.Goals as goal
 

@@ -1,6 +1,5 @@
 use mathlib.Core.List.{◌++◌}
 use mathlib.Core.Path.{sym, ap}
-use borrow.Author.Rules.{rules}
 use Rattle.blocks.proofs.BlockLaws.{wrote_as}
 use Rattle.words.proofs.WordLaws.{word_on}
 use Rattle.words.specs.Words.{first_words, later_words, last_words, element_words, word_in, element_word}

@@ -1,5 +1,4 @@
 use mathlib.Core.Path.{sym, ap}
-use borrow.Author.Rules.{rules}
 use Rattle.blocks.proofs.BlockLaws.{wrote_none, wrote_as}
 use Rattle.words.proofs.WordLaws.{word_out}
 use Rattle.words.specs.Words.{last_words, word_in}

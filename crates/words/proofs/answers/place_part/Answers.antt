@@ -1,4 +1,3 @@
-use borrow.Author.Rules.{rules}
 use Rattle.blocks.proofs.BlockLaws.{wrote_none, wrote_join}
 use Rattle.words.specs.Words.{place_words}
 use Rattle.words.proofs.answers.place_part.Goals as goal

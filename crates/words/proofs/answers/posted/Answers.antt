@@ -1,5 +1,4 @@
 use mathlib.Core.List.{append_assoc}
-use borrow.Author.Rules.{rules}
 use Rattle.blocks.proofs.BlockLaws.{wrote_join}
 use Rattle.words.specs.Words.{post_words}
 use Rattle.words.proofs.answers.posted.Goals as goal

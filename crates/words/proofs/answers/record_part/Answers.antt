@@ -1,4 +1,3 @@
-use borrow.Author.Rules.{rules}
 use Rattle.blocks.proofs.BlockLaws.{wrote_none, wrote_join}
 use Rattle.words.specs.Words.{record_words}
 use Rattle.words.proofs.answers.record_part.Goals as goal

@@ -1,4 +1,3 @@
-use borrow.Author.Rules.{rules}
 use Rattle.words.specs.Words.{refused_of}
 use Rattle.words.proofs.answers.refused.Goals as goal
 

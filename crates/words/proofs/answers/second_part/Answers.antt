@@ -1,4 +1,3 @@
-use borrow.Author.Rules.{rules}
 use Rattle.blocks.proofs.BlockLaws.{wrote_none}
 use Rattle.words.specs.Words.{second_words}
 use Rattle.words.proofs.answers.second_part.Goals as goal

@@ -1,4 +1,3 @@
-use borrow.Author.Rules.{rules}
 use Rattle.blocks.proofs.BlockLaws.{wrote_join}
 use Rattle.words.specs.Words.{state_words}
 use Rattle.words.proofs.answers.told.Goals as goal

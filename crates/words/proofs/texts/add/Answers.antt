@@ -1,5 +1,3 @@
-use borrow.Author.Rules.{rules}
-use Rattle.desk.specs.Steps.{ends}
 use Rattle.words.proofs.texts.add.Goals as goal
 
 pub returns : goal.returns

@@ -1,4 +1,3 @@
-use borrow.Author.Rules.{rules}
 use Rattle.words.specs.Words.{hex_pair}
 use Rattle.words.proofs.texts.add_byte.Goals as goal
 

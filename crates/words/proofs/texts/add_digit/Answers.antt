@@ -1,4 +1,3 @@
-use borrow.Author.Rules.{rules}
 use Rattle.blocks.proofs.BlockLaws.{wrote_none}
 use Rattle.words.specs.Words.{digit_if}
 use Rattle.words.proofs.texts.add_digit.Goals as goal

@@ -1,4 +1,3 @@
-use borrow.Author.Rules.{rules}
 use Rattle.words.specs.Words.{field_of}
 use Rattle.words.proofs.texts.add_field.Goals as goal
 

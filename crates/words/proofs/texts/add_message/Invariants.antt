@@ -1,12 +1,8 @@
-use Prim.Native.Nat.{suc, ◌+◌, ◌-◌, ◌≤◌}
+use Prim.Native.Nat.{◌+◌, ◌≤◌}
 use mathlib.Core.Path.{◌≡◌}
-use native.Mathlib.Omega.{arith}
 use lib.ListN.{length}
-use borrow.Author.Rules.{rules}
 use Rattle.blocks.proofs.BlockLaws.{Yet}
-use Rattle.profile.specs.Counting.{one}
-use Rattle.words.proofs.WordLaws.{byte_turn, bytes_over}
-use Rattle.words.specs.Words.{hex_from, message_hex}
+use Rattle.words.specs.Words.{hex_from}
 use Rattle.words.proofs.texts.add_message.Given as goal
 
 abbrev pub invariant-loop-left : goal.invariant-loop-left

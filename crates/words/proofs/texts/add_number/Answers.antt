@@ -1,12 +1,9 @@
-use Prim.Native.Nat.{suc, ◌-◌, ◌^◌, ◌≤◌}
+use Prim.Native.Nat.{suc, ◌-◌}
 use mathlib.Core.Path.{◌≡◌, refl}
 use native.Mathlib.Omega.{arith}
-use lib.ListN.{length}
 use borrow.Author.Rules.{rules}
-use Rattle.blocks.proofs.BlockLaws.{Yet}
-use Rattle.profile.specs.Counting.{one}
 use Rattle.words.proofs.WordLaws.{power_some, power_less, digit_turn, digits_over}
-use Rattle.words.specs.Words.{digits_from, decimal_of}
+use Rattle.words.specs.Words.{decimal_of}
 use Rattle.words.proofs.texts.add_number.Goals as goal
 
 pub loop-left-init : goal.loop-left-init

@@ -1,4 +1,3 @@
-use borrow.Author.Rules.{rules}
 use borrow.Author.Tests.{lt-ltb, le-ltb}
 use Rattle.words.specs.Words.{hex_digit}
 use Rattle.words.proofs.texts.hex_digit.Goals as goal
