@@ -9,7 +9,7 @@ use native.Mathlib.Numerals.{add-one}
 use native.Mathlib.Omega.{arith}
 use borrow.Author.Tests.{eq-eqb, ne_eqb, eqb-false}
 use lib.Dec.{eqb}
-use lib.ListN.{length, get_or, set, take, drop, length-append, drop_of_length-le}
+use lib.ListN.{length, get_or, set, take, length-append, drop_of_length-le}
 use lib.Seq.{sets, length-sets, take_all, take-length, take-append-le, take-append-add, take-suc, drop-cons, length-take-le}
 use Rattle.bits.proofs.SetLaws.{lt_or}
 use Rattle.blocks.specs.Blocks.{before_lf, line_end, fits, text_end, put_text, Wrote}

@@ -4,6 +4,7 @@
 // not put and every byte is decided (specs/Blocks). The bounds beside them follow, and are said for those who go on from there. `keep` puts
 // one more piece after a text, of which the first 1,152 bytes are kept (specs/Texts, proofs/TextLaws).
 #![tactic(auto)]
+
 ghost use Rattle.std.specs.Prelude.{◌≡◌, false, ◌+◌, ◌-◌, ◌≤◌, min, length, take};
 ghost use Rattle.blocks.specs.Blocks.{line_end, text_end, put_text};
 ghost use Rattle.blocks.specs.Texts.{no_text, keep_of};
@@ -49,6 +50,7 @@ fn has_lf(block: &[u8], from: usize) -> bool
 }
 
 // The same byte by byte.
+#[tactic(auto, using(crate::proofs::BlockLaws::at_lf))]
 fn next_lf(block: &[u8], from: usize) -> usize
     ensures { (result ≡ line_end block.now from) × ((from ≤ result) × (result ≤ from + (length block.now - from))) }
 {

@@ -1,6 +1,7 @@
 // Document 01's worked cases 10 and 12: run, and said in words. What must come out was worked out by hand from the paper. proofs/Worked
 // has the others, those that it marks (P), as one checked list.
 #![tactic(auto)]
+
 use desk::{Answer, Desk, Event, Stepped};
 use records::{Identity, Record};
 

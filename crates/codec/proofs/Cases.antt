@@ -2,7 +2,7 @@
 -- its header, whole, cut at each element, and refused. Assumes nothing.
 use Prim.Native.Nat.{ℕ}
 use mathlib.Core.Path.{◌≡◌, refl}
-use mathlib.Core.Bool.{Bool, true, false, ◌||◌}
+use mathlib.Core.Bool.{true, false, ◌||◌}
 use mathlib.Core.List as list
 use mathlib.Core.List.{List, [], ◌∷◌}
 use lib.Dec.{eqb}

@@ -16,7 +16,7 @@ use Rattle.bits.proofs.SetLaws.{lt_or}
 use Rattle.bits.proofs.Stands.{AreBits, Stands, stands_left, stands_right, stands_join, bits_join}
 use Rattle.bits.proofs.RoundLaws.{binary_bits, binary_read, read_binary}
 use Rattle.codec.specs.Stops.{short, refusal}
-use Rattle.codec.specs.Codec.{takes, both, first_of, none_of, grounds_of, Read, got, no, bind, Codec, number, pure, guard, seq, map, choose, vec, vec_read, vec_order, vec_bits, vec_ok, vec_then}
+use Rattle.codec.specs.Codec.{both, first_of, none_of, grounds_of, Read, got, no, bind, Codec, number, pure, guard, seq, map, choose, vec, vec_read, vec_order, vec_bits, vec_ok, vec_then}
 use Rattle.codec.proofs.Good.{both_true, both_left, both_right, not_both, Binary, Agree, Found, View, refused, found, Told, Ended, came, Good}
 use Rattle.codec.proofs.GroundLaws.{told_then, told_map, told_test}
 use Rattle.codec.proofs.BreakLaws.{number_ended, guard_ended, map_ended, seq_ended}

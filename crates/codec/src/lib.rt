@@ -3,6 +3,7 @@
 // What is proved of codecs (proofs/): each combinator keeps `Good`, and of every good codec what is written reads back, what reads
 // as a value is valid and has the bits that stood there, and bits past the length are never looked at.
 #![tactic(auto)]
+
 ghost use Rattle.std.specs.Prelude.{◌≡◌};
 ghost use Rattle.codec.specs.Stops.{short, refusal, no_stop};
 ghost use Rattle.codec.specs.Taking.{took_of, take_of};

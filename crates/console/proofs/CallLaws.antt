@@ -146,9 +146,9 @@ module _ (profile message : List ℕ) (n : ℕ) (l : List ℕ) where
   number_of (no s) = refl
 
   -- the number that is answered
-  pub read_number : (s : Stop) → s ≡ cad_read_stop profile message n l → s.number ≡ cad_read_of profile message n l
+  pub read_number_lem : (s : Stop) → s ≡ cad_read_stop profile message n l → s.number ≡ cad_read_of profile message n l
   unfolding cad_read_stop cad_read_of
-  read_number s e = ap (λ (t : Stop). t.number) e ∙ number_of (cad_read profile message n (length l))
+  read_number_lem s e = ap (λ (t : Stop). t.number) e ∙ number_of (cad_read profile message n (length l))
 
   plain_low : (c : ℕ) → (refusal c).at ≤ 4096
   unfolding refusal

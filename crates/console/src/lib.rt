@@ -1,7 +1,8 @@
 // The C interface: reading and writing messages on numbers and byte buffers. Profile and value cross as bytes (specs/Profiles and
 // specs/Values of `layouts`); any other bytes get 1 or 22. Each function answers 0 or the refusal's number, and a refusal changes
-// nothing that was lent but the two numbers that tell of a 4.
+// nothing that was lent but the two numbers that tell of a 4. `console_c` exports the three functions to C.
 #![tactic(auto)]
+
 ghost use Rattle.std.specs.Prelude.{◌≡◌, true, false, ◌≢◌};
 ghost use Rattle.codec.specs.Stops.{no_stop};
 ghost use Rattle.console.specs.Drawing.{ReadsBack, Drawn};
@@ -21,8 +22,7 @@ mod values;
 mod word;
 
 // Reads the first `bits` bits of the message and lays the value's bytes in `value`.
-#[unsafe(no_mangle)]
-pub extern "C" fn cad_read(profile: &[u8], message: &[u8], bits: usize, value: &mut [u8]) -> u32
+pub fn cad_read(profile: &[u8], message: &[u8], bits: usize, value: &mut [u8]) -> u32
     ensures { (result ≡ cad_read_of profile.now message.now bits value.old)
         × (value.new ≡ cad_read_area profile.now message.now bits value.old) }
 {
@@ -31,8 +31,7 @@ pub extern "C" fn cad_read(profile: &[u8], message: &[u8], bits: usize, value: &
 }
 
 // The same; with a 4 also where the element that did not fit begins, and which one it is.
-#[unsafe(no_mangle)]
-pub extern "C" fn cad_read_at(
+pub fn cad_read_at(
     profile: &[u8],
     message: &[u8],
     bits: usize,
@@ -124,13 +123,7 @@ fn read_slowly(profile: &[u8], message: &[u8], bits: usize, value: &mut [u8]) ->
 }
 
 // Writes the message of the value's bytes from the first byte of `message` on, and its length into `bits`.
-#[unsafe(no_mangle)]
-pub extern "C" fn cad_write(
-    profile: &[u8],
-    value: &[u8],
-    message: &mut [u8],
-    bits: &mut usize,
-) -> u32
+pub fn cad_write(profile: &[u8], value: &[u8], message: &mut [u8], bits: &mut usize) -> u32
     ensures { (result ≡ cad_write_of profile.now value.now message.old)
         × ((message.new ≡ cad_write_area profile.now value.now message.old)
         × (bits.new ≡ cad_write_bits profile.now value.now message.old bits.old)) }

@@ -50,7 +50,7 @@ pub(crate) fn wide(x: u8) -> u64
 // None of so many bytes is over the most.
 pub(crate) fn are_up_to(l: &[u8], at: usize, count: usize, most: u8) -> bool
     requires { (at ≤ 4096) × (count ≤ 64) }
-    ensures* { λ r. ⌜ r ≡ every count (λ r. nat_le (slice_index l.now (at + r)) most) ⌝ }
+    ensures { result ≡ every count (λ r. nat_le (slice_index l.now (at + r)) most) }
 {
     let mut r: usize = 0;
     while r < count {

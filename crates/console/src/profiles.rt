@@ -48,9 +48,9 @@ fn air_passes(l: &[u8]) -> bool
 // The reasons, U and N and INTERROGATE ACK's two; then the meanings.
 fn reasons_pass(l: &[u8]) -> bool
     requires { length l.now ≡ 41 }
-    ensures* { λ r. ⌜ r ≡ both (nat_le (slice_index l.now 4) 127) (both (nat_le (slice_index l.now 5) 127)
+    ensures { result ≡ both (nat_le (slice_index l.now 4) 127) (both (nat_le (slice_index l.now 5) 127)
         (both (nat_le (slice_index l.now 39) 7) (both (nat_le (slice_index l.now 40) 7)
-        (every 16 (λ r. leb (slice_index l.now (6 + r)) 17))))) ⌝ }
+        (every 16 (λ r. leb (slice_index l.now (6 + r)) 17))))) }
 {
     if l[4] > 127 {
         return false;
@@ -70,7 +70,7 @@ fn reasons_pass(l: &[u8]) -> bool
 // The loop has no other end, so that all sixteen are compared at once.
 fn meanings_known(l: &[u8]) -> bool
     requires { length l.now ≡ 41 }
-    ensures* { λ r. ⌜ r ≡ every 16 (λ r. leb (slice_index l.now (6 + r)) 17) ⌝ }
+    ensures { result ≡ every 16 (λ r. leb (slice_index l.now (6 + r)) 17) }
 {
     let mut known = true;
     let mut r: usize = 0;

@@ -5,10 +5,14 @@ use Rattle.codec.specs.Codec.{Read, got, no}
 use Rattle.codec.specs.Taking.{took_of}
 use Rattle.codec.specs.declared.Took.{Took}
 use Rattle.codec.specs.declared.Took.TheVariants as took
-use Rattle.codec.proofs.take as take
-use Rattle.codec.proofs.short_at as short-at
-use Rattle.codec.proofs.refuse as refuse
-use Rattle.codec.proofs.no_stop as no_stop
+use Rattle.codec.specs.contracts.take as take
+use Rattle.codec.proofs.take.Reads as take-reads
+use Rattle.codec.specs.contracts.short_at as short-at
+use Rattle.codec.proofs.short_at.Reads as short-at-reads
+use Rattle.codec.specs.contracts.refuse as refuse
+use Rattle.codec.proofs.refuse.Reads as refuse-reads
+use Rattle.codec.specs.contracts.no_stop as no_stop
+use Rattle.codec.proofs.no_stop.Reads as no_stop-reads
 use Rattle.contracts.specs.Outcomes.{Decides}
 use Rattle.contracts.proofs.Law.{same_answer}
 
@@ -24,14 +28,14 @@ back_took (took.Refused s) = refl
 told : (r : Took) {z : Read ℕ} → took_of r ≡ z → r ≡ back z
 told r p = back_took r ∙ ap back p
 
-pub decides_take : Decides take.ended (λ M. take.spec)
-decides_take = record { says = take.Reads.Learnt; is = refl; one = λ κs a x y v w p q. same_answer (told x p) (told y q) }
+pub decides_take : Decides take.ended (λ M 𝓤. take.spec)
+decides_take = record { says = take-reads.Learnt; is = refl; one = λ κs a x y v w p q. same_answer (told x p) (told y q) }
 
-pub decides_short_at : Decides short-at.ended (λ M. short-at.spec)
-decides_short_at = record { says = short-at.Reads.Learnt; is = refl; one = λ κs a x y v w. same_answer }
+pub decides_short_at : Decides short-at.ended (λ M 𝓤. short-at.spec)
+decides_short_at = record { says = short-at-reads.Learnt; is = refl; one = λ κs a x y v w. same_answer }
 
-pub decides_refuse : Decides refuse.ended (λ M. refuse.spec)
-decides_refuse = record { says = refuse.Reads.Learnt; is = refl; one = λ κs a x y v w. same_answer }
+pub decides_refuse : Decides refuse.ended (λ M 𝓤. refuse.spec)
+decides_refuse = record { says = refuse-reads.Learnt; is = refl; one = λ κs a x y v w. same_answer }
 
-pub decides_no_stop : Decides no_stop.ended (λ M. no_stop.spec)
-decides_no_stop = record { says = no_stop.Reads.Learnt; is = refl; one = λ κs a x y v w. same_answer }
+pub decides_no_stop : Decides no_stop.ended (λ M 𝓤. no_stop.spec)
+decides_no_stop = record { says = no_stop-reads.Learnt; is = refl; one = λ κs a x y v w. same_answer }

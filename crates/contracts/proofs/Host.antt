@@ -11,7 +11,7 @@ use Rattle.contracts.specs.Outcomes.{Decides}
 use Rattle.contracts.proofs.Law.{same_answer, same_exit}
 
 -- the records at exit
-pub decides_set_mark : Decides set-mark.ended (λ M. set-mark.spec)
+pub decides_set_mark : Decides set-mark.ended (λ M 𝓤. set-mark.spec)
 decides_set_mark =
     record {
       says = λ κs a x e. e.0.now ≡ set_mark a.0.now a.1.0 a.1.1.0;
@@ -20,14 +20,14 @@ decides_set_mark =
     }
 
 -- the answer
-pub decides_load : Decides load.ended (λ M. load.spec)
+pub decides_load : Decides load.ended (λ M 𝓤. load.spec)
 decides_load = record { says = λ κs a x e. x ≡ loaded_of a.0.now; is = refl; one = λ κs a x y v w. same_answer }
 
 three : {A B C D : Type 0} (f : A → B → C → D) {a x : A} {b y : B} {c z : C} → a ≡ x → b ≡ y → c ≡ z → f a b c ≡ f x y z
 three f {x = x} {b = b} {y = y} {c = c} p q r = ap (λ t. f t b c) p ∙ ap (λ t. f x t c) q ∙ ap (λ t. f x y t) r
 
 -- what the host is told, and the desk, the records and the output area at exit
-pub decides_call : Decides call.ended (λ M. call.spec)
+pub decides_call : Decides call.ended (λ M 𝓤. call.spec)
 decides_call =
     record {
       says =
@@ -40,7 +40,7 @@ decides_call =
     }
 
 -- what the host is told of new shares, and the desk at exit
-pub decides_change_shares : Decides change_shares.ended (λ M. change_shares.spec)
+pub decides_change_shares : Decides change_shares.ended (λ M 𝓤. change_shares.spec)
 decides_change_shares =
     record {
       says = λ κs a x e. SharesChanged a.0.now a.1.0 x e.0.now;

@@ -11,19 +11,19 @@ use Rattle.desk.specs.contracts.step as step
 use Rattle.contracts.specs.Outcomes.{Contract, saying_of}
 
 -- `read` of a profile, bytes and a bit length
-pub reads_is : ◌≡◌ {A = Contract read.ended} (λ M. read.spec) (saying_of read.ended (λ κs a x e. Reads a.0 a.1.0.now a.1.1.0 x))
+pub reads_is : ◌≡◌ {A = Contract read.ended} (λ M 𝓤. read.spec) (saying_of read.ended (λ κs a x e. Reads a.0 a.1.0.now a.1.1.0 x))
 reads_is = refl
 
 -- `write` of a profile and a value, into an area
-pub writes_is : ◌≡◌ {A = Contract write.ended} (λ M. write.spec)
+pub writes_is : ◌≡◌ {A = Contract write.ended} (λ M 𝓤. write.spec)
     (saying_of write.ended (λ κs a x e. Writes a.0 a.1.0 a.1.1.0.now e.1.1.0.now x))
 writes_is = refl
 
 -- `Desk::open` of a profile
-pub opens_is : ◌≡◌ {A = Contract opened.ended} (λ M. opened.spec) (saying_of opened.ended (λ κs a x e. x ≡ open_of a.0))
+pub opens_is : ◌≡◌ {A = Contract opened.ended} (λ M 𝓤. opened.spec) (saying_of opened.ended (λ κs a x e. x ≡ open_of a.0))
 opens_is = refl
 
 -- `step` of a desk, records, their number, a message, an area and an event
-pub steps_is : ◌≡◌ {A = Contract step.ended} (λ M. step.spec)
+pub steps_is : ◌≡◌ {A = Contract step.ended} (λ M 𝓤. step.spec)
     (saying_of step.ended (λ κs a x e. (x ≡ step_of a.0 a.1.0 a.1.1.0 a.1.1.1.0.now a.1.1.1.1.0.now a.1.1.1.1.1.0) × (e.1.1.1.1.0.now ≡ area_after a.0 a.1.0 a.1.1.0 a.1.1.1.0.now a.1.1.1.1.0.now a.1.1.1.1.1.0)))
 steps_is = refl

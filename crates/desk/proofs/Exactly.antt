@@ -261,6 +261,7 @@ first_comes c ((s, false) ∷ rest) h e = later s rest (first_comes c rest h e)
 
 pub comes_first : (c : ℕ) (order : List Ground) → Comes c order → (first_of order).number ≡ c
 unfolding first_of
+comes_first c [] x = elim x [ ]
 comes_first c ((_, true) ∷ rest) (here _ _ e) = e
 comes_first c ((_, false) ∷ rest) (later _ _ w) = comes_first c rest w
 

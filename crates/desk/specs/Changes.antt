@@ -61,7 +61,7 @@ taken_change d shares =
     }
 
 abbrev pub refused_if : Bool → ℕ → Desk → Changed → Changed
-refused_if ground c d after = cond ground (refused_change d (refusal c)) after
+refused_if holds c d after = cond holds (refused_change d (refusal c)) after
 
 unfoldable pub change_of : Desk → List Share → Changed
 change_of d rows =

@@ -29,7 +29,7 @@ use Rattle.desk.specs.declared.Event.TheVariants as event
 
 -- the number c where the ground holds, else what comes after it in the order
 abbrev pub unless : Bool → ℕ → Answer → Answer
-unless ground c after = cond ground (answer.Refused (refusal c)) after
+unless holds c after = cond holds (answer.Refused (refusal c)) after
 
 abbrev pub posts_of : Desk → ℕ
 posts_of d = d.profile.shares.posts

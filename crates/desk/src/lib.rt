@@ -6,6 +6,7 @@
 // (specs/Changes). The files: ending (how a waiting call ends), setup, posted (a post's message by its type), marking (ACTIVATE and
 // DEACTIVATE), sharing (new shares).
 #![tactic(auto)]
+
 ghost use Rattle.std.specs.Prelude.{◌≡◌};
 ghost use Rattle.places.specs.Held.{no_places};
 ghost use Rattle.desk.specs.Changes.{change_of};

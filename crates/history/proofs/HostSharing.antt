@@ -34,7 +34,7 @@ use Rattle.history.proofs.Moving as move
 
 -- ---- what is promised of a call is the contract of `host::call`: of what is lent at entry, the answer, and what stands at exit
 
-pub promised_by_contract : ◌≡◌ {A = Contract call.ended} (λ M. call.spec)
+pub promised_by_contract : ◌≡◌ {A = Contract call.ended} (λ M 𝓤. call.spec)
     (saying_of call.ended (λ κs a x e. Promised a.0.now (record {
       rows = a.1.0.now;
       message = a.1.1.1.0.now;
@@ -48,7 +48,7 @@ pub promised_by_contract : ◌≡◌ {A = Contract call.ended} (λ M. call.spec)
 promised_by_contract = refl
 
 -- and of a change, that of `host::change_shares`
-pub sale_by_contract : ◌≡◌ {A = Contract change.ended} (λ M. change.spec)
+pub sale_by_contract : ◌≡◌ {A = Contract change.ended} (λ M 𝓤. change.spec)
     (saying_of change.ended (λ κs a x e. PromisedSale a.0.now (record { rows = a.1.0; told = x; desk = e.0.now })))
 sale_by_contract = refl
 

@@ -5,6 +5,7 @@
 // The functions on lent records or a lent desk (`set_mark`, `set_marks`, `load`, `call`, `change_shares`) are proved by walks, the others
 // as everywhere.
 #![tactic(auto)]
+
 ghost use Rattle.std.specs.Prelude.{◌≡◌, false, get_or, replicate, set};
 ghost use Rattle.records.specs.Records.{no_record};
 ghost use Rattle.host.specs.Lending.{loaded_of, set_mark, marked_by, told_of, Called, SharesChanged};
@@ -37,7 +38,8 @@ pub fn load(records: &[Record]) -> [Record; 128]
     let mut rows = no_records();
     let mut i = 0;
     while i < records.len() {
-        rows = with_record(rows, i, records[i]);
+        let next = with_record(rows, i, records[i]);
+        rows = next;
         i += 1;
     }
     rows

@@ -1,5 +1,5 @@
 -- Every message that is carried is listed under a name of its own row's type, and every name fits a text. Assumes nothing.
-use Rattle.std.proofs.Common.{◌≡◌, ℕ, ◌<◌, ◌≤◌, Bool, true, false, not, ◌||◌, ltb, leb, List, [], ◌∷◌, length, sym, refl, ap, ◌∙◌, ltb-true, leb-true}
+use Rattle.std.proofs.Common.{◌≡◌, ℕ, ◌<◌, ◌≤◌, Bool, true, not, ◌||◌, ltb, leb, length, sym, refl, ap, ◌∙◌, ltb-true, leb-true}
 use Rattle.codec.specs.Codec.{both}
 use Rattle.codec.proofs.Good.{both_left, both_right}
 use Rattle.message.specs.Rows.{table, row_of}

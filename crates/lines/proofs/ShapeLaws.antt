@@ -1,11 +1,11 @@
 -- The shape of a line, byte by byte as the code's loops take it. Assumes nothing.
-use Rattle.std.proofs.Common.{◌≡◌, ℕ, zero, suc, ◌+◌, ◌-◌, ◌*◌, ◌%◌, ◌^◌, ◌<◌, ◌≤◌, Bool, true, false, cond, eqb, ltb, leb, List, [], ◌∷◌, length, get_or, take, drop, set, refl, ◌∙◌, subst, ⊎_elim, lt_of_lt_of_le, pow-suc, add-one, arith, drop_of_length-le, drop-cons, ltb-true, le-ltb, lt-ltb, le-leb, leb-true}
+use Rattle.std.proofs.Common.{◌≡◌, ℕ, zero, suc, ◌+◌, ◌-◌, ◌*◌, ◌%◌, ◌^◌, ◌<◌, ◌≤◌, Bool, true, false, cond, eqb, ltb, leb, List, [], ◌∷◌, length, get_or, drop, set, refl, ◌∙◌, subst, ⊎_elim, lt_of_lt_of_le, pow-suc, add-one, arith, drop_of_length-le, drop-cons, ltb-true, le-ltb, lt-ltb, le-leb, leb-true}
 use native.Mathlib.Nat.{pow-le-pow_right}
 use borrow.Author.Tests.{lt-leb}
 use Rattle.bits.proofs.SetLaws.{lt_or}
 use Rattle.codec.specs.Codec.{both}
 use Rattle.codec.proofs.Good.{both_true, both_left, both_right}
-use Rattle.lines.specs.Shape.{is_digit, is_letter, hex_of, is_hex, no_bytes, no_hex, hex_then, hex_in, Line, good, other, line_with, after_digits, digits_then, line_of}
+use Rattle.lines.specs.Shape.{is_digit, is_letter, hex_of, is_hex, no_bytes, no_hex, hex_then, hex_in, Line, other, line_with, after_digits, digits_then, line_of}
 use Rattle.lines.specs.Parsing.{letter_worth, no_head, Heads}
 use Rattle.lines.specs.declared.Head.{Head}
 

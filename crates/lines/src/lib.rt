@@ -3,6 +3,7 @@
 // `said` equals `said_of` for every line. Of a line that comes in pieces the first 1,152 bytes are kept (`blocks`), more than a line of the
 // right shape has, and `said_kept` of these says what the whole line says, however long it is (proofs/KeepLaws).
 #![tactic(auto)]
+
 ghost use Rattle.std.specs.Prelude.{◌≡◌, ◌+◌, ◌*◌, ◌/◌, ◌<◌, ◌≤◌, length, take, drop};
 ghost use Rattle.bits.specs.Fields.{bit_at};
 ghost use Rattle.profile.specs.Sample.{sample};

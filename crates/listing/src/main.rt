@@ -2,9 +2,11 @@
 // worked out"). All that is said of a line is `lines`' work; this reads and writes in blocks, numbers the lines, finds their ends, and says
 // on standard error what failed and after which line (docs/LISTING.md).
 #![tactic(auto)]
+
 ghost use Rattle.std.specs.Prelude.{◌≡◌, ◌+◌, ◌^◌, ◌≤◌, length};
 
 use lines::Text;
+use std::io::{Read, Stdin};
 
 // What became of the answers: how much of the output block they fill, up to which line all are known to be written, and whether a write
 // failed. After that no other is tried.
@@ -33,29 +35,33 @@ struct Shown {
 // The longest line printed: a number of 20 digits, a space, 20 bytes and LF.
 const LONGEST: usize = 42;
 
-fn main() {
+fn main(rt: HostRuntime) {
     let mut input = io::large_buffer();
     let mut output = io::large_buffer();
-    run(&mut input, &mut output);
+    run(rt.stdin(), &mut input, &mut output);
 }
 
-// Block after block, up to 2 ^ 45 of them: a proved loop ends, and nothing says that the input does. A read that answers a negative number
-// failed; the input ends where one answers 0.
-fn run(input: &mut [u8], output: &mut [u8])
+// Block after block, up to 2 ^ 45 of them: a proved loop ends, and nothing says that the input does. A read that answers an error failed;
+// the input ends where one answers 0.
+fn run(mut stdin: Stdin, input: &mut [u8], output: &mut [u8])
     requires { (length input.old ≡ 65536) × (length output.old ≡ 65536) }
 {
     let mut turns: u64 = 35184372088832;
     let mut cut = false;
     let mut seen = start();
     while turns > 0 {
-        let got = libc::read(0, input);
-        let n = io::count(got, input);
-        if n == 0 {
-            cut = got < 0;
-            turns = 0;
-        } else {
-            seen = feed(&input[..n], output, seen);
-            turns = left(turns, seen.out.failed);
+        match stdin.read(input) {
+            Ok(0) => {
+                turns = 0;
+            }
+            Ok(n) => {
+                seen = feed(&input[..n], output, seen);
+                turns = left(turns, seen.out.failed);
+            }
+            Err(_) => {
+                cut = true;
+                turns = 0;
+            }
         }
     }
     finish(output, seen, cut);

@@ -5,7 +5,7 @@ use mathlib.Core.Bool.{true}
 use lib.Dec.{eqb}
 use lib.Pow.{shl-shr}
 use borrow.Author.Tests.{eqb-true, eq-eqb}
-use Rattle.codec.specs.Codec.{number, pure, seq, choose}
+use Rattle.codec.specs.Codec.{number, pure, choose}
 use Rattle.codec.proofs.Good.{Good}
 use Rattle.codec.proofs.Combinators.{good_number, good_seq, good_map, good_iso, good_choose}
 use Rattle.codec.proofs.OptionLaws.{good_given}

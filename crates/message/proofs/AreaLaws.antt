@@ -1,6 +1,6 @@
 -- Areas are a good codec. Assumes nothing.
 use Prim.Native.Nat.{ℕ, ◌≤◌}
-use mathlib.Core.Path.{◌≡◌, refl}
+use mathlib.Core.Path.{refl}
 use Rattle.codec.proofs.Good.{Good}
 use Rattle.codec.proofs.Combinators.{good_number, good_guard, good_seq, good_iso}
 use Rattle.profile.specs.Rules.{meaning_in}

@@ -6,10 +6,10 @@ use mathlib.Core.List.{List, [], ◌∷◌, ◌++◌}
 use native.Mathlib.Nat.{suc-sub-suc, sub-zero}
 use native.Mathlib.Omega.{arith}
 use lib.Dec.{eqb, leb}
-use lib.ListN.{length, take, drop, get_or, set, replicate, take-append-drop}
+use lib.ListN.{length, take, drop, get_or, replicate, take-append-drop}
 use lib.Seq.{sets, sets-eq, take_at, drop_at}
 use borrow.Author.Tests.{leb-true}
-use Rattle.codec.specs.Codec.{Codec, both, number, vec, vec_ok}
+use Rattle.codec.specs.Codec.{Codec, number, vec, vec_ok}
 use Rattle.codec.proofs.Good.{Good, both_true, both_left, both_right, not_both}
 use Rattle.codec.proofs.Combinators.{good_number, good_guard, good_seq, good_map, good_iso, good_vec}
 use Rattle.profile.specs.Rules.{meaning_in}
@@ -18,11 +18,11 @@ use Rattle.profile.specs.declared.Kind.TheVariants as kind
 use Rattle.profile.specs.declared.Meaning.{Meaning}
 use Rattle.profile.specs.declared.Air.{Air}
 use Rattle.message.specs.Elements as element
-use Rattle.message.specs.Addresses.{nobody, is_zero, is_nobody, address_c}
+use Rattle.message.specs.Addresses.{nobody, is_nobody, address_c}
 use Rattle.message.specs.Groups.{addresses_by, addresses_in, allowed_by, allowed_in, are_none, fifteen_c, places_c, range_ok, ends_by, ends_ok, addresses_c, range_c, group_c, span_by, span_in, span_of}
 use Rattle.message.specs.declared.Address.{Address}
 use Rattle.message.specs.declared.Group.{Group}
-use Rattle.message.proofs.AddressLaws.{zero_is, good_address, is_nobody_lem, nobody_is}
+use Rattle.message.proofs.AddressLaws.{good_address, is_nobody_lem, nobody_is}
 
 -- ---- fifteen places of one kind of thing
 

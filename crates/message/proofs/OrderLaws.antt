@@ -1,8 +1,8 @@
 -- Each refusal of reading comes exactly when its ground holds and no earlier one along the bits does. Assumes nothing.
-use Prim.Native.Nat.{ℕ, ◌<◌, ◌≤◌}
-use mathlib.Core.Path.{◌≡◌, refl}
+use Prim.Native.Nat.{ℕ}
+use mathlib.Core.Path.{refl}
 use mathlib.Core.Bool.{Bool, true, false, not, cond}
-use mathlib.Core.List.{List, [], ◌∷◌}
+use mathlib.Core.List.{List, ◌∷◌}
 use lib.Dec.{eqb}
 use Rattle.bits.specs.Fields.{bit_at}
 use Rattle.bits.proofs.FieldLaws.{bit_lt}

@@ -15,7 +15,7 @@ use Rattle.message.specs.Addresses.{nobody}
 use Rattle.message.specs.Numbers as place
 use Rattle.message.specs.Numbers.{elements, element_of, widths, width_of}
 use Rattle.message.specs.Values.{number_at, given_at, with_number, with_given}
-use Rattle.message.specs.Rows.{table, row_of, Holds, put, get, Options, or_else, if_given, put_option, copy_option, put_options, some_of, none_of}
+use Rattle.message.specs.Rows.{table, row_of, put, get, Options, or_else, if_given, put_option, copy_option, put_options, some_of, none_of}
 use Rattle.message.specs.declared.Group.{Group}
 use Rattle.message.specs.declared.Part.{Part}
 use Rattle.message.specs.declared.Part.TheVariants as part

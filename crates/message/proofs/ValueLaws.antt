@@ -5,7 +5,6 @@ use mathlib.Core.Bool.{Bool, true, false}
 use mathlib.Core.List.{List, [], ◌∷◌}
 use lib.Dec.{eqb}
 use borrow.Author.Tests.{eqb-true, eq-eqb}
-use Rattle.codec.specs.Codec.{both}
 use Rattle.codec.proofs.Good.{both_true, both_left, both_right, not_both}
 use Rattle.message.specs.Values.{same_bool, same_bools, same_numbers, same_address, same_addresses, same_group, same_areas, same_lists, same_value, with_lists}
 use Rattle.message.specs.declared.Address.{Address}

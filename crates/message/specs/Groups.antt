@@ -8,7 +8,7 @@ use Rattle.profile.specs.declared.Kind.TheVariants as kind
 use Rattle.profile.specs.declared.Meaning.{Meaning}
 use Rattle.profile.specs.declared.Air.{Air}
 use Rattle.message.specs.Elements as element
-use Rattle.message.specs.Addresses.{nobody, is_zero, is_nobody, address_c}
+use Rattle.message.specs.Addresses.{nobody, is_nobody, address_c}
 use Rattle.message.specs.declared.Address.{Address}
 use Rattle.message.specs.declared.Group.{Group}
 

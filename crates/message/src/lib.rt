@@ -4,6 +4,7 @@
 //
 // The functions are the small ones that reading, validity, writing and the desk share. Each takes every input.
 #![tactic(auto)]
+
 ghost use Rattle.std.specs.Prelude.{◌≡◌, true, ◌+◌, ◌-◌};
 ghost use Rattle.message.specs.Groups.{addresses_in, allowed_in, range_ok, ends_ok, no_group, address_at, span_in, span_of};
 ghost use Rattle.message.specs.Areas.{rises};

@@ -4,6 +4,7 @@
 // Every function is total: its contract is an equation for any shares and places, also such as refusal 1 names; refusing those is the
 // caller's, by `places_ok`. The files: count (held, owed), ground (the grounds of refusal 1), search (the lowest place).
 #![tactic(auto)]
+
 ghost use Rattle.std.specs.Prelude.{◌≡◌, set};
 ghost use Rattle.places.specs.Held.{place_in, admits_of};
 ghost use Rattle.places.specs.Fits.{fits_of};

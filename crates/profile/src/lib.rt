@@ -5,6 +5,7 @@
 // `Profile::new` gives the profile, or refusal 1 exactly if a rule is broken; `profile_ok` is the same test for a profile that is
 // handed in, since its fields are public and every call checks again. `SAMPLE` is document 01's sample profile, which passes.
 #![tactic(auto)]
+
 ghost use Rattle.std.specs.Prelude.{◌≡◌, ◌≤◌};
 ghost use Rattle.profile.specs.Counting.{every, sum};
 ghost use Rattle.profile.specs.Rules.{list_ok, meaning_ok, meaning_in, meaning_of, air_ok, is_one, list_of_one, share_ok, share_in, shares_ok, profile_ok, no_profile, new_of};

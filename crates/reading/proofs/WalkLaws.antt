@@ -3,16 +3,14 @@ use Prim.Native.Nat.{ℕ, zero, suc, ◌+◌, ◌-◌, ◌*◌, ◌<◌, ◌≤�
 use mathlib.Core.Path.{◌≡◌, refl, sym, ap, ◌∙◌}
 use mathlib.Core.Bool.{Bool, true, false, cond, ◌||◌}
 use mathlib.Core.List.{List, [], ◌∷◌}
-use native.Mathlib.Nat.{sub-zero}
-use native.Mathlib.Numerals.{add-one}
 use native.Mathlib.Omega.{arith}
 use lib.Dec.{eqb, leb}
-use lib.ListN.{length, drop, get_or, replicate, drop_of_length-le}
-use lib.Seq.{sets, drop-cons}
+use lib.ListN.{length, drop, replicate, drop_of_length-le}
+use lib.Seq.{sets}
 use borrow.Author.Tests.{le-leb, lt-leb}
 use Rattle.bits.specs.Fields.{bit_at, field_at}
 use Rattle.codec.specs.Stops.{short, refusal}
-use Rattle.codec.specs.Codec.{Codec, Read, got, no, bind, both, number, pure, choose, vec_read}
+use Rattle.codec.specs.Codec.{Read, got, no, bind, both, number, pure, choose, vec_read}
 use Rattle.codec.specs.Options.{flag}
 use Rattle.codec.specs.declared.Stop.{Stop}
 use Rattle.codec.proofs.Good.{both_left, both_right, both_none, not_both}
@@ -23,12 +21,12 @@ use Rattle.profile.specs.declared.Kind.TheVariants as kind
 use Rattle.profile.specs.declared.Meaning.{Meaning}
 use Rattle.message.specs.Elements as element
 use Rattle.message.specs.Numbers.{element_of, width_of}
-use Rattle.message.specs.Addresses.{nobody, is_zero, is_nobody, kind_c, extension_c, address_c}
-use Rattle.message.specs.Groups.{nobodies, addresses_by, addresses_in, ends_by, ends_ok, range_ok, span_by, span_in, span_of, fifteen_c, places_c, addresses_c, range_c, group_c}
+use Rattle.message.specs.Addresses.{nobody, is_zero, kind_c, extension_c, address_c}
+use Rattle.message.specs.Groups.{addresses_by, addresses_in, ends_by, ends_ok, range_ok, span_by, span_in, span_of, places_c, addresses_c, range_c, group_c}
 use Rattle.message.specs.Areas.{areas_c}
 use Rattle.message.specs.Acks.{masked_c, result_c, state_c}
 use Rattle.message.specs.Values.{blank, with_users, with_given}
-use Rattle.message.specs.Rows.{table, no_row, row_of, Holds, part_c, put}
+use Rattle.message.specs.Rows.{table, row_of, put}
 use Rattle.message.specs.Messages.{header_c, body_c, message_c}
 use Rattle.message.specs.Reading.{whole_of, length_ok, read_bits}
 use Rattle.message.specs.declared.Address.{Address}

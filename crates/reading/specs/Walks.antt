@@ -17,7 +17,6 @@ use Rattle.message.specs.Areas.{areas_c}
 use Rattle.message.specs.Acks.{masked_c, result_c, state_c}
 use Rattle.message.specs.Rows.{row_of}
 use Rattle.message.specs.Messages.{header_c}
-use Rattle.message.specs.declared.Address.{Address}
 use Rattle.message.specs.declared.Part.{Part}
 use Rattle.message.specs.declared.Part.TheVariants as part
 use Rattle.message.specs.declared.Slot.{Slot}

@@ -4,6 +4,7 @@
 // area, ack, part, option, body, header. Each function reads one codec and hands the refusal of what it calls on unchanged. `read_type` gives
 // the same refusals, and of a message its type alone: walk goes along it and makes no value.
 #![tactic(auto)]
+
 ghost use Rattle.std.specs.Prelude.{◌≡◌};
 ghost use Rattle.bits.specs.Fields.{bit_at};
 ghost use Rattle.codec.specs.Codec.{got, no};

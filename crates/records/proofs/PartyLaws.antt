@@ -9,7 +9,7 @@ use lib.Dec.{eqb}
 use borrow.Author.Tests.{ltb-true, eq-eqb, ne_eqb, eqb-false}
 use Rattle.codec.specs.Codec.{both}
 use Rattle.codec.proofs.Good.{both_left, both_right, not_both}
-use Rattle.records.specs.Records.{row_of, record_of, record_ok, all_ok, records_ok, restricts, no_party, party_of, restricted_by, restricted_of, restricts_by, is_restricted, post_by, post_for, second_of}
+use Rattle.records.specs.Records.{row_of, record_of, record_ok, all_ok, records_ok, no_party, party_of, restricted_by, restricted_of, restricts_by, is_restricted, post_by, post_for, second_of}
 use Rattle.records.specs.declared.Record.{Record}
 use Rattle.records.specs.declared.Identity.{Identity}
 use Rattle.records.specs.declared.Party.{Party}

@@ -4,6 +4,7 @@
 // `rows` has room for 128 records; the first `count` are lent, and the others are never looked at. Every function takes every input,
 // also records that refusal 15 would name. The files go from small to large: identities, search, outcome.
 #![tactic(auto)]
+
 ghost use Rattle.std.specs.Prelude.{◌≡◌, [], ◌∷◌, take};
 ghost use Rattle.records.specs.Identities.{identity_of, identities_of};
 ghost use Rattle.records.specs.Records.{records_ok, state_of, restricted_of, second_of};

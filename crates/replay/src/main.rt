@@ -3,6 +3,7 @@
 // the records and the length of the output area from line to line, reads and writes in blocks, numbers the lines, finds their ends, and says
 // on standard error what failed and after which line.
 #![tactic(auto)]
+
 ghost use Rattle.std.specs.Prelude.{◌≡◌, ◌+◌, ◌^◌, ◌≤◌, length};
 
 use blocks::Text;
@@ -10,6 +11,7 @@ use desk::{Desk, Event, Stepped};
 use places::{Place, Places};
 use records::{Marks, Record};
 use script::{Line, Task};
+use std::io::{Read, Stdin};
 
 #[derive(Clone, Copy)]
 struct Rows {
@@ -56,31 +58,35 @@ struct SoFar {
 // The longest answer, a dump: a number of 20 digits, " dump", 32 places of 17 bytes, " |", 256 records of 32 and LF.
 const LONGEST: usize = 8764;
 
-fn main() {
+fn main(rt: HostRuntime) {
     let mut input = io::large_buffer();
     let mut output = io::large_buffer();
-    run(&mut input, &mut output);
+    run(rt.stdin(), &mut input, &mut output);
 }
 
 // ---- the input
 
-// Block after block, up to 2 ^ 45 of them: a proved loop ends, and nothing says that the input does. A read that answers a negative number
-// failed; the input ends where one answers 0.
-fn run(input: &mut [u8], output: &mut [u8])
+// Block after block, up to 2 ^ 45 of them: a proved loop ends, and nothing says that the input does. A read that answers an error failed;
+// the input ends where one answers 0.
+fn run(mut stdin: Stdin, input: &mut [u8], output: &mut [u8])
     requires { (length input.old ≡ 65536) × (length output.old ≡ 65536) }
 {
     let mut turns: u64 = 35184372088832;
     let mut cut = false;
     let mut seen = start();
     while turns > 0 {
-        let got = libc::read(0, input);
-        let n = io::count(got, input);
-        if n == 0 {
-            cut = got < 0;
-            turns = 0;
-        } else {
-            seen = feed(&input[..n], output, seen);
-            turns = left(turns, seen.out.failed);
+        match stdin.read(input) {
+            Ok(0) => {
+                turns = 0;
+            }
+            Ok(n) => {
+                seen = feed(&input[..n], output, seen);
+                turns = left(turns, seen.out.failed);
+            }
+            Err(_) => {
+                cut = true;
+                turns = 0;
+            }
         }
     }
     finish(output, seen, cut);

@@ -2,6 +2,7 @@
 // again. Two lines for each row, `K NAME BITS HEX` and `K again BITS HEX`, or `K refused N HEX`; HEX is the whole area, whose bytes were
 // AA, and 55 the second time. proofs/Cases of `writing` has rows 1 to 18 through the definitions.
 #![tactic(auto)]
+
 use message::{Address, Group, Value};
 
 mod deactivations;

@@ -4,6 +4,7 @@
 // is what the whole line asks for, however long it is (proofs/KeepLaws). The files: shape (keyword, numbers), tasks (the lines that
 // are numbers alone), profiles (the profile of a `profile` line, the rows of a `shares` line).
 #![tactic(auto)]
+
 ghost use Rattle.std.specs.Prelude.{◌≡◌, take};
 ghost use Rattle.script.specs.Lines.{plain_line, message_line, post_line, profile_line, shares_line, task_of, line_of};
 

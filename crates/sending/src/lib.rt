@@ -3,6 +3,7 @@
 // Every function is total. `send` writes the next message, where there is room for it; the laws say that of what the desk sends nothing
 // is ever left out, and that the area is then the one that document 01 describes (`lay_all`).
 #![tactic(auto)]
+
 ghost use Rattle.std.specs.Prelude.{◌≡◌, false, ◌<◌, ◌≤◌, get_or};
 ghost use Rattle.profile.specs.Counting.{one};
 ghost use Rattle.sending.specs.Sending.{no_laid, laid_more, send_laid, send_area, all_laid, all_area};

@@ -10,7 +10,7 @@ use lib.Dec.{ltb}
 use lib.ListN.{length, drop, get_or}
 use lib.Pow.{shl_exact}
 use Rattle.codec.specs.Codec.{Codec, both, pure, guard, choose}
-use Rattle.codec.specs.Options.{Optional, absent, flag, optional}
+use Rattle.codec.specs.Options.{absent, flag, optional}
 use Rattle.codec.proofs.Good.{both_none}
 use Rattle.profile.specs.declared.Air.{Air}
 use Rattle.message.specs.Elements as element

@@ -4,6 +4,7 @@
 // `valid` equals `valid_of` for every profile and value, also for a profile that breaks a rule: refusing that is the caller's. The files
 // go from small to large: address, group, area and ack, part, body; same is the test that two values are one.
 #![tactic(auto)]
+
 ghost use Rattle.std.specs.Prelude.{◌≡◌};
 ghost use Rattle.message.specs.Messages.{header_c};
 ghost use Rattle.validity.specs.Validity.{valid_of};

@@ -3,6 +3,7 @@
 // `said` is the text of `words_of` for every answer. The files: texts (numbers and bytes as text), answers (the words of each answer and of
 // a dump's parts).
 #![tactic(auto)]
+
 ghost use Rattle.std.specs.Prelude.{◌≡◌};
 ghost use Rattle.blocks.specs.Texts.{text_of};
 ghost use Rattle.words.specs.Words.{refused_of, words_of, change_words, place_words, record_words};

@@ -1,5 +1,5 @@
 -- How long a valid message is. Assumes nothing.
-use Rattle.std.proofs.Common.{◌≡◌, ℕ, suc, ◌+◌, ◌-◌, ◌*◌, ◌/◌, ◌^◌, ◌≤◌, min, Bool, true, false, cond, not, eqb, leb, List, [], ◌∷◌, ◌++◌, length, take, sym, refl, ap, ◌∙◌, subst, arith, length-append, length_take, eqb-true, leb-true}
+use Rattle.std.proofs.Common.{◌≡◌, ℕ, suc, ◌+◌, ◌-◌, ◌*◌, ◌/◌, ◌^◌, ◌≤◌, min, Bool, true, false, cond, not, eqb, leb, List, [], ◌∷◌, ◌++◌, length, take, sym, refl, ap, ◌∙◌, subst, arith, length-append, length-take, eqb-true, leb-true}
 use Rattle.bits.specs.Puts.{binary}
 use Rattle.bits.proofs.PutLaws.{length_binary}
 use Rattle.codec.specs.Codec.{Codec, both, number, pure, guard, choose, vec_bits}
@@ -56,7 +56,7 @@ vec_most (a ∷ xs) = omega (arith, address_most a, vec_most xs, length-append (
 
 places_most : (k : ℕ) (l : List Address) → length ((places_c false k).bits l) ≤ 50 * k
 unfolding places_c
-places_most k l = omega (arith, vec_most (take k l), length_take k l)
+places_most k l = omega (arith, vec_most (take k l), length-take k l)
 
 module _ (air : Air) (none : Bool) (g : Group) where
   abbrev m : Meaning
@@ -103,7 +103,7 @@ areas_most air a v =
       length-append (binary 4 a.range) (vec_bits area_c (take k a.areas)),
       length_binary 4 a.range,
       area_vec_length (take k a.areas),
-      length_take k a.areas,
+      length-take k a.areas,
       few_addresses true (meaning_in air.meanings a.range) (range_allowed air true a.range (both_left _ _ (both_right true _ v))),
     )
 

@@ -1,5 +1,5 @@
 -- Laws of the parts that a writer goes through: what is left of a list, destinations, the state, the mask's number. Assumes nothing.
-use Rattle.std.proofs.Common.{◌≡◌, ℕ, ◌+◌, ◌-◌, ◌/◌, ◌^◌, ◌<◌, ◌≤◌, min, Bool, true, false, cond, eqb, List, [], ◌∷◌, ◌++◌, length, get_or, take, drop, sym, refl, ap, add-one, arith, drop_of_length-le, length_take, drop-cons, get_or-take}
+use Rattle.std.proofs.Common.{◌≡◌, ℕ, ◌+◌, ◌-◌, ◌/◌, ◌^◌, ◌<◌, ◌≤◌, min, Bool, true, false, cond, eqb, List, [], ◌∷◌, ◌++◌, length, get_or, take, drop, sym, refl, ap, add-one, arith, drop_of_length-le, length-take, drop-cons, get_or-take}
 use native.Mathlib.Nat.{div-eq_of_lt}
 use Rattle.bits.specs.Puts.{binary}
 use Rattle.codec.specs.Codec.{Codec, number, pure, choose, vec_bits}
@@ -21,12 +21,12 @@ module _ {A : Type 0} (none : A) (C : Codec A) where
 
   pub rest_more : (list : List A) (count i : ℕ) → i < count → i < length list → rest_of list count i ≡ C.bits (get_or list i none) ++ rest_of list count (i + 1)
   rest_more list count i h k =
-      let n : i < length (take count list) = simp length_take (omega arith) in
+      let n : i < length (take count list) = simp length-take (omega arith) in
       rw (add-one, drop-cons (take count list) i none n, get_or-take count list i none h)
 
   pub rest_end : (list : List A) (count i : ℕ) → min count (length list) ≤ i → rest_of list count i ≡ []
   rest_end list count i h =
-      let n : length (take count list) ≤ i = simp length_take (omega arith) in
+      let n : length (take count list) ≤ i = simp length-take (omega arith) in
       rw (drop_of_length-le (take count list) n)
 
 -- ---- destinations have the bits that any other addresses have

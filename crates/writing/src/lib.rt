@@ -5,6 +5,7 @@
 // position, whether the area holds them or not; so a first writing into no area gives the length, and 14 comes before any byte is
 // touched. The round trips with `read` are in proofs/RoundTrips.
 #![tactic(auto)]
+
 ghost use Rattle.std.specs.Prelude.{◌≡◌, ◌+◌, ◌≤◌, true, length};
 ghost use Rattle.validity.specs.Validity.{valid_of};
 ghost use Rattle.writing.specs.Wrote.{Wrote};

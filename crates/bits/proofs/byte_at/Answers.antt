@@ -1,3 +1,4 @@
+-- `bits::byte_at` meets its contract: past the end `get_or` gives 0.
 use mathlib.Core.Path.{sym}
 use lib.ListN.{get_or-eq_default}
 use borrow.Author.Rules.{rules}

@@ -1,6 +1,5 @@
 use mathlib.Core.Path.{sym, ◌∙◌}
 use native.Mathlib.Omega.{arith}
-use borrow.Author.Rules.{rules}
 use Rattle.bits.proofs.FieldLaws.{eight_there, eight_not}
 use Rattle.bits.proofs.eight.Goals as goal
 

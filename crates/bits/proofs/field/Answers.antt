@@ -1,3 +1,4 @@
+-- `bits::field` meets its contract: the two shifts leave just the field's bits, of eight bytes or of nine.
 use mathlib.Core.Path.{sym, ◌∙◌}
 use native.Mathlib.Omega.{arith}
 use Prim.Native.Nat.{◌+◌, ◌/◌, ◌<◌}

@@ -1,9 +1,10 @@
-use Prim.Native.Nat.{◌-◌, ◌*◌, ◌≤◌}
+-- `bits::half_word` meets its contract. The loop's invariant: the number is the field of the k bytes passed.
+use Prim.Native.Nat.{◌*◌}
 use mathlib.Core.Path.{◌≡◌, refl, ◌∙◌}
 use native.Mathlib.Omega.{arith}
 use borrow.Author.Rules.{rules}
 use Rattle.bits.proofs.WordLaws.{bytes_lt, byte_more}
-use Rattle.bits.specs.Fields.{bit_at, field_at}
+use Rattle.bits.specs.Fields.{field_at}
 use Rattle.bits.proofs.half_word.Goals as goal
 
 pub loop-k-init : goal.loop-k-init

@@ -1,8 +1,5 @@
 use Prim.Native.Nat.{◌-◌, ◌*◌, ◌≤◌}
-use mathlib.Core.Path.{◌≡◌, refl, ◌∙◌}
-use native.Mathlib.Omega.{arith}
-use borrow.Author.Rules.{rules}
-use Rattle.bits.proofs.WordLaws.{bytes_lt, byte_more}
+use mathlib.Core.Path.{◌≡◌}
 use Rattle.bits.specs.Fields.{bit_at, field_at}
 use Rattle.bits.proofs.half_word.Given as goal
 

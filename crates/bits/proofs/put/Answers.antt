@@ -1,3 +1,4 @@
+-- `bits::put` meets its contract: what its tests refuse can't be put, and what they let pass lies in the bytes.
 use mathlib.Core.Path.{sym, ◌∙◌}
 use native.Mathlib.Omega.{arith}
 use borrow.Author.Rules.{rules}

@@ -1,7 +1,6 @@
+-- `bits::put_digit` meets its contract: the byte with one digit replaced is a byte again, and stands in its place.
 use native.Mathlib.Nat.{div-le_self}
 use native.Mathlib.Omega.{arith}
-use lib.Pow.{pow_pos}
-use borrow.Author.Rules.{rules}
 use Rattle.bits.proofs.PutLaws.{byte_digit_lt}
 use Rattle.bits.specs.Puts.{with_digit}
 use Rattle.bits.proofs.put_digit.Goals as goal

@@ -1,6 +1,6 @@
+-- `bits::word_inside` meets its contract: eight bytes are four and four.
 use Prim.Native.Nat.{◌*◌}
 use native.Mathlib.Omega.{arith}
-use borrow.Author.Rules.{rules}
 use Rattle.bits.proofs.FieldLaws.{field_below}
 use Rattle.bits.proofs.WordLaws.{halves}
 use Rattle.bits.proofs.word_inside.Goals as goal

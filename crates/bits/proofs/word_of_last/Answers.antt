@@ -1,6 +1,6 @@
+-- `bits::word_of_last` meets its contract: past the end every bit is 0, so the last eight bytes have all that is not.
 use mathlib.Core.Path.{sym}
 use native.Mathlib.Omega.{arith}
-use borrow.Author.Rules.{rules}
 use Rattle.bits.proofs.FieldLaws.{field_past}
 use Rattle.bits.proofs.WordLaws.{last_word}
 use Rattle.bits.proofs.word_of_last.Goals as goal

@@ -1,0 +1,11 @@
+use Prim.Native.Nat.{◌+◌, ◌-◌, ◌≤◌}
+use mathlib.Core.Path.{◌≡◌}
+use lib.ListN.{length}
+use Rattle.blocks.specs.Blocks.{line_end}
+use Rattle.blocks.proofs.next_lf.Given as goal
+
+abbrev pub invariant-loop-i : goal.invariant-loop-i
+invariant-loop-i l = (line_end l.block l.from ≡ line_end l.block l.i) × ((l.from ≤ l.i) × (l.i ≤ l.from + (length l.block - l.from)))
+
+abbrev pub decreases-loop-i : goal.decreases-loop-i
+decreases-loop-i l = length l.block - l.i

@@ -1,0 +1,11 @@
+use Rattle.std.proofs.Common.{rules, le-ltb, lt-ltb}
+use Rattle.lines.specs.Parsing.{letter_worth}
+use Rattle.lines.proofs.letter_worth.Goals as goal
+
+pub returns-then-past-lt6 : goal.returns-then-past-lt6
+unfolding letter_worth
+returns-then-past-lt6 c = rw (lt-ltb c.args.past 6 (search rules))
+
+pub returns : goal.returns
+unfolding letter_worth
+returns c = rw (le-ltb c.args.past 6 (search rules))

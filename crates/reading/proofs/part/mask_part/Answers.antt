@@ -1,0 +1,14 @@
+use mathlib.Core.Path.{sym, ap, ◌∙◌}
+use Rattle.reading.specs.Answers.{masked_of}
+use Rattle.reading.specs.Parts.{part_read}
+use Rattle.reading.proofs.part.mask_part.Goals as goal
+
+pub returns-in-Refused : goal.returns-in-Refused
+unfolding part_read
+returns-in-Refused c =
+    rw (c.no_body.ensures, ← c.span_of.ensures, ← c.few.ensures, sym c.read_masked.ensures ∙ ap masked_of c.in-Refused.is)
+
+pub returns-in-Got : goal.returns-in-Got
+unfolding part_read
+returns-in-Got c =
+    rw (c.carried.ensures, c.with_mask.ensures, ← c.span_of.ensures, ← c.few.ensures, sym c.read_masked.ensures ∙ ap masked_of c.in-Got.is)

@@ -1,0 +1,12 @@
+use borrow.Author.Tests.{eq-eqb, ne_eqb}
+use Rattle.codec.specs.Codec.{number}
+use Rattle.message.specs.Addresses.{extension_c}
+use Rattle.validity.proofs.address.extension_ok.Goals as goal
+
+pub returns-then-kind-eq1 : goal.returns-then-kind-eq1
+unfolding extension_c number
+returns-then-kind-eq1 c = rw (eq-eqb _ _ c.if-kind-eq1.true)
+
+pub returns : goal.returns
+unfolding extension_c number
+returns c = rw (ne_eqb _ _ c.if-kind-eq1.false)

@@ -1,0 +1,13 @@
+use mathlib.Core.Path.{sym, ◌∙◌}
+use Rattle.codec.specs.Codec.{both}
+use Rattle.message.specs.Groups.{addresses_c}
+use Rattle.validity.proofs.group.addresses_ok.Goals as goal
+
+pub returns-then-places_ok : goal.returns-then-places_ok
+unfolding addresses_c both
+returns-then-places_ok c =
+    rw (← c.addresses_in.ensures, sym c.places_ok.ensures ∙ c.if-places_ok.true) c.ends_ok.ensures
+
+pub returns : goal.returns
+unfolding addresses_c both
+returns c = rw (← c.addresses_in.ensures, sym c.places_ok.ensures ∙ c.if-places_ok.false)

@@ -1,0 +1,13 @@
+use Prim.Native.Nat.{◌-◌, ◌≤◌}
+use mathlib.Core.Bool.{false}
+use mathlib.Core.Path.{◌≡◌}
+use lib.ListN.{length, take, drop}
+use Rattle.codec.specs.Codec.{vec_ok}
+use Rattle.message.specs.Addresses.{address_c}
+use Rattle.validity.proofs.group.first_ok.Given as goal
+
+abbrev pub invariant-loop-i : goal.invariant-loop-i
+invariant-loop-i l = (l.i ≤ l.count) × ((length l.list ≡ 15) × (vec_ok (address_c false) l.count (take l.count l.list) ≡ vec_ok (address_c false) (l.count - l.i) (drop l.i (take l.count l.list))))
+
+abbrev pub decreases-loop-i : goal.decreases-loop-i
+decreases-loop-i l = l.count - l.i

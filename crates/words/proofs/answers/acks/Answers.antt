@@ -1,0 +1,13 @@
+use borrow.Author.Rules.{rules}
+use Rattle.blocks.proofs.BlockLaws.{wrote_join}
+use Rattle.words.specs.Words.{acks_words}
+use Rattle.words.proofs.answers.acks.Goals as goal
+
+-- LEFT -- Written by tools/proofs from tools/words.conf. `words::answers::acks` meets its contract. Assumes nothing.
+-- slice-aggregate-add-numbered : tie.Need-slice-aggregate-add-numbered
+-- slice-aggregate-add-numbered c = search rules
+
+pub returns : goal.returns
+unfolding acks_words
+returns c =
+    wrote_join c.add_numbered-counted.ensures (wrote_join c.all_bits-lengths.ensures c.all_hex.ensures)

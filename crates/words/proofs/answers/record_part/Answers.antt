@@ -1,0 +1,17 @@
+use borrow.Author.Rules.{rules}
+use Rattle.blocks.proofs.BlockLaws.{wrote_none, wrote_join}
+use Rattle.words.specs.Words.{record_words}
+use Rattle.words.proofs.answers.record_part.Goals as goal
+
+-- LEFT -- Written by tools/proofs from tools/words.conf. `words::answers::record_part` meets its contract. Assumes nothing.
+-- slice-aggregate-add-numbered : tie.Need-slice-aggregate-add-numbered
+-- slice-aggregate-add-numbered c = search rules
+
+pub returns-then-row : goal.returns-then-row
+unfolding record_words
+returns-then-row c =
+    rw c.if-row.true (wrote_join c.add_numbered-numbered.ensures (wrote_join c.add_field-named.ensures (wrote_join c.add_field-extended.ensures (wrote_join c.add_field-posted.ensures (rw c.one_if.ensures at c.add_field.ensures)))))
+
+pub returns : goal.returns
+unfolding record_words
+returns c = rw c.if-row.false (wrote_none _ _)
