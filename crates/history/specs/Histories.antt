@@ -225,7 +225,7 @@ fits_by shares w =
 
 -- ---- a well-formed new restricted call
 
--- it passes 16, 14, 15 and 17, and is not free; 1 never comes along a history (never-one)
+-- it passes 16, 14, 15 and 17, and is not free; 1 never comes along a history (never_one)
 unfoldable pub is_restricted_call : Profile → List Waiting → Call → Identity → Identity → ℕ → ℕ → Bool
 is_restricted_call p w c caller called identifier cause =
     both (set_up_ok caller called identifier cause)
