@@ -4,8 +4,8 @@ use Rattle.blocks.specs.contracts.line_end as line-end
 use Rattle.blocks.proofs.line_end.Reads as line-end-reads
 use Rattle.blocks.specs.contracts.put as put
 use Rattle.blocks.proofs.put.Reads as put-reads
-use Rattle.blocks.specs.contracts.put_first as put_first
-use Rattle.blocks.proofs.put_first.Reads as put_first-reads
+use Rattle.blocks.specs.contracts.put_first as put-first
+use Rattle.blocks.proofs.put_first.Reads as put-first-reads
 use Rattle.blocks.specs.contracts.nothing_kept as nothing-kept
 use Rattle.blocks.proofs.nothing_kept.Reads as nothing-kept-reads
 use Rattle.blocks.specs.contracts.keep as keep
@@ -19,8 +19,8 @@ decides_line_end = record { says = line-end-reads.Learnt; is = refl; one = λ κ
 pub decides_put : Decides put.ended (λ M 𝓤. put.spec)
 decides_put = record { says = put-reads.Learnt; is = refl; one = λ κs a x y v w p q. same_both (λ l. (l, _)) p.0 q.0 }
 
-pub decides_put_first : Decides put_first.ended (λ M 𝓤. put_first.spec)
-decides_put_first = record { says = put_first-reads.Learnt; is = refl; one = λ κs a x y v w p q. same_both (λ l. (l, _)) p.0 q.0 }
+pub decides_put_first : Decides put-first.ended (λ M 𝓤. put-first.spec)
+decides_put_first = record { says = put-first-reads.Learnt; is = refl; one = λ κs a x y v w p q. same_both (λ l. (l, _)) p.0 q.0 }
 
 pub decides_nothing_kept : Decides nothing-kept.ended (λ M 𝓤. nothing-kept.spec)
 decides_nothing_kept = record { says = nothing-kept-reads.Learnt; is = refl; one = λ κs a x y v w. same_answer }

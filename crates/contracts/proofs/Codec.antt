@@ -11,8 +11,8 @@ use Rattle.codec.specs.contracts.short_at as short-at
 use Rattle.codec.proofs.short_at.Reads as short-at-reads
 use Rattle.codec.specs.contracts.refuse as refuse
 use Rattle.codec.proofs.refuse.Reads as refuse-reads
-use Rattle.codec.specs.contracts.no_stop as no_stop
-use Rattle.codec.proofs.no_stop.Reads as no_stop-reads
+use Rattle.codec.specs.contracts.no_stop as no-stop
+use Rattle.codec.proofs.no_stop.Reads as no-stop-reads
 use Rattle.contracts.specs.Outcomes.{Decides}
 use Rattle.contracts.proofs.Law.{same_answer}
 
@@ -37,5 +37,5 @@ decides_short_at = record { says = short-at-reads.Learnt; is = refl; one = λ κ
 pub decides_refuse : Decides refuse.ended (λ M 𝓤. refuse.spec)
 decides_refuse = record { says = refuse-reads.Learnt; is = refl; one = λ κs a x y v w. same_answer }
 
-pub decides_no_stop : Decides no_stop.ended (λ M 𝓤. no_stop.spec)
-decides_no_stop = record { says = no_stop-reads.Learnt; is = refl; one = λ κs a x y v w. same_answer }
+pub decides_no_stop : Decides no-stop.ended (λ M 𝓤. no-stop.spec)
+decides_no_stop = record { says = no-stop-reads.Learnt; is = refl; one = λ κs a x y v w. same_answer }

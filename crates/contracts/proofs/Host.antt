@@ -3,7 +3,7 @@
 use mathlib.Core.Path.{◌≡◌, refl, sym, ap, ◌∙◌}
 use Rattle.host.specs.Lending.{set_mark, loaded_of, Called, SharesChanged}
 use Rattle.host.specs.contracts.call as call
-use Rattle.host.specs.contracts.change_shares as change_shares
+use Rattle.host.specs.contracts.change_shares as change-shares
 use Rattle.host.specs.contracts.load as load
 use Rattle.host.specs.contracts.set_mark as set-mark
 use Rattle.host.proofs.HostLaws as host
@@ -40,7 +40,7 @@ decides_call =
     }
 
 -- what the host is told of new shares, and the desk at exit
-pub decides_change_shares : Decides change_shares.ended (λ M 𝓤. change_shares.spec)
+pub decides_change_shares : Decides change-shares.ended (λ M 𝓤. change-shares.spec)
 decides_change_shares =
     record {
       says = λ κs a x e. SharesChanged a.0.now a.1.0 x e.0.now;

@@ -8,30 +8,30 @@ use Rattle.message.specs.contracts.ends_ok as ends-ok
 use Rattle.message.proofs.ends_ok.Reads as ends-ok-reads
 use Rattle.message.specs.contracts.range_ok as range-ok
 use Rattle.message.proofs.range_ok.Reads as range-ok-reads
-use Rattle.message.specs.contracts.span_of as Span-of
-use Rattle.message.proofs.span_of.Reads as Span-of-reads
+use Rattle.message.specs.contracts.span_of as span-of
+use Rattle.message.proofs.span_of.Reads as span-of-reads
 use Rattle.message.specs.contracts.span as span
 use Rattle.message.proofs.span.Reads as span-reads
 use Rattle.message.specs.contracts.element_of as element-of
 use Rattle.message.proofs.element_of.Reads as element-of-reads
-use Rattle.message.specs.contracts.width_of as width_of_lem
-use Rattle.message.proofs.width_of.Reads as width_of_lem-reads
-use Rattle.message.specs.contracts.row_of as row_of
-use Rattle.message.proofs.row_of.Reads as row_of-reads
-use Rattle.message.specs.contracts.is_carried as is_Carried
-use Rattle.message.proofs.is_carried.Reads as is_Carried-reads
+use Rattle.message.specs.contracts.width_of as width-of
+use Rattle.message.proofs.width_of.Reads as width-of-reads
+use Rattle.message.specs.contracts.row_of as row-of
+use Rattle.message.proofs.row_of.Reads as row-of-reads
+use Rattle.message.specs.contracts.is_carried as is-carried
+use Rattle.message.proofs.is_carried.Reads as is-carried-reads
 use Rattle.message.specs.contracts.address_at as address-at
 use Rattle.message.proofs.address_at.Reads as address-at-reads
-use Rattle.message.specs.contracts.number_at as number_at
-use Rattle.message.proofs.number_at.Reads as number_at-reads
+use Rattle.message.specs.contracts.number_at as number-at
+use Rattle.message.proofs.number_at.Reads as number-at-reads
 use Rattle.message.specs.contracts.given_at as given-at
 use Rattle.message.proofs.given_at.Reads as given-at-reads
 use Rattle.message.specs.contracts.no_group as no-group
 use Rattle.message.proofs.no_group.Reads as no-group-reads
 use Rattle.message.specs.contracts.blank as blank
 use Rattle.message.proofs.blank.Reads as blank-reads
-use Rattle.message.specs.contracts.with_number as with_number
-use Rattle.message.proofs.with_number.Reads as with_number-reads
+use Rattle.message.specs.contracts.with_number as with-number
+use Rattle.message.proofs.with_number.Reads as with-number-reads
 use Rattle.message.specs.contracts.with_users as with-users
 use Rattle.message.proofs.with_users.Reads as with-users-reads
 use Rattle.message.specs.contracts.with_user as with-user
@@ -56,8 +56,8 @@ use Rattle.message.specs.contracts.with_destinations as with-destinations
 use Rattle.message.proofs.with_destinations.Reads as with-destinations-reads
 use Rattle.message.specs.contracts.with_areas as with-areas
 use Rattle.message.proofs.with_areas.Reads as with-areas-reads
-use Rattle.message.specs.contracts.with_given as with_given_lem
-use Rattle.message.proofs.with_given.Reads as with_given_lem-reads
+use Rattle.message.specs.contracts.with_given as with-given
+use Rattle.message.proofs.with_given.Reads as with-given-reads
 use Rattle.message.specs.contracts.copied as copied
 use Rattle.message.proofs.copied.Reads as copied-reads
 use Rattle.message.specs.contracts.copied_option as copied-option
@@ -77,8 +77,8 @@ decides_ends_ok = record { says = ends-ok-reads.Learnt; is = refl; one = λ κs 
 pub decides_range_ok : Decides range-ok.ended (λ M 𝓤. range-ok.spec)
 decides_range_ok = record { says = range-ok-reads.Learnt; is = refl; one = λ κs a x y v w. same_answer }
 
-pub decides_span_of : Decides Span-of.ended (λ M 𝓤. Span-of.spec)
-decides_span_of = record { says = Span-of-reads.Learnt; is = refl; one = λ κs a x y v w. same_answer }
+pub decides_span_of : Decides span-of.ended (λ M 𝓤. span-of.spec)
+decides_span_of = record { says = span-of-reads.Learnt; is = refl; one = λ κs a x y v w. same_answer }
 
 pub decides_span : Decides span.ended (λ M 𝓤. span.spec)
 decides_span = record { says = span-reads.Learnt; is = refl; one = λ κs a x y v w. same_answer }
@@ -86,20 +86,20 @@ decides_span = record { says = span-reads.Learnt; is = refl; one = λ κs a x y 
 pub decides_element_of : Decides element-of.ended (λ M 𝓤. element-of.spec)
 decides_element_of = record { says = element-of-reads.Learnt; is = refl; one = λ κs a x y v w. same_answer }
 
-pub decides_width_of : Decides width_of_lem.ended (λ M 𝓤. width_of_lem.spec)
-decides_width_of = record { says = width_of_lem-reads.Learnt; is = refl; one = λ κs a x y v w. same_answer }
+pub decides_width_of : Decides width-of.ended (λ M 𝓤. width-of.spec)
+decides_width_of = record { says = width-of-reads.Learnt; is = refl; one = λ κs a x y v w. same_answer }
 
-pub decides_row_of : Decides row_of.ended (λ M 𝓤. row_of.spec)
-decides_row_of = record { says = row_of-reads.Learnt; is = refl; one = λ κs a x y v w. same_answer }
+pub decides_row_of : Decides row-of.ended (λ M 𝓤. row-of.spec)
+decides_row_of = record { says = row-of-reads.Learnt; is = refl; one = λ κs a x y v w. same_answer }
 
-pub decides_is_carried : Decides is_Carried.ended (λ M 𝓤. is_Carried.spec)
-decides_is_carried = record { says = is_Carried-reads.Learnt; is = refl; one = λ κs a x y v w. same_answer }
+pub decides_is_carried : Decides is-carried.ended (λ M 𝓤. is-carried.spec)
+decides_is_carried = record { says = is-carried-reads.Learnt; is = refl; one = λ κs a x y v w. same_answer }
 
 pub decides_address_at : Decides address-at.ended (λ M 𝓤. address-at.spec)
 decides_address_at = record { says = address-at-reads.Learnt; is = refl; one = λ κs a x y v w. same_answer }
 
-pub decides_number_at : Decides number_at.ended (λ M 𝓤. number_at.spec)
-decides_number_at = record { says = number_at-reads.Learnt; is = refl; one = λ κs a x y v w. same_answer }
+pub decides_number_at : Decides number-at.ended (λ M 𝓤. number-at.spec)
+decides_number_at = record { says = number-at-reads.Learnt; is = refl; one = λ κs a x y v w. same_answer }
 
 pub decides_given_at : Decides given-at.ended (λ M 𝓤. given-at.spec)
 decides_given_at = record { says = given-at-reads.Learnt; is = refl; one = λ κs a x y v w. same_answer }
@@ -110,8 +110,8 @@ decides_no_group = record { says = no-group-reads.Learnt; is = refl; one = λ κ
 pub decides_blank : Decides blank.ended (λ M 𝓤. blank.spec)
 decides_blank = record { says = blank-reads.Learnt; is = refl; one = λ κs a x y v w. same_answer }
 
-pub decides_with_number : Decides with_number.ended (λ M 𝓤. with_number.spec)
-decides_with_number = record { says = with_number-reads.Learnt; is = refl; one = λ κs a x y v w. same_answer }
+pub decides_with_number : Decides with-number.ended (λ M 𝓤. with-number.spec)
+decides_with_number = record { says = with-number-reads.Learnt; is = refl; one = λ κs a x y v w. same_answer }
 
 pub decides_with_users : Decides with-users.ended (λ M 𝓤. with-users.spec)
 decides_with_users = record { says = with-users-reads.Learnt; is = refl; one = λ κs a x y v w. same_answer }
@@ -149,8 +149,8 @@ decides_with_destinations = record { says = with-destinations-reads.Learnt; is =
 pub decides_with_areas : Decides with-areas.ended (λ M 𝓤. with-areas.spec)
 decides_with_areas = record { says = with-areas-reads.Learnt; is = refl; one = λ κs a x y v w. same_answer }
 
-pub decides_with_given : Decides with_given_lem.ended (λ M 𝓤. with_given_lem.spec)
-decides_with_given = record { says = with_given_lem-reads.Learnt; is = refl; one = λ κs a x y v w. same_answer }
+pub decides_with_given : Decides with-given.ended (λ M 𝓤. with-given.spec)
+decides_with_given = record { says = with-given-reads.Learnt; is = refl; one = λ κs a x y v w. same_answer }
 
 pub decides_copied : Decides copied.ended (λ M 𝓤. copied.spec)
 decides_copied = record { says = copied-reads.Learnt; is = refl; one = λ κs a x y v w. same_answer }

@@ -10,8 +10,8 @@ use Rattle.records.specs.contracts.second as second
 use Rattle.records.proofs.second.Reads as second-reads
 use Rattle.records.specs.contracts.judged_of as judged-of
 use Rattle.records.proofs.judged_of.Reads as judged-of-reads
-use Rattle.records.specs.contracts.sorted_of as Sorted-of
-use Rattle.records.proofs.sorted_of.Reads as Sorted-of-reads
+use Rattle.records.specs.contracts.sorted_of as sorted-of
+use Rattle.records.proofs.sorted_of.Reads as sorted-of-reads
 use Rattle.records.specs.contracts.marks_of as marks-of
 use Rattle.records.proofs.marks_of.Reads as marks-of-reads
 use Rattle.records.specs.contracts.no_marks as no-marks
@@ -34,8 +34,8 @@ decides_second = record { says = second-reads.Learnt; is = refl; one = λ κs a 
 pub decides_judged_of : Decides judged-of.ended (λ M 𝓤. judged-of.spec)
 decides_judged_of = record { says = judged-of-reads.Learnt; is = refl; one = λ κs a x y v w. same_answer }
 
-pub decides_sorted_of : Decides Sorted-of.ended (λ M 𝓤. Sorted-of.spec)
-decides_sorted_of = record { says = Sorted-of-reads.Learnt; is = refl; one = λ κs a x y v w. same_answer }
+pub decides_sorted_of : Decides sorted-of.ended (λ M 𝓤. sorted-of.spec)
+decides_sorted_of = record { says = sorted-of-reads.Learnt; is = refl; one = λ κs a x y v w. same_answer }
 
 pub decides_marks_of : Decides marks-of.ended (λ M 𝓤. marks-of.spec)
 decides_marks_of = record { says = marks-of-reads.Learnt; is = refl; one = λ κs a x y v w. same_answer }

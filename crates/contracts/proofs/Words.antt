@@ -2,8 +2,8 @@
 use mathlib.Core.Path.{refl}
 use Rattle.words.specs.contracts.said as said
 use Rattle.words.proofs.said.Reads as said-reads
-use Rattle.words.specs.contracts.said_refused as said_refused
-use Rattle.words.proofs.said_refused.Reads as said_refused-reads
+use Rattle.words.specs.contracts.said_refused as said-refused
+use Rattle.words.proofs.said_refused.Reads as said-refused-reads
 use Rattle.words.specs.contracts.said_change as said-change
 use Rattle.words.proofs.said_change.Reads as said-change-reads
 use Rattle.words.specs.contracts.said_place as said-place
@@ -16,8 +16,8 @@ use Rattle.contracts.proofs.Law.{same_answer}
 pub decides_said : Decides said.ended (λ M 𝓤. said.spec)
 decides_said = record { says = said-reads.Learnt; is = refl; one = λ κs a x y v w. same_answer }
 
-pub decides_said_refused : Decides said_refused.ended (λ M 𝓤. said_refused.spec)
-decides_said_refused = record { says = said_refused-reads.Learnt; is = refl; one = λ κs a x y v w. same_answer }
+pub decides_said_refused : Decides said-refused.ended (λ M 𝓤. said-refused.spec)
+decides_said_refused = record { says = said-refused-reads.Learnt; is = refl; one = λ κs a x y v w. same_answer }
 
 pub decides_said_place : Decides said-place.ended (λ M 𝓤. said-place.spec)
 decides_said_place = record { says = said-place-reads.Learnt; is = refl; one = λ κs a x y v w. same_answer }

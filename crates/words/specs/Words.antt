@@ -1,5 +1,5 @@
 -- What is printed for an answer, after the line's number; and each part of a dump.
-use Rattle.std.specs.Prelude.{ℕ, zero, suc, ◌+◌, ◌*◌, ◌/◌, ◌%◌, ◌^◌, min, Bool, true, false, not, cond, List, [], ◌∷◌, ◌++◌, eqb, ltb, get_or}
+use Rattle.std.specs.Prelude.{ℕ, zero, suc, ◌+◌, ◌*◌, ◌/◌, ◌%◌, ◌^◌, min, Bool, true, false, not, cond, List, [], ◌∷◌, ◌++◌, eqb, ltb, get_or, take, drop}
 use Rattle.codec.specs.declared.Stop.{Stop}
 use Rattle.profile.specs.Counting.{one}
 use Rattle.message.specs.Elements as element
@@ -59,9 +59,9 @@ bits_in laid k = get_or laid.lengths k 0
 unfoldable pub refused_of : ℕ → List ℕ
 refused_of n = (114 ∷ 101 ∷ 102 ∷ 117 ∷ 115 ∷ 101 ∷ 100 ∷ 32 ∷ []) ++ decimal_of n
 
--- the elements' names, by number: 1 to 7
-unfoldable pub first_words : List (ℕ × List ℕ)
-first_words =
+-- the elements' names, by number
+unfoldable pub element_words : List (ℕ × List ℕ)
+element_words =
     -- ss-type
     (element.ss_type, 115 ∷ 115 ∷ 45 ∷ 116 ∷ 121 ∷ 112 ∷ 101 ∷ [])
     -- pdu-type
@@ -76,13 +76,8 @@ first_words =
     ∷ (element.extension, 101 ∷ 120 ∷ 116 ∷ 101 ∷ 110 ∷ 115 ∷ 105 ∷ 111 ∷ 110 ∷ [])
     -- mask-present
     ∷ (element.mask_present, 109 ∷ 97 ∷ 115 ∷ 107 ∷ 45 ∷ 112 ∷ 114 ∷ 101 ∷ 115 ∷ 101 ∷ 110 ∷ 116 ∷ [])
-    ∷ []
-
--- 8 to 14
-unfoldable pub later_words : List (ℕ × List ℕ)
-later_words =
     -- mask
-    (element.mask, 109 ∷ 97 ∷ 115 ∷ 107 ∷ [])
+    ∷ (element.mask, 109 ∷ 97 ∷ 115 ∷ 107 ∷ [])
     -- result
     ∷ (element.result, 114 ∷ 101 ∷ 115 ∷ 117 ∷ 108 ∷ 116 ∷ [])
     -- reason
@@ -95,13 +90,8 @@ later_words =
     ∷ (element.o_bit, 111 ∷ 45 ∷ 98 ∷ 105 ∷ 116 ∷ [])
     -- p-bit
     ∷ (element.p_bit, 112 ∷ 45 ∷ 98 ∷ 105 ∷ 116 ∷ [])
-    ∷ []
-
--- 15 to 20
-unfoldable pub last_words : List (ℕ × List ℕ)
-last_words =
     -- mni
-    (element.mni, 109 ∷ 110 ∷ 105 ∷ [])
+    ∷ (element.mni, 109 ∷ 110 ∷ 105 ∷ [])
     -- area
     ∷ (element.area, 97 ∷ 114 ∷ 101 ∷ 97 ∷ [])
     -- basic-service
@@ -114,8 +104,15 @@ last_words =
     ∷ (element.type_of_restriction, 116 ∷ 121 ∷ 112 ∷ 101 ∷ 45 ∷ 111 ∷ 102 ∷ 45 ∷ 114 ∷ 101 ∷ 115 ∷ 116 ∷ 114 ∷ 105 ∷ 99 ∷ 116 ∷ 105 ∷ 111 ∷ 110 ∷ [])
     ∷ []
 
-unfoldable pub element_words : List (ℕ × List ℕ)
-element_words = first_words ++ (later_words ++ last_words)
+-- 1 to 7, 8 to 14 and 15 to 20
+unfoldable pub first_words : List (ℕ × List ℕ)
+first_words = take 7 element_words
+
+unfoldable pub later_words : List (ℕ × List ℕ)
+later_words = take 7 (drop 7 element_words)
+
+unfoldable pub last_words : List (ℕ × List ℕ)
+last_words = drop 14 element_words
 
 unfoldable pub word_in : List (ℕ × List ℕ) → ℕ → List ℕ
 word_in [] e = []

@@ -5,12 +5,6 @@ use Rattle.bits.proofs.PutLaws.{byte_digit_lt}
 use Rattle.bits.specs.Puts.{with_digit}
 use Rattle.bits.proofs.put_digit.Goals as goal
 
--- LEFT div-y : tie.Need-nonzero-div-y
--- div-y c = omega (arith, pow_pos c.before.before.before.before.args.k)
-
--- LEFT rem-y : tie.Need-nonzero-rem-y
--- rem-y c = omega (arith, pow_pos c.before.before.before.before.args.k)
-
 pub overflow_mul-y : goal.overflow_mul-y
 overflow_mul-y c = omega (arith, div-le_self c.wide-x.result c.power-worth.result)
 

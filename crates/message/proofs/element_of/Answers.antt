@@ -3,10 +3,6 @@ use Rattle.message.proofs.RowLaws.{element_none}
 use Rattle.message.specs.Numbers.{elements, element_of}
 use Rattle.message.proofs.element_of.Goals as goal
 
--- LEFT -- Written by tools/proofs from tools/message.conf. `message::element_of` meets its contract. Assumes nothing.
--- array-read-result : tie.Need-array-read-result
--- array-read-result c = search rules
-
 pub returns-then-i-lt12 : goal.returns-then-i-lt12
 unfolding element_of elements
 returns-then-i-lt12 c = search rules

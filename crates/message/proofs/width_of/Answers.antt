@@ -3,9 +3,6 @@ use Rattle.message.proofs.RowLaws.{width_none}
 use Rattle.message.specs.Numbers.{widths, width_of}
 use Rattle.message.proofs.width_of.Goals as goal
 
--- LEFT array-read-result : tie.Need-array-read-result
--- array-read-result c = search rules
-
 pub returns-then-at-lt12 : goal.returns-then-at-lt12
 unfolding width_of widths
 returns-then-at-lt12 c = search rules

@@ -2,16 +2,6 @@ use mathlib.Core.Path.{sym, ◌∙◌}
 use Rattle.script.specs.Lines.{line_of}
 use Rattle.script.proofs.parse.Goals as goal
 
--- LEFT -- Written by tools/proofs from tools/script.conf. `script::parse` meets its contract. Assumes nothing.
--- slice-aggregate-starts : tie.Need-slice-aggregate-starts
--- slice-aggregate-starts c = search rules
-
--- LEFT slice-aggregate-starts-2 : tie.Need-slice-aggregate-starts-2
--- slice-aggregate-starts-2 c = search rules
-
--- LEFT slice-aggregate-starts-3 : tie.Need-slice-aggregate-starts-3
--- slice-aggregate-starts-3 c = search rules
-
 pub returns-then-starts : goal.returns-then-starts
 unfolding line_of
 returns-then-starts c = rw (c.post_line.ensures, c.numbers_at.ensures, sym c.starts.ensures ∙ c.if-starts.true)

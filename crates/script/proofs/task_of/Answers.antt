@@ -2,37 +2,6 @@ use mathlib.Core.Path.{sym, ◌∙◌}
 use Rattle.script.specs.Lines.{task_of}
 use Rattle.script.proofs.task_of.Goals as goal
 
--- LEFT -- Written by tools/proofs from tools/script.conf. `script::task_of` meets its contract. Assumes nothing.
--- slice-aggregate-starts : tie.Need-slice-aggregate-starts
--- slice-aggregate-starts c = search rules
-
--- LEFT slice-aggregate-starts-2 : tie.Need-slice-aggregate-starts-2
--- slice-aggregate-starts-2 c = search rules
-
--- LEFT slice-aggregate-starts-3 : tie.Need-slice-aggregate-starts-3
--- slice-aggregate-starts-3 c = search rules
-
--- LEFT slice-aggregate-starts-4 : tie.Need-slice-aggregate-starts-4
--- slice-aggregate-starts-4 c = search rules
-
--- LEFT slice-aggregate-starts-5 : tie.Need-slice-aggregate-starts-5
--- slice-aggregate-starts-5 c = search rules
-
--- LEFT slice-aggregate-starts-6 : tie.Need-slice-aggregate-starts-6
--- slice-aggregate-starts-6 c = search rules
-
--- LEFT slice-aggregate-starts-7 : tie.Need-slice-aggregate-starts-7
--- slice-aggregate-starts-7 c = search rules
-
--- LEFT slice-aggregate-starts-8 : tie.Need-slice-aggregate-starts-8
--- slice-aggregate-starts-8 c = search rules
-
--- LEFT slice-aggregate-starts-9 : tie.Need-slice-aggregate-starts-9
--- slice-aggregate-starts-9 c = search rules
-
--- LEFT slice-aggregate-starts-10 : tie.Need-slice-aggregate-starts-10
--- slice-aggregate-starts-10 c = search rules
-
 pub returns-then-starts : goal.returns-then-starts
 unfolding task_of
 returns-then-starts c = rw (c.set_up.ensures, c.numbers_at.ensures, sym c.starts.ensures ∙ c.if-starts.true)

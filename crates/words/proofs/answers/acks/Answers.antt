@@ -2,10 +2,6 @@ use Rattle.blocks.proofs.BlockLaws.{wrote_join}
 use Rattle.words.specs.Words.{acks_words}
 use Rattle.words.proofs.answers.acks.Goals as goal
 
--- LEFT -- Written by tools/proofs from tools/words.conf. `words::answers::acks` meets its contract. Assumes nothing.
--- slice-aggregate-add-numbered : tie.Need-slice-aggregate-add-numbered
--- slice-aggregate-add-numbered c = search rules
-
 pub returns : goal.returns
 unfolding acks_words
 returns c =

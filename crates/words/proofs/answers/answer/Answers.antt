@@ -1,24 +1,6 @@
 use Rattle.words.specs.Words.{words_of}
 use Rattle.words.proofs.answers.answer.Goals as goal
 
--- LEFT slice-aggregate-add : tie.Need-slice-aggregate-add
--- slice-aggregate-add c = search rules
-
--- LEFT slice-aggregate-sent : tie.Need-slice-aggregate-sent
--- slice-aggregate-sent c = search rules
-
--- LEFT slice-aggregate-sent-2 : tie.Need-slice-aggregate-sent-2
--- slice-aggregate-sent-2 c = search rules
-
--- LEFT slice-aggregate-sent-3 : tie.Need-slice-aggregate-sent-3
--- slice-aggregate-sent-3 c = search rules
-
--- LEFT slice-aggregate-posted : tie.Need-slice-aggregate-posted
--- slice-aggregate-posted c = search rules
-
--- LEFT slice-aggregate-posted-2 : tie.Need-slice-aggregate-posted-2
--- slice-aggregate-posted-2 c = search rules
-
 pub returns-in-Refused : goal.returns-in-Refused
 unfolding words_of
 returns-in-Refused c = rw c.in-Refused.is c.stopped.ensures

@@ -3,13 +3,6 @@ use Rattle.blocks.proofs.BlockLaws.{wrote_none, wrote_join}
 use Rattle.words.specs.Words.{broke_words}
 use Rattle.words.proofs.answers.broke.Goals as goal
 
--- LEFT -- Written by tools/proofs from tools/words.conf. `words::answers::broke` meets its contract. Assumes nothing.
--- slice-aggregate-add-numbered : tie.Need-slice-aggregate-add-numbered
--- slice-aggregate-add-numbered c = search rules
-
--- LEFT slice-aggregate-add : tie.Need-slice-aggregate-add
--- slice-aggregate-add c = search rules
-
 pub returns-then-stop-eq4 : goal.returns-then-stop-eq4
 unfolding broke_words
 returns-then-stop-eq4 c =

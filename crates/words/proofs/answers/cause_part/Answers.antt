@@ -3,9 +3,6 @@ use Rattle.blocks.proofs.BlockLaws.{wrote_none}
 use Rattle.words.specs.Words.{cause_words}
 use Rattle.words.proofs.answers.cause_part.Goals as goal
 
--- LEFT slice-aggregate-add-numbered : tie.Need-slice-aggregate-add-numbered
--- slice-aggregate-add-numbered c = search rules
-
 pub returns-then-cause-eq0 : goal.returns-then-cause-eq0
 unfolding cause_words
 returns-then-cause-eq0 c = rw (eq-eqb _ _ c.if-cause-eq0.true) (wrote_none _ _)

@@ -5,28 +5,6 @@ use Rattle.words.proofs.WordLaws.{word_on}
 use Rattle.words.specs.Words.{first_words, later_words, last_words, element_words, word_in, element_word}
 use Rattle.words.proofs.answers.element.Goals as goal
 
--- LEFT -- Written by tools/proofs from tools/words.conf. `words::answers::element` meets its contract. Assumes nothing.
--- slice-aggregate-add : tie.Need-slice-aggregate-add
--- slice-aggregate-add c = search rules
-
--- LEFT slice-aggregate-add-2 : tie.Need-slice-aggregate-add-2
--- slice-aggregate-add-2 c = search rules
-
--- LEFT slice-aggregate-add-3 : tie.Need-slice-aggregate-add-3
--- slice-aggregate-add-3 c = search rules
-
--- LEFT slice-aggregate-add-4 : tie.Need-slice-aggregate-add-4
--- slice-aggregate-add-4 c = search rules
-
--- LEFT slice-aggregate-add-5 : tie.Need-slice-aggregate-add-5
--- slice-aggregate-add-5 c = search rules
-
--- LEFT slice-aggregate-add-6 : tie.Need-slice-aggregate-add-6
--- slice-aggregate-add-6 c = search rules
-
--- LEFT slice-aggregate-add-7 : tie.Need-slice-aggregate-add-7
--- slice-aggregate-add-7 c = search rules
-
 pub returns-then-e-eq1 : goal.returns-then-e-eq1
 unfolding element_word element_words first_words word_in
 returns-then-e-eq1 c = wrote_as c.add.ensures (ap element_word (sym c.if-e-eq1.true))
@@ -56,6 +34,6 @@ unfolding element_word element_words first_words word_in
 returns-then-e-eq7 c = wrote_as c.add-then-e-eq7.ensures (ap element_word (sym c.if-e-eq7.true))
 
 pub returns : goal.returns
-unfolding element_word element_words first_words
+unfolding element_word element_words first_words later_words last_words
 returns c =
     wrote_as c.later_element.ensures (sym (word_on first_words (later_words ++ last_words) _ (c.if-e-eq1.false, (c.if-e-eq2.false, (c.if-e-eq3.false, (c.if-e-eq4.false, (c.if-e-eq5.false, (c.if-e-eq6.false, (c.if-e-eq7.false, tt)))))))))

@@ -2,10 +2,6 @@ use Rattle.blocks.proofs.BlockLaws.{wrote_none, wrote_join}
 use Rattle.words.specs.Words.{place_words}
 use Rattle.words.proofs.answers.place_part.Goals as goal
 
--- LEFT -- Written by tools/proofs from tools/words.conf. `words::answers::place_part` meets its contract. Assumes nothing.
--- slice-aggregate-add-numbered : tie.Need-slice-aggregate-add-numbered
--- slice-aggregate-add-numbered c = search rules
-
 pub returns-then-place : goal.returns-then-place
 unfolding place_words
 returns-then-place c =
