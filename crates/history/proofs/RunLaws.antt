@@ -333,6 +333,10 @@ opened p = go (profile_ok p)
     go true e = (refl, refl)
     go false e = not_both e
 
+-- the shares that a history has in force, by which each call is judged
+abbrev pub in_force_by : Profile → History → Shares
+in_force_by p history = shares_of p history
+
 module _ (p : Profile) (opens : profile_ok p ≡ true) where
   pub along_open : Along (desk_with p) []
   unfolding profile_ok

@@ -34,10 +34,10 @@ use Rattle.desk.specs.declared.Event.{Event}
 use Rattle.desk.specs.declared.Event.TheVariants as event
 use Rattle.desk.proofs.AnswerLaws.{step_answer, past_one, Can, event_ok}
 use Rattle.desk.proofs.SetUps.{is_refused, new_call}
-use Rattle.history.specs.Histories.{Call, Turn, History, step_for, run_of, left_by, shares_of, Waiting, waiting_of, is_waiting, held_by, free_by, owed_to_others, is_restricted_call}
+use Rattle.history.specs.Histories.{Call, Turn, History, step_for, run_of, left_by, Waiting, waiting_of, is_waiting, held_by, free_by, owed_to_others, is_restricted_call}
 use Rattle.history.proofs.WaitingLaws.{Same, held_same, waiting_same}
 use Rattle.history.proofs.RuleLaws.{reserved_yes, none_no, else_yes, no_none}
-use Rattle.history.proofs.RunLaws.{Suits, stands, along, posts_fixed}
+use Rattle.history.proofs.RunLaws.{Suits, in_force_by, stands, along, posts_fixed}
 
 -- ---- past 1
 
@@ -87,7 +87,7 @@ module _ (p : Profile) (opens : profile_ok p ≡ true) (turns : List Turn) where
   waiting = waiting_of p history
 
   abbrev pub in_force : Shares
-  in_force = shares_of p history
+  in_force = in_force_by p history
 
   -- the desk on which the next call comes
   abbrev pub next : Desk
