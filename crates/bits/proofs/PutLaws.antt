@@ -3,12 +3,12 @@
 use Prim.Native.Nat.{ℕ, zero, suc, ◌+◌, ◌-◌, ◌*◌, ◌/◌, ◌%◌, ◌^◌, ◌≤◌, ◌<◌}
 use mathlib.Core.Path.{◌≡◌, refl, sym, ap, ◌∙◌}
 use mathlib.Core.List.{List, [], ◌∷◌, ◌++◌}
-use native.Mathlib.Nat.{mod-lt, pow-suc, div-one, suc-add, add-suc, add-zero}
+use native.Mathlib.Nat.{one-mul, mod-eq_of_lt, mod-lt, pow-suc, div-one, suc-add, add-suc, add-zero}
 use native.Mathlib.Numerals.{add-one}
 use native.Mathlib.Omega.{arith}
 use lib.Arith.{digits_lt}
 use lib.ListN.{length, length-append, length-set, set, get_or}
-use lib.Pow.{pow-add, pow_pos, shr_lt, shr-shr}
+use lib.Pow.{pow-add, pow-lt, pow_pos, shr_lt, shr-shr}
 use borrow.Author.Tests.{le-leb, lt-leb}
 use Rattle.bits.specs.Puts.{with_digit, set_bit, put_bits, binary, can_put, put_of, spare, pad_of}
 
@@ -21,6 +21,10 @@ digit_lt j k {x} {b} hx hb =
     let q' : x / 2 ^ k < 2 ^ j * 2 = rw pow-suc at q in
     let m : x / 2 ^ k / 2 * 2 + b < 2 ^ suc j = rw pow-suc (omega (arith, q', hb)) in
     rw (pow-add 2 (suc j) k) (digits_lt m (mod-lt x (pow_pos k)))
+
+-- 2 ^ k, as the code has it
+pub one_shifted : (k : ℕ) → k < 64 → 1 * 2 ^ k % 2 ^ 64 ≡ 2 ^ k
+one_shifted k h = rw one-mul (mod-eq_of_lt (pow-lt h))
 
 -- a byte with another digit is a byte; p is 2 ^ k, as the code has it
 pub byte_digit_lt : {x k b p : ℕ} → p ≡ 2 ^ k → x < 256 → k < 8 → b < 2 → (x / p / 2 * 2 + b) * p + x % p < 256

@@ -1,11 +1,12 @@
 -- A field, from the eight bytes that it begins in and the ninth. Assumes nothing.
 use Prim.Native.Nat.{ℕ, zero, suc, ◌+◌, ◌-◌, ◌*◌, ◌/◌, ◌%◌, ◌^◌, ◌≤◌, ◌<◌}
 use mathlib.Core.Path.{◌≡◌, sym, ap, ◌∙◌}
-use mathlib.Core.List.{List}
+use mathlib.Core.List.{List, [], ◌∷◌}
 use native.Mathlib.Nat.{div-one, mul_assoc, add-mul}
 use native.Mathlib.Omega.{arith}
 use lib.ListN.{length, get_or}
 use lib.Pow.{pow-add, low, shl_lt, shl-shr, shr-shr}
+use Rattle.std.specs.Int.{w64, from_be_bytes}
 use Rattle.bits.specs.Fields.{bit_at, field_at}
 use Rattle.bits.proofs.FieldLaws.{bit_lt, field_lt, field_below, field_split, field_front, field_past}
 
@@ -39,11 +40,23 @@ byte_more l i k h =
     let p : 8 * i + 8 * k ≡ 8 * (i + k) = omega arith in
     sym (rw (e, field_split (bit_at l) (8 * i) (8 * k) 8, p, byte_field l (i + k) h))
 
--- eight bytes are four and four
-pub halves : (l : List ℕ) (i : ℕ) → field_at (bit_at l) (8 * i) 32 * 2 ^ 32 + field_at (bit_at l) (8 * (i + 4)) 32 ≡ field_at (bit_at l) (8 * i) 64
-halves l i =
-    let p : 8 * (i + 4) ≡ 8 * i + 32 = omega arith in
-    sym (field_split (bit_at l) (8 * i) 32 32 ∙ rw p)
+-- eight bytes, the first of most worth
+pub word_of_bytes : (l : List ℕ) (i : ℕ) → ((j : ℕ) → get_or l j 0 < 256)
+    → from_be_bytes w64 (get_or l i 0 ∷ get_or l (i + 1) 0 ∷ get_or l (i + 2) 0 ∷ get_or l (i + 3) 0 ∷ get_or l (i + 4) 0 ∷ get_or l (i + 5) 0 ∷ get_or l (i + 6) 0 ∷ get_or l (i + 7) 0 ∷ [])
+    ≡ field_at (bit_at l) (8 * i) 64
+word_of_bytes l i h =
+    let first : field_at (bit_at l) (8 * i) 8 ≡ get_or l i 0 = byte_field l i (h i) in
+    omega (
+      arith,
+      first,
+      byte_more l i 1 (h (i + 1)),
+      byte_more l i 2 (h (i + 2)),
+      byte_more l i 3 (h (i + 3)),
+      byte_more l i 4 (h (i + 4)),
+      byte_more l i 5 (h (i + 5)),
+      byte_more l i 6 (h (i + 6)),
+      byte_more l i 7 (h (i + 7)),
+    )
 
 -- ---- the 64 bits from byte i on, brought to the position 8 * i + r
 

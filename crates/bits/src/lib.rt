@@ -13,10 +13,7 @@ ghost use Rattle.bits.specs.Puts.{with_digit, put_bits, binary, put_of, pad_of};
 pub fn field(buf: &[u8], at: usize, width: usize) -> u64
     ensures { result ≡ field_of buf.now at width }
 {
-    if width == 0 {
-        return 0;
-    }
-    if width > 64 {
+    if width == 0 || width > 64 {
         return 0;
     }
     let first = at % 8;
@@ -32,10 +29,7 @@ pub fn eight(buf: &[u8], i: usize) -> u64
     ensures { result ≡ eight_of buf.now i }
 {
     let n = buf.len();
-    if n < 8 {
-        return 0;
-    }
-    if i > n - 8 {
+    if n < 8 || i > n - 8 {
         return 0;
     }
     word_inside(buf, i)
@@ -45,13 +39,7 @@ pub fn eight(buf: &[u8], i: usize) -> u64
 pub fn put(out: &mut [u8], at: usize, width: usize, value: u64)
     ensures { out.new ≡ put_of out.old at width value }
 {
-    if width > 64 {
-        return;
-    }
-    if at / 8 > out.len() {
-        return;
-    }
-    if (at % 8 + width + 7) / 8 > out.len() - at / 8 {
+    if width > 64 || at / 8 > out.len() || (at % 8 + width + 7) / 8 > out.len() - at / 8 {
         return;
     }
     put_inside(out, at, width, value);
@@ -64,17 +52,11 @@ pub fn pad(out: &mut [u8], at: usize)
     put(out, at, (8 - at % 8) % 8, 0);
 }
 
-fn wide(x: u8) -> u64
-    ensures { (result ≡ x) × (result < 256) }
-{
-    x as u64
-}
-
 // The byte at an index, 0 past the end.
 fn byte_at(buf: &[u8], i: usize) -> u64
     ensures { (result ≡ get_or buf.now i 0) × (result < 256) }
 {
-    if i < buf.len() { wide(buf[i]) } else { 0 }
+    buf.get(i).copied().map_or(0, u64::from)
 }
 
 // The 64 bits of the eight bytes from an index on.
@@ -91,12 +73,21 @@ fn word(buf: &[u8], i: usize) -> u64
     word_at_end(buf, i)
 }
 
-// The same where all eight bytes are there.
+// The same where all eight bytes are there: the compiler makes one load and one swap of bytes of it.
 fn word_inside(buf: &[u8], i: usize) -> u64
     requires { i + 8 ≤ length buf.now }
     ensures { result ≡ field_at (bit_at buf.now) (8 * i) 64 }
 {
-    half_word(buf, i) * 0x1_0000_0000 + half_word(buf, i + 4)
+    u64::from_be_bytes([
+        buf[i],
+        buf[i + 1],
+        buf[i + 2],
+        buf[i + 3],
+        buf[i + 4],
+        buf[i + 5],
+        buf[i + 6],
+        buf[i + 7],
+    ])
 }
 
 // The same where some lie past the end of eight bytes or more: the last eight, moved up, since what is past the end is 0.
@@ -117,24 +108,8 @@ fn word_at_end(buf: &[u8], i: usize) -> u64
     ensures { result ≡ field_at (bit_at buf.now) (8 * i) 64 }
 {
     let mut v: u64 = 0;
-    let mut k: usize = 0;
-    while k < 8 {
+    for k in 0..8 {
         v = v * 256 + byte_at(buf, i + k);
-        k += 1;
-    }
-    v
-}
-
-// The 32 bits of four bytes that are there. (Of two such loops the compiler makes one load; of one loop over eight it does not.)
-fn half_word(buf: &[u8], i: usize) -> u64
-    requires { i + 4 ≤ length buf.now }
-    ensures { result ≡ field_at (bit_at buf.now) (8 * i) 32 }
-{
-    let mut v: u64 = 0;
-    let mut k: usize = 0;
-    while k < 4 {
-        v = v * 256 + wide(buf[i + k]);
-        k += 1;
     }
     v
 }
@@ -144,8 +119,7 @@ fn put_inside(out: &mut [u8], at: usize, width: usize, value: u64)
     requires { (at + width ≤ 8 * length out.old) × (width ≤ 64) }
     ensures { out.new ≡ put_bits out.old at (binary width value) }
 {
-    let mut k: usize = 0;
-    while k < width {
+    for k in 0..width {
         let next = at % 8 + k;
         put_digit(
             out,
@@ -153,7 +127,6 @@ fn put_inside(out: &mut [u8], at: usize, width: usize, value: u64)
             7 - next % 8,
             (value >> (width - (k + 1))) % 2,
         );
-        k += 1;
     }
 }
 
@@ -162,16 +135,8 @@ fn put_digit(out: &mut [u8], i: usize, k: usize, digit: u64)
     requires { (i < length out.old) × ((k < 8) × (digit < 2)) }
     ensures { out.new ≡ set out.old i (with_digit (get_or out.old i 0) k digit) }
 {
-    let x = wide(out[i]);
-    let worth = power(k);
+    let x = u64::from(out[i]);
+    let worth = 1 << k;
     let y = (x / worth / 2 * 2 + digit) * worth + x % worth;
     out[i] = y as u8;
-}
-
-// 2 ^ k.
-fn power(k: usize) -> u64
-    requires { k < 64 }
-    ensures { result ≡ 2 ^ k }
-{
-    1 << k
 }

@@ -1,11 +1,7 @@
-use Prim.Native.Nat.{◌-◌, ◌/◌, ◌^◌, ◌≤◌}
+use Prim.Native.Nat.{◌-◌, ◌/◌, ◌^◌}
 use mathlib.Core.Path.{◌≡◌}
-use lib.ListN.{length}
 use Rattle.bits.specs.Puts.{put_bits, binary}
 use Rattle.bits.proofs.put_inside.Given as goal
 
 abbrev pub invariant-loop-k : goal.invariant-loop-k
-invariant-loop-k l = (l.k ≤ l.width) × ((length l.out ≡ length l.initial.out) × (l.out ≡ put_bits l.initial.out l.at (binary l.k (l.value / 2 ^ (l.width - l.k)))))
-
-abbrev pub decreases-loop-k : goal.decreases-loop-k
-decreases-loop-k l = l.width - l.k
+invariant-loop-k l = l.out ≡ put_bits l.initial.out l.at (binary l.k (l.value / 2 ^ (l.width - l.k)))
