@@ -1,24 +1,24 @@
 -- Blocks: a line's end looked for byte by byte, and bytes put one after the other. Assumes nothing.
 use Prim.Native.Nat.{ℕ, suc, ◌+◌, ◌-◌, ◌≤◌, ◌<◌, min}
 use mathlib.Core.Path.{◌≡◌, refl, sym, ap, ◌∙◌}
-use mathlib.Core.Bool.{Bool, true, false, ◌||◌}
-use mathlib.Core.List.{List, [], ◌∷◌, ◌++◌, append-nil}
+use mathlib.Core.Bool.{Bool, true, false, cond, ◌||◌}
+use mathlib.Core.List.{List, [], ◌∷◌, ◌++◌, append-nil, append_assoc}
 use mathlib.Core.Logic.{⊎_elim}
 use native.Mathlib.Nat.{add-zero, add-suc, add_assoc, suc-add}
 use native.Mathlib.Numerals.{add-one}
 use native.Mathlib.Omega.{arith}
-use borrow.Author.Tests.{eq-eqb, ne_eqb, eqb-false}
+use borrow.Rule.Slice.PartMut.{put_mid}
+use Rattle.std.specs.List.{position, position_or_len}
+use Rattle.std.specs.Option.{option_map_or}
+use Rattle.std.proofs.lemmas.List.Recursion.{is_position_or_len}
+use borrow.Author.Tests.{lt-ltb, le-ltb, ne_eqb, eqb-false}
 use lib.Dec.{eqb}
-use lib.ListN.{length, get_or, set, take, length-append, drop_of_length-le}
-use lib.Seq.{sets, length-sets, take_all, take-length, take-append-le, take-append-add, take-suc, drop-cons, length-take-le}
+use lib.ListN.{length, get_or, set, take, drop, length-drop, length-append, drop_of_length-le}
+use lib.Seq.{sets, sets-eq, drop-drop, length-sets, take_all, take-length, take-append-le, take-append-add, drop-cons, length-take-le}
 use Rattle.bits.proofs.SetLaws.{lt_or}
 use Rattle.blocks.specs.Blocks.{before_lf, line_end, fits, text_end, put_text, Wrote}
 
 -- ---- the end of a line
-
-pub at_lf : (l : List ℕ) (i : ℕ) → i < length l → get_or l i 0 ≡ 10 → line_end l i ≡ i
-unfolding line_end before_lf
-at_lf l i h e = rw (drop-cons l i 0 h, eq-eqb _ _ e) (add-zero i)
 
 pub past_byte : (l : List ℕ) (i : ℕ) → i < length l → (get_or l i 0 ≡ 10 → ⊥) → line_end l i ≡ line_end l (i + 1)
 unfolding line_end before_lf
@@ -30,6 +30,36 @@ pub past_bytes : (l : List ℕ) (i j : ℕ) (seen : Bool) → (seen ≡ false �
 past_bytes l i j true h k e = let z : ◌≡◌ {A = ℕ} 0 1 = cc in absurd (omega arith)
 past_bytes l i j false h k e = h refl ∙ past_byte l (i + j) k (eqb-false _ _ e) ∙ ap (λ (n : ℕ). line_end l n) (add_assoc i j 1)
 
+before_lf_is : (xs : List ℕ) → before_lf xs ≡ position_or_len (λ x. eqb x 10) xs
+unfolding before_lf
+before_lf_is xs = is_position_or_len before_lf (λ x. eqb x 10) refl (λ x r. let e : suc (before_lf r) ≡ 1 + before_lf r = omega arith in rw e) xs
+
+before_lf_most : (xs : List ℕ) → before_lf xs ≤ length xs
+unfolding before_lf
+before_lf_most [] = omega arith
+before_lf_most (x ∷ xs) =
+    let more = before_lf_most xs in
+    elim (eqb x 10) as (λ b. cond b 0 (suc (before_lf xs)) ≤ suc (length xs)) [ true ↦ omega arith | false ↦ omega arith ]
+
+-- the first LF from an index on, as the library looks for it
+pub first_lf : (l : List ℕ) (i : ℕ) → i ≤ length l
+    → option_map_or (λ n. i + n) (position (λ x. eqb x 10) (drop i l)) (length l) ≡ line_end l i
+unfolding line_end
+first_lf l i h =
+    let xs = drop i l in
+    let e = length-drop i l in
+    let b = position_or_len (λ x. eqb x 10) xs in
+    let most : b ≤ length xs = rw (← before_lf_is xs) (before_lf_most xs) in
+    rw before_lf_is
+    (⊎_elim
+    (λ (k : b < length xs). rw (lt-ltb _ _ k))
+    (λ (k : length xs ≤ b). rw (le-ltb _ _ k) (omega arith))
+    (lt_or b (length xs)))
+
+pub line_end_most : (l : List ℕ) (i : ℕ) → i ≤ length l → (i ≤ line_end l i) × (line_end l i ≤ length l)
+unfolding line_end
+line_end_most l i h = (omega arith, omega (arith, before_lf_most (drop i l), length-drop i l))
+
 pub at_end : (l : List ℕ) (i : ℕ) → length l ≤ i → line_end l i ≡ i
 unfolding line_end before_lf
 at_end l i h = rw (drop_of_length-le l h) (add-zero i)
@@ -40,10 +70,12 @@ pub sets_join : (l : List ℕ) (i : ℕ) (xs ys : List ℕ) → sets l i (xs ++ 
 sets_join l i [] ys = rw add-zero
 sets_join l i (x ∷ xs) ys = sets_join (set l i x) (suc i) xs ys ∙ rw (add-suc, suc-add)
 
--- one byte more, as a loop going up puts it
-pub put_turn : (l : List ℕ) (start i : ℕ) (piece : List ℕ) → i < length piece → sets l start (take (i + 1) piece) ≡ set (sets l start (take i piece)) (start + i) (get_or piece i 0)
-put_turn l start i piece h =
-    rw (add-one, take-suc piece i 0 h) (sets_join l start (take i piece) (get_or piece i 0 ∷ []) ∙ rw (length-take-le i piece (omega arith)))
+-- a text put into a part of a block at once
+pub put_part : (l : List ℕ) (at n : ℕ) (text : List ℕ) → at + n ≤ length l → n ≤ length text → put_mid at (at + n - at) l (take n text) ≡ sets l at (take n text)
+put_part l at n text h k =
+    let e : length (take n text) ≡ n = length-take-le n text k in
+    let d : at + n - at ≡ n = omega arith in
+    rw (d, sets-eq (take n text) l at (rw e h), e, append_assoc, drop-drop n at l)
 
 -- ---- as much of some bytes as there is room for
 

@@ -5,11 +5,11 @@
 // one more piece after a text, of which the first 1,152 bytes are kept (specs/Texts, proofs/TextLaws).
 #![tactic(auto)]
 
-ghost use Rattle.std.specs.Prelude.{◌≡◌, false, ◌+◌, ◌-◌, ◌≤◌, min, length, take};
+ghost use Rattle.std.specs.Prelude.{◌≡◌, ◌==◌, position, false, ◌+◌, ◌-◌, ◌≤◌, min, length, take};
 ghost use Rattle.blocks.specs.Blocks.{line_end, text_end, put_text};
 ghost use Rattle.blocks.specs.Texts.{no_text, keep_of};
 
-// The first `len` of the bytes; the others are zero.
+// The first `len` of the bytes; the others are zero. (Fixed memory, since there is no heap: so no Vec; `text_of` and `keep_of` speak of it.)
 #[derive(Clone, Copy)]
 pub struct Text {
     pub len: usize,
@@ -25,13 +25,11 @@ pub fn line_end(block: &[u8], from: usize) -> usize
         return from;
     }
     let mut i = from;
-    while block.len() - i >= 16 {
-        if has_lf(block, i) {
-            return next_lf(block, i);
-        }
+    // a `while`: it goes by sixteen, and what is left is fewer
+    while block.len() - i >= 16 && !has_lf(block, i) {
         i += 16;
     }
-    next_lf(block, i)
+    next_lf(&block[i..]).map_or(block.len(), |n| i + n)
 }
 
 // Whether an LF may be among the sixteen bytes from an index on. It looks at each byte, and leaves off at none: so the compiler can take
@@ -41,39 +39,28 @@ fn has_lf(block: &[u8], from: usize) -> bool
     ensures { result ≡ false → line_end block.now from ≡ line_end block.now (from + 16) }
 {
     let mut seen = false;
-    let mut j: usize = 0;
-    while j < 16 {
-        seen = seen | (block[from + j] == 10);
-        j += 1;
+    for j in 0..16 {
+        seen |= block[from + j] == b'\n';
     }
     seen
 }
 
-// The same byte by byte.
-#[tactic(auto, using(crate::proofs::BlockLaws::at_lf))]
-fn next_lf(block: &[u8], from: usize) -> usize
-    ensures { (result ≡ line_end block.now from) × ((from ≤ result) × (result ≤ from + (length block.now - from))) }
+// Where the first LF is.
+fn next_lf(bytes: &[u8]) -> Option<usize>
+    ensures { result ≡ position (λ x. x == 10) bytes.now }
 {
-    let mut i = from;
-    while i < block.len() {
-        if block[i] == 10 {
-            return i;
-        }
-        i += 1;
-    }
-    i
+    bytes.iter().position(|b| *b == b'\n')
 }
 
 // The bytes of a text one after the other, as far as there is room, and the index after them.
 pub fn put(block: &mut [u8], at: usize, text: &[u8]) -> usize
     ensures { ((result ≡ text_end block.old at text.now) × (block.new ≡ put_text block.old at text.now)) × (result ≤ at + (length block.old - at)) }
 {
-    let n = room_for(block.len(), at, text.len());
-    let mut i: usize = 0;
-    while i < n {
-        block[at + i] = text[i];
-        i += 1;
+    if at >= block.len() {
+        return at;
     }
+    let n = text.len().min(block.len() - at);
+    block[at..at + n].copy_from_slice(&text[..n]);
     at + n
 }
 
@@ -81,10 +68,7 @@ pub fn put(block: &mut [u8], at: usize, text: &[u8]) -> usize
 pub fn put_first(block: &mut [u8], at: usize, text: &[u8], len: usize) -> usize
     ensures { ((result ≡ text_end block.old at (take len text.now)) × (block.new ≡ put_text block.old at (take len text.now))) × (result ≤ at + (length block.old - at)) }
 {
-    if len > text.len() {
-        return put(block, at, text);
-    }
-    put(block, at, &text[..len])
+    put(block, at, &text[..len.min(text.len())])
 }
 
 // Nothing is there yet.
@@ -101,28 +85,7 @@ pub fn nothing_kept() -> Text
 pub fn keep(kept: Text, piece: &[u8]) -> Text
     ensures { result ≡ keep_of kept piece.now }
 {
-    let start = kept.len;
     let mut bytes = kept.bytes;
-    let n = room_for(1152, start, piece.len());
-    let mut i: usize = 0;
-    while i < n {
-        bytes[start + i] = piece[i];
-        i += 1;
-    }
-    Text {
-        len: start + n,
-        bytes: bytes,
-    }
-}
-
-fn room_for(size: usize, at: usize, more: usize) -> usize
-    ensures { (result ≡ min (size - at) more) × ((result ≤ size - at) × (result ≤ more)) }
-{
-    if at >= size {
-        return 0;
-    }
-    if size - at < more {
-        return size - at;
-    }
-    more
+    let len = put(&mut bytes, kept.len, piece);
+    Text { len, bytes }
 }

@@ -1,20 +1,13 @@
-use mathlib.Core.Path.{◌≡◌, refl, sym}
-use native.Mathlib.Omega.{arith}
-use borrow.Author.Rules.{rules}
-use Rattle.blocks.proofs.BlockLaws.{put_turn}
+use lib.ListN.{length}
+use Rattle.blocks.specs.Blocks.{fits, text_end, put_text}
 use Rattle.blocks.specs.Texts.{room_for, keep_of}
 use Rattle.blocks.proofs.keep.Goals as goal
-
-pub loop-i-init : goal.loop-i-init
-loop-i-init c = (search rules, (search rules, refl))
-
-pub loop-i-preserved : goal.loop-i-preserved
-loop-i-preserved c =
-    let a = c.args in
-    (search rules, (search rules, rw c.loop-i.invariant.1.1 (sym (put_turn _ a.kept.len c.loop-i.i a.piece.now (omega arith)))))
+use native.Mathlib.Omega.{arith}
+use mathlib.Core.Path.{◌≡◌}
 
 pub returns : goal.returns
-unfolding keep_of room_for
+unfolding keep_of room_for text_end put_text fits
 returns c =
-    let e : c.loop-i.i ≡ c.room_for-n.result = omega arith in
-    rw (← c.room_for-n.ensures.0, c.loop-i.invariant.1.1, e)
+    let p = c.put-len.ensures in
+    let k : length c.args.kept.bytes ≡ 1152 = omega arith in
+    rw (p.0.0, p.0.1, k)

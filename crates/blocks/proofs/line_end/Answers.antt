@@ -1,22 +1,29 @@
-use mathlib.Core.Path.{refl, sym, ◌∙◌}
+use Prim.Native.Nat.{◌+◌, ◌-◌}
+use mathlib.Core.Path.{◌≡◌, sym, ◌∙◌}
 use native.Mathlib.Omega.{arith}
 use borrow.Author.Rules.{rules}
-use Rattle.blocks.proofs.BlockLaws.{at_end}
+use lib.ListN.{length, drop, take, length-drop}
+use lib.Seq.{take_all}
+use Rattle.std.specs.Option.{option_map_or}
+use Rattle.blocks.specs.Blocks.{line_end}
+use Rattle.blocks.proofs.BlockLaws.{at_end, first_lf, line_end_most}
 use Rattle.blocks.proofs.line_end.Goals as goal
 
 pub returns-then-from-block : goal.returns-then-from-block
-returns-then-from-block c = (sym (at_end _ _ (search rules)), search rules)
-
-pub loop-i-init : goal.loop-i-init
-loop-i-init c = (refl, search rules)
-
-pub returns-then-has_lf : goal.returns-then-has_lf
-returns-then-has_lf c =
-    (c.next_lf.ensures.0 ∙ sym c.loop-i.invariant.0, omega (arith, c.next_lf.ensures.1, c.loop-i.invariant.1))
+returns-then-from-block c = (sym (at_end _ _ (omega arith)), omega arith)
 
 pub loop-i-preserved : goal.loop-i-preserved
-loop-i-preserved c = (c.loop-i.invariant.0 ∙ c.has_lf.ensures c.if-has_lf.false, search rules)
+loop-i-preserved c = record {
+  same = c.loop-i.invariant.same ∙ c.has_lf.ensures c.if-not-has_lf.true;
+  past = omega arith;
+  inside = omega arith;
+}
 
 pub returns : goal.returns
 returns c =
-    (c.next_lf-2.ensures.0 ∙ sym c.loop-i.invariant.0, omega (arith, c.next_lf-2.ensures.1, c.loop-i.invariant.1))
+    let l = c.args.block.now in
+    let i = c.loop-i.i in
+    let t : take (length l - i) (drop i l) ≡ drop i l = take_all _ _ (omega (arith, length-drop i l)) in
+    let m : c.map_or.result ≡ option_map_or (λ n. i + n) c.next_lf.result (length l) = search rules in
+    let e : c.map_or.result ≡ line_end l i = m ∙ rw (c.next_lf.ensures, t) (first_lf l i (omega arith)) in
+    (e ∙ sym c.loop-i.invariant.same, omega (arith, e, line_end_most l i (omega arith)))

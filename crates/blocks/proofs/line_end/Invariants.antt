@@ -5,7 +5,11 @@ use Rattle.blocks.specs.Blocks.{line_end}
 use Rattle.blocks.proofs.line_end.Given as goal
 
 abbrev pub invariant-loop-i : goal.invariant-loop-i
-invariant-loop-i l = (line_end l.block l.from ≡ line_end l.block l.i) × ((l.from ≤ l.i) × (l.i ≤ length l.block))
+invariant-loop-i l = record {
+  same : line_end l.block l.from ≡ line_end l.block l.i;
+  past : l.from ≤ l.i;
+  inside : l.i ≤ length l.block;
+}
 
 abbrev pub decreases-loop-i : goal.decreases-loop-i
 decreases-loop-i l = length l.block - l.i
