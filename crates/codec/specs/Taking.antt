@@ -1,14 +1,14 @@
--- What `take` answers, as a reading.
-use Rattle.std.specs.Prelude.{ℕ, cond, List, leb}
+-- What the code answers, as an outcome; what `take` answers.
+use Rattle.std.specs.Prelude.{ℕ, cond, List, leb, Result, Ok, Err}
 use Rattle.bits.specs.Fields.{bit_at}
 use Rattle.codec.specs.Stops.{short}
 use Rattle.codec.specs.Codec.{Read, got, no, number}
-use Rattle.codec.specs.declared.Took.{Took}
-use Rattle.codec.specs.declared.Took.TheVariants as took
+use Rattle.codec.specs.declared.Stop.{Stop}
 
-abbrev pub took_of : Took → Read ℕ
-took_of (took.Got v p) = got v p
-took_of (took.Refused s) = no s
+-- what the code answers with `Result`, as an outcome: what was read with the next position, or the refusal
+abbrev pub outcome_of : {A : Type 0} → Result (A × ℕ) Stop → Read A
+outcome_of (Ok x) = got x.0 x.1
+outcome_of (Err s) = no s
 
 -- the element e of w bits in the bytes l; no number has more than 64 bits, so a wider element never fits
 unfoldable pub take_of : ℕ → List ℕ → ℕ → ℕ → ℕ → Read ℕ
