@@ -1,10 +1,19 @@
--- Laws of `every`, `sum` and `lowest_from`, and of `both` as the code's branches take it. Assumes nothing.
-use Prim.Native.Nat.{ℕ, zero, suc, ◌+◌, ◌-◌, ◌<◌}
-use mathlib.Core.Path.{◌≡◌, refl, sym, ◌∙◌, subst}
-use mathlib.Core.Bool.{Bool, true, false, cond}
+-- Laws of `every`, `sum` and `lowest_from`, as a loop going up takes them, and as what a chain over a list finds. Assumes nothing.
+use Prim.Native.Nat.{ℕ, zero, suc, ◌+◌, ◌<◌, ◌≤◌}
+use mathlib.Core.Path.{◌≡◌, refl, sym, ◌∙◌, subst, ap}
+use mathlib.Core.List.{List, [], ◌∷◌}
+use lib.ListN.{length, get_or, take}
+use Rattle.std.proofs.Common.{Some, None, nat_lt, add-zero, zero-add}
+use Rattle.std.specs.Option.{unwrap_or}
+use Rattle.std.specs.List.{list_all, sum_by, position, position_or_len}
+use Rattle.std.proofs.lemmas.List.{take_all}
+use Rattle.std.proofs.lemmas.List.Folds.{list_all_more}
+use Rattle.std.proofs.lemmas.List.Sums.{sum_by_more, prefix_len-le-length}
+use borrow.Author.Tests.{ltb-false}
+use mathlib.Core.Bool.{Bool, true, false, cond, not, ◌&&◌}
 use mathlib.Core.Logic.{⊎_elim}
 use native.Mathlib.Nat.{eq-or-lt_of_le, le_of_suc-le-suc}
-use native.Mathlib.Numerals.{add-one}
+use native.Mathlib.Numerals.{add-one, unary_clauses}
 use native.Mathlib.Omega.{arith}
 use Rattle.codec.specs.Codec.{both}
 use Rattle.codec.proofs.Good.{both_true, both_left, both_right, both_none}
@@ -53,25 +62,7 @@ sum_more n f = rw add-one
 pub every_end : (n i : ℕ) (test : ℕ → Bool) → every i test ≡ true → i ≡ n → true ≡ every n test
 every_end n i test e d = sym (subst (λ (k : ℕ). every k test ≡ true) d e)
 
--- ---- the lowest that passes, as a loop going up finds it: what is left at i gives what was asked for
-
-module _ (i w : ℕ) (test : ℕ → Bool) where
-  left_on : (n : ℕ) → 16 - i ≡ suc n → lowest_from (16 - i) i test ≡ w → cond (test i) i (lowest_from n (suc i) test) ≡ w
-  unfolding lowest_from
-  left_on n d e = subst (λ (k : ℕ). lowest_from k i test ≡ w) d e
-
-  pub lowest_turn : i < 16 → lowest_from (16 - i) i test ≡ w → test i ≡ false → lowest_from (16 - (i + 1)) (i + 1) test ≡ w
-  lowest_turn h e f = rw add-one (turned f (left_on (16 - suc i) (omega arith) e))
-    where
-      turned : test i ≡ false → cond (test i) i (lowest_from (16 - suc i) (suc i) test) ≡ w → lowest_from (16 - suc i) (suc i) test ≡ w
-      turned z g = (rw z at g)
-
-  pub lowest_here : i < 16 → lowest_from (16 - i) i test ≡ w → test i ≡ true → i ≡ w
-  lowest_here h e t = (rw t at (left_on (16 - (i + 1)) (omega arith) e))
-
-  pub lowest_end : i ≡ 16 → lowest_from (16 - i) i test ≡ w → 16 ≡ w
-  unfolding lowest_from
-  lowest_end d e = let z : 16 - i ≡ 0 = omega arith in sym d ∙ (rw z at e)
+-- ---- the lowest that passes
 
 -- the number that it gives passes, where it is one of them
 pub lowest_passes : (n i : ℕ) (test : ℕ → Bool) → lowest_from n i test < i + n → test (lowest_from n i test) ≡ true
@@ -83,3 +74,54 @@ lowest_passes (suc n) i test h = go (test i) refl h (λ k. lowest_passes n (suc 
         → test (cond b i (lowest_from n (suc i) test)) ≡ true
     go true e k ih = e
     go false e k ih = ih (omega arith)
+
+-- ---- what a chain finds in a list, and in its first n elements, said of their numbers
+
+and_both : (x y : Bool) → (x && y) ≡ both x y
+unfolding both
+and_both true y = refl
+and_both false y = refl
+
+module _ {X : Type 0} (xs : List X) (d : X) where
+  pub every_taken : (test : X → Bool) (n : ℕ) → n ≤ length xs → list_all test (take n xs) ≡ every n (λ k. test (get_or xs k d))
+  unfolding every
+  every_taken test zero h = refl
+  every_taken test (suc n) h =
+      rw (← add-one n, list_all_more test xs n d (omega arith), every_taken test n (omega arith)) (and_both _ _)
+
+  pub sum_taken : (f : X → ℕ) (n : ℕ) → n ≤ length xs → sum_by f (take n xs) ≡ sum n (λ k. f (get_or xs k d))
+  unfolding sum
+  sum_taken f zero h = refl
+  sum_taken f (suc n) h = rw (← add-one n, sum_by_more f xs n d (omega arith), sum_taken f n (omega arith))
+
+  pub every_listed : (test : X → Bool) (n : ℕ) → n ≡ length xs → list_all test xs ≡ every n (λ k. test (get_or xs k d))
+  every_listed test n e = ap (λ (ys : List X). list_all test ys) (sym (take_all n xs (omega arith))) ∙ every_taken test n (omega arith)
+
+  pub sum_listed : (f : X → ℕ) (n : ℕ) → n ≡ length xs → sum_by f xs ≡ sum n (λ k. f (get_or xs k d))
+  sum_listed f n e = ap (λ (ys : List X). sum_by f ys) (sym (take_all n xs (omega arith))) ∙ sum_taken f n (omega arith)
+
+-- the lowest number whose element passes, counted from i; the number after them where none does
+lowest_position : {X : Type 0} (test : X → Bool) (d : X) (xs : List X) (i : ℕ) (at : ℕ → Bool)
+    → ((k : ℕ) → k < length xs → at (i + k) ≡ test (get_or xs k d)) → lowest_from (length xs) i at ≡ i + position_or_len test xs
+unfolding lowest_from
+lowest_position test d [] i at h = sym (add-zero i)
+lowest_position test d (x ∷ xs) i at h =
+    let here : at i ≡ test x = (simp unary_clauses at (h 0 (omega arith))) in
+    let on = lowest_position test d xs (suc i) at (λ k l. subst (λ (j : ℕ). at j ≡ test (get_or xs k d)) (omega arith) (h (suc k) (omega arith))) in
+    go (test x) here on
+  where
+    go : (b : Bool) → at i ≡ b → lowest_from (length xs) (suc i) at ≡ suc i + position_or_len test xs
+        → cond (at i) i (lowest_from (length xs) (suc i) at) ≡ i + cond (not b) (1 + position_or_len test xs) 0
+    go true e o = rw e (sym (add-zero i))
+    go false e o = rw (e, o) (omega arith)
+
+-- the lowest of all of them
+pub lowest_listed : {X : Type 0} (test : X → Bool) (d : X) (xs : List X) (n : ℕ) → n ≡ length xs → unwrap_or (position test xs) n ≡ lowest_from n 0 (λ k. test (get_or xs k d))
+lowest_listed test d xs n e =
+    go (nat_lt (position_or_len test xs) (length xs)) refl ∙ sym (rw e (lowest_position test d xs 0 (λ k. test (get_or xs k d)) (λ k l. rw zero-add) ∙ zero-add _))
+  where
+    go : (b : Bool) → nat_lt (position_or_len test xs) (length xs) ≡ b → unwrap_or (cond b (Some (position_or_len test xs)) None) n ≡ position_or_len test xs
+    go true q = refl
+    go false q =
+        let most = prefix_len-le-length (λ x. not (test x)) xs in
+        omega (arith, ltb-false)

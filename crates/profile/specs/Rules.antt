@@ -1,7 +1,8 @@
 -- The rules of a profile: document 01, "Profile".
-use Rattle.std.specs.Prelude.{ℕ, Bool, true, false, cond, List, eqb, leb, get_or, replicate}
+use Rattle.std.specs.Prelude.{ℕ, Bool, true, false, cond, List, eqb, leb, get_or, replicate, Result, Ok, Err}
 use Rattle.codec.specs.Codec.{both}
-use Rattle.codec.specs.Stops.{refusal, no_stop}
+use Rattle.codec.specs.Stops.{refusal}
+use Rattle.codec.specs.declared.Stop.{Stop}
 use Rattle.profile.specs.Counting.{every, sum, lowest_from}
 use Rattle.profile.specs.declared.Kind.{Kind}
 use Rattle.profile.specs.declared.Kind.TheVariants as kind
@@ -10,7 +11,6 @@ use Rattle.profile.specs.declared.Air.{Air}
 use Rattle.profile.specs.declared.Share.{Share}
 use Rattle.profile.specs.declared.Shares.{Shares}
 use Rattle.profile.specs.declared.Profile.{Profile}
-use Rattle.profile.specs.declared.NewProfile.{NewProfile}
 
 -- ---- range values
 
@@ -89,7 +89,7 @@ shares_ok s =
 unfoldable pub profile_ok : Profile → Bool
 profile_ok p = both (air_ok p.air) (shares_ok p.shares)
 
--- all zero: what stands beside a refusal
+-- all zero: what stands in the place of a profile where there is none
 unfoldable pub no_profile : Profile
 no_profile =
     record {
@@ -98,8 +98,5 @@ no_profile =
     }
 
 -- the profile, or 1
-unfoldable pub new_of : Air → Shares → NewProfile
-new_of air shares =
-    cond (profile_ok (record { air = air; shares = shares }))
-    (record { found = true; stop = no_stop; profile = record { air = air; shares = shares } })
-    (record { found = false; stop = refusal 1; profile = no_profile })
+unfoldable pub new_of : Air → Shares → Result Profile Stop
+new_of air shares = cond (profile_ok (record { air = air; shares = shares })) (Ok (record { air = air; shares = shares })) (Err (refusal 1))

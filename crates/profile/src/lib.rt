@@ -6,10 +6,12 @@
 // handed in, since its fields are public and every call checks again. `SAMPLE` is document 01's sample profile, which passes.
 #![tactic(auto)]
 
-ghost use Rattle.std.specs.Prelude.{◌≡◌, ◌≤◌};
+ghost use Rattle.std.specs.Prelude.{◌≡◌, ◌≤◌, length, sum_by, position};
+ghost use Rattle.std.specs.List.{list_all};
 ghost use Rattle.profile.specs.Counting.{every, sum};
-ghost use Rattle.profile.specs.Rules.{list_ok, meaning_ok, meaning_in, meaning_of, air_ok, is_one, list_of_one, share_ok, share_in, shares_ok, profile_ok, no_profile, new_of};
+ghost use Rattle.profile.specs.Rules.{list_ok, meaning_ok, meaning_in, meaning_of, air_ok, is_one, list_of_one, share_ok, share_in, shares_ok, profile_ok, new_of};
 ghost use Rattle.profile.specs.Sample.{sample};
+ghost use Rattle.profile.specs.declared.Share.{Share};
 
 use codec::Stop;
 
@@ -22,7 +24,8 @@ pub enum Kind {
     FirstLast,
 }
 
-// What a range value means; `count` is the length of a list.
+// What a range value means; `count` is the length of a list. Beside another kind any `count` may be handed in (`meaning_ok`): an enum with
+// the length in `Listed` would take less.
 #[derive(Clone, Copy)]
 pub struct Meaning {
     pub kind: Kind,
@@ -49,7 +52,7 @@ pub struct Share {
     pub ceiling: u8,
 }
 
-// Rows from `posts` on belong to no post and are never looked at.
+// Rows from `posts` on belong to no post and are never looked at. (A count beside an array, as a host lends it: there is no heap.)
 #[derive(Clone, Copy)]
 pub struct Shares {
     pub posts: u8,
@@ -60,13 +63,6 @@ pub struct Shares {
 pub struct Profile {
     pub air: Air,
     pub shares: Shares,
-}
-
-#[derive(Clone, Copy)]
-pub struct NewProfile {
-    pub found: bool,
-    pub stop: Stop,
-    pub profile: Profile,
 }
 
 impl Air {
@@ -165,39 +161,25 @@ impl Profile {
     pub const RECORDS: usize = 128;
 
     // The profile of these two parts, or refusal 1.
-    pub fn new(air: Air, shares: Shares) -> NewProfile
+    #[tactic(auto, unfolding(crate::specs::Rules::new_of))]
+    pub fn new(air: Air, shares: Shares) -> Result<Profile, Stop>
         ensures { result ≡ new_of air shares }
     {
-        let profile = Profile {
-            air: air,
-            shares: shares,
-        };
+        let profile = Profile { air, shares };
         if profile_ok(profile) {
-            return NewProfile {
-                found: true,
-                stop: codec::no_stop(),
-                profile: profile,
-            };
-        }
-        let nothing = no_profile();
-        NewProfile {
-            found: false,
-            stop: codec::refuse(1),
-            profile: nothing,
+            Ok(profile)
+        } else {
+            Err(codec::refuse(1))
         }
     }
 }
 
 // A profile keeps every rule.
+#[tactic(auto, unfolding(crate::specs::Rules::profile_ok, codec::specs::Codec::both))]
 pub fn profile_ok(profile: Profile) -> bool
     ensures { result ≡ profile_ok profile }
 {
-    let air = profile.air;
-    let shares = profile.shares;
-    if air_ok(air) {
-        return shares_ok(shares);
-    }
-    false
+    air_ok(profile.air) && shares_ok(profile.shares)
 }
 
 // Document 01's sample profile.
@@ -208,205 +190,119 @@ pub fn sample_profile() -> Profile
 }
 
 // What a range value means; one over 15 is reserved.
+#[tactic(auto, unfolding(crate::specs::Rules::meaning_in))]
 pub fn meaning_of(meanings: [Meaning; 16], range: u8) -> Meaning
     ensures { result ≡ meaning_in meanings range }
 {
-    let r = range as usize;
-    if r < Air::RANGES {
-        return meanings[r];
-    }
-    RESERVED
+    meanings.get(range as usize).copied().unwrap_or(RESERVED)
 }
 
-// The lowest range value that means a list of one; 16 where none does.
+// The lowest range value that means a list of one; 16 where none does. (16 and no Option: `list_of_one` of specs/ is a number, and `has_one`
+// and `one_user` of desk take it so.)
 pub fn list_of_one(meanings: [Meaning; 16]) -> u8
     ensures { result ≡ list_of_one meanings }
 {
-    let mut r: usize = 0;
-    while r < Air::RANGES {
-        let m = meanings[r];
-        if is_one(m) {
-            return r as u8;
-        }
-        r += 1;
-    }
-    16
+    first_of_one(meanings).unwrap_or(Air::RANGES) as u8
 }
 
+fn first_of_one(meanings: [Meaning; 16]) -> Option<usize>
+    ensures { result ≡ position is_one meanings }
+{
+    meanings.iter().position(|m| is_one(*m))
+}
+
+#[tactic(auto, unfolding(crate::specs::Rules::is_one))]
 fn is_one(m: Meaning) -> bool
     ensures { result ≡ is_one m }
 {
-    let kind = m.kind;
-    match kind {
-        Kind::Listed => m.count == 1,
-        Kind::Reserved => false,
-        Kind::Nobody => false,
-        Kind::FirstLast => false,
-    }
+    matches!(m.kind, Kind::Listed) && m.count == 1
 }
 
 // The meaning by its number: 0 reserved, 16 nobody, 17 first and last, any other a list of that many.
+#[tactic(auto, unfolding(crate::specs::Rules::meaning_of))]
 pub fn meaning_from(n: u8) -> Meaning
     ensures { result ≡ meaning_of n }
 {
-    if n == 0 {
-        return RESERVED;
-    }
-    if n == 16 {
-        return Meaning {
+    match n {
+        0 => RESERVED,
+        16 => Meaning {
             kind: Kind::Nobody,
             count: 0,
-        };
-    }
-    if n == 17 {
-        return Meaning {
+        },
+        17 => Meaning {
             kind: Kind::FirstLast,
             count: 0,
-        };
-    }
-    Meaning {
-        kind: Kind::Listed,
-        count: n,
-    }
-}
-
-fn no_profile() -> Profile
-    ensures { result ≡ no_profile }
-{
-    Profile {
-        air: Air {
-            ss: 0,
-            home: 0,
-            meanings: [RESERVED; 16],
-            unknown: 0,
-            other: 0,
-            unrecorded: 0,
-            elsewhere: 0,
         },
-        shares: Shares {
-            posts: 0,
-            share: [NO_SHARE; 8],
+        _ => Meaning {
+            kind: Kind::Listed,
+            count: n,
         },
     }
 }
 
+#[tactic(auto, using(crate::proofs::ProfileLaws::all_meanings), unfolding(crate::specs::Rules::air_ok, codec::specs::Codec::both))]
 fn air_ok(air: Air) -> bool
     ensures { result ≡ air_ok air }
 {
-    if air.ss > 63 {
-        return false;
-    }
-    if air.home > 0xFF_FFFF {
-        return false;
-    }
-    if air.unknown > 127 {
-        return false;
-    }
-    if air.other > 127 {
-        return false;
-    }
-    if air.unrecorded > 7 {
-        return false;
-    }
-    if air.elsewhere > 7 {
-        return false;
-    }
-    let meanings = air.meanings;
-    meanings_ok(meanings)
+    air.ss <= 63
+        && air.home <= 0xFF_FFFF
+        && air.unknown <= 127
+        && air.other <= 127
+        && air.unrecorded <= 7
+        && air.elsewhere <= 7
+        && meanings_ok(air.meanings)
 }
 
 fn meanings_ok(meanings: [Meaning; 16]) -> bool
-    ensures { result ≡ every 16 (λ v. meaning_ok (meaning_in meanings v)) }
+    ensures { result ≡ list_all meaning_ok meanings }
 {
-    let mut i: usize = 0;
-    while i < Air::RANGES {
-        let m = meanings[i];
-        i += 1;
-        if meaning_ok(m) {} else {
-            return false;
-        }
-    }
-    true
+    meanings.iter().all(|m| meaning_ok(*m))
 }
 
+#[tactic(auto, unfolding(crate::specs::Rules::meaning_ok))]
 fn meaning_ok(m: Meaning) -> bool
     ensures { result ≡ meaning_ok m }
 {
-    let kind = m.kind;
-    match kind {
-        Kind::Listed => list_ok(m.count),
-        Kind::Reserved => true,
-        Kind::Nobody => true,
-        Kind::FirstLast => true,
-    }
+    !matches!(m.kind, Kind::Listed) || list_ok(m.count)
 }
 
 // A list has 1 to 15 addresses.
+#[tactic(auto, unfolding(codec::specs::Codec::both))]
 pub fn list_ok(n: u8) -> bool
     ensures { result ≡ list_ok n }
 {
-    if n < 1 {
-        return false;
-    }
-    n <= 15
+    (1..=15).contains(&n)
 }
 
 // The shares keep every rule: 1 to 8 posts, each with a ceiling of 1 to 32 and no more reserved, and all that is reserved in 32 places.
+#[tactic(auto, using(crate::proofs::ProfileLaws::all_shares, crate::proofs::ProfileLaws::all_reserved), unfolding(crate::specs::Rules::shares_ok, codec::specs::Codec::both))]
 pub fn shares_ok(shares: Shares) -> bool
     ensures { result ≡ shares_ok shares }
 {
     let posts = shares.posts as usize;
-    if posts < 1 {
-        return false;
-    }
-    if posts > Shares::POSTS {
-        return false;
-    }
-    let share = shares.share;
-    if each_ok(share, posts) {
-        return all_reserved(share, posts) <= Shares::PLACES;
-    }
-    false
+    1 <= posts
+        && posts <= Shares::POSTS
+        && each_ok(&shares.share[..posts])
+        && all_reserved(&shares.share[..posts]) <= Shares::PLACES
 }
 
-fn each_ok(share: [Share; 8], posts: usize) -> bool
-    requires { posts ≤ 8 }
-    ensures { result ≡ every posts (λ p. share_ok (share_in share p)) }
+fn each_ok(rows: &[Share]) -> bool
+    ensures { result ≡ list_all share_ok rows.now }
 {
-    let mut p: usize = 0;
-    while p < posts {
-        let s = share[p];
-        p += 1;
-        if share_ok(s) {} else {
-            return false;
-        }
-    }
-    true
+    rows.iter().all(|s| share_ok(*s))
 }
 
+#[tactic(auto, unfolding(crate::specs::Rules::share_ok, codec::specs::Codec::both))]
 fn share_ok(s: Share) -> bool
     ensures { result ≡ share_ok s }
 {
-    if s.ceiling < 1 {
-        return false;
-    }
-    if s.ceiling as usize > Shares::PLACES {
-        return false;
-    }
-    s.reserved <= s.ceiling
+    1 <= s.ceiling && s.ceiling as usize <= Shares::PLACES && s.reserved <= s.ceiling
 }
 
 // The sum of all reserved numbers, of which each is at most 32.
-fn all_reserved(share: [Share; 8], posts: usize) -> usize
-    requires { posts ≤ 8 }
-    ensures { result ≡ sum posts (λ p. (share_in share p).reserved) }
+fn all_reserved(rows: &[Share]) -> usize
+    requires { length rows.now ≤ 8 }
+    ensures { result ≡ sum_by (λ (s : Share). s.reserved) rows.now }
 {
-    let mut total: usize = 0;
-    let mut p: usize = 0;
-    while p < posts {
-        let s = share[p];
-        total += s.reserved as usize;
-        p += 1;
-    }
-    total
+    rows.iter().map(|s| s.reserved as usize).sum()
 }
