@@ -1,6 +1,7 @@
 pub mod SumLaws
 pub mod SpotLaws
 pub mod HeldLaws
+pub mod ListLaws
 pub mod PlaceLaws
 pub mod CallLaws
 pub mod MoveLaws

@@ -8,7 +8,7 @@ use mathlib.Core.Logic.{◌⊎◌, inl, inr, ⊎_elim}
 use native.Mathlib.Omega.{arith}
 use lib.Dec.{eqb, leb, ltb}
 use lib.ListN.{length, set}
-use borrow.Author.Tests.{eq-eqb, eqb-true, ltb-true, lt-ltb, le-ltb, leb-true, le-leb}
+use borrow.Author.Tests.{eq-eqb, eqb-true, ltb-true, lt-ltb, leb-true, le-leb}
 use Rattle.codec.specs.Codec.{both}
 use Rattle.codec.proofs.Good.{both_true, both_left, both_right, not_both}
 use Rattle.profile.specs.Counting.{every, sum, one}
@@ -61,35 +61,6 @@ call_fact posts p e u =
     let m = both_right (ltb p.identifier (2 ^ 14)) _ k in
     let o = both_right (ltb p.post posts) _ m in
     record { small = ltb-true _ _ (both_left _ _ k); below = ltb-true _ _ (both_left _ _ m); second = second_fact posts p (both_left _ _ o); cause = ltb-true _ _ (both_right (second_ok posts p) _ o) }
-
--- the same, ground by ground
-
-module _ (posts : ℕ) (p : Place) where
-  pub call_free : p.used ≡ false → true ≡ call_ok posts p
-  unfolding call_ok
-  call_free u = sym (ap (λ (b : Bool). cond b (waiting_ok posts p) true) u)
-
-  module _ (u : p.used ≡ true) where
-    call_used : call_ok posts p ≡ waiting_ok posts p
-    unfolding call_ok
-    call_used = ap (λ (b : Bool). cond b (waiting_ok posts p) true) u
-
-    pub call_wide : 2 ^ 14 ≤ p.identifier → false ≡ call_ok posts p
-    unfolding both
-    call_wide h = sym (call_used ∙ rw (le-ltb p.identifier (2 ^ 14) h) refl)
-
-    pub call_past : p.identifier < 2 ^ 14 → posts ≤ p.post → false ≡ call_ok posts p
-    unfolding both
-    call_past h k = sym (call_used ∙ rw (lt-ltb p.identifier (2 ^ 14) h, le-ltb p.post posts k) refl)
-
-    module _ (h : p.identifier < 2 ^ 14) (k : p.post < posts) where
-      pub call_second : (b : Bool) → b ≡ second_ok posts p → b ≡ false → false ≡ call_ok posts p
-      unfolding both
-      call_second b z e = sym (call_used ∙ rw (lt-ltb p.identifier (2 ^ 14) h, lt-ltb p.post posts k, sym z ∙ e) refl)
-
-      pub call_cause : (b : Bool) → b ≡ second_ok posts p → b ≡ true → ltb p.cause (2 ^ 5) ≡ call_ok posts p
-      unfolding both
-      call_cause b z e = sym (call_used ∙ rw (lt-ltb p.identifier (2 ^ 14) h, lt-ltb p.post posts k, sym z ∙ e) refl)
 
 abbrev Differ : Place → Place → Type 0
 Differ p q = p.used ≡ true → q.used ≡ true → p.identifier ≡ q.identifier → ⊥

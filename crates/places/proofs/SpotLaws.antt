@@ -4,8 +4,7 @@ use mathlib.Core.Path.{◌≡◌, refl, sym, ◌∙◌, ap, subst}
 use mathlib.Core.Bool.{Bool, true, false, not, cond}
 use mathlib.Core.List.{List}
 use mathlib.Core.Logic.{⊎_elim}
-use native.Mathlib.Nat.{not-suc-le-zero, eq-or-lt_of_le, le_of_suc-le-suc}
-use native.Mathlib.Numerals.{add-one}
+use native.Mathlib.Nat.{eq-or-lt_of_le}
 use native.Mathlib.Omega.{arith}
 use lib.Dec.{ltb}
 use borrow.Author.Tests.{lt-ltb, eqb-true, eq-eqb, not-true, not-false}
@@ -25,19 +24,6 @@ pub record FoundAt (n : ℕ) (test : ℕ → Bool) (i : ℕ) : Type 0 where
 
 abbrev pub NoneBelow : ℕ → (ℕ → Bool) → Type 0
 NoneBelow n test = (j : ℕ) → j < n → test j ≡ false
-
-pub none_below : (test : ℕ → Bool) → NoneBelow 0 test
-none_below test j l = absurd (not-suc-le-zero l)
-
-none_more : (n : ℕ) (test : ℕ → Bool) → NoneBelow n test → test n ≡ false → NoneBelow (suc n) test
-none_more n test h e j l =
-    ⊎_elim
-    (λ d. rw d e)
-    (λ k. h j k)
-    (eq-or-lt_of_le (le_of_suc-le-suc l))
-
-pub none_turn : (n : ℕ) (test : ℕ → Bool) → NoneBelow n test → test n ≡ false → NoneBelow (n + 1) test
-none_turn n test h e = rw add-one (none_more n test h e)
 
 -- from i on: i itself or a higher one
 
@@ -135,12 +121,6 @@ spot_back test = go (lowest 32 test).found refl
         let w = lowest_at 32 test e in
         rw (e, lt-ltb (lowest 32 test).place 32 w.inside)
     go false e = rw (lowest_nothing 32 test e)
-
-pub number_found : (i : ℕ) (test : ℕ → Bool) → i < 32 → NoneBelow i test → test i ≡ true → i ≡ number_in (lowest 32 test)
-number_found i test l h e = rw (lowest_found 32 i test (record { inside = l; passes = e; before = h }))
-
-pub number_none : (i : ℕ) (test : ℕ → Bool) → i ≡ 32 → NoneBelow i test → 32 ≡ number_in (lowest 32 test)
-number_none i test d h = rw (lowest_none 32 test (λ j l. h j (omega arith)))
 
 -- ---- the lowest free place
 

@@ -26,9 +26,6 @@ every_same (suc n) s t e = ap (λ (b : Bool). both b (s n)) (every_same n s t (�
 pub sum_turn : (f : ℕ → ℕ) (i total part : ℕ) → total ≡ sum i f → part ≡ f i → total + part ≡ sum (i + 1) f
 sum_turn f i total part e d = rw (e, d) (sum_more i f)
 
-pub sum_end : (f : ℕ → ℕ) (n i total : ℕ) → total ≡ sum i f → i ≡ n → total ≡ sum n f
-sum_end f n i total e d = rw d at e
-
 -- ---- sums of two functions
 
 pub sum_same : (n : ℕ) (f g : ℕ → ℕ) → ((q : ℕ) → q < n → g q ≡ f q) → sum n g ≡ sum n f

@@ -1,6 +1,6 @@
 // Held, free and owed, counted from the places.
-ghost use Rattle.std.specs.Prelude.{◌≡◌, cond, ◌-◌, max};
-ghost use Rattle.profile.specs.Counting.{one};
+ghost use Rattle.std.specs.Prelude.{◌≡◌, ℕ, ◌<◌};
+ghost use Rattle.profile.specs.Counting.{sum};
 ghost use Rattle.profile.specs.Rules.{share_in};
 ghost use Rattle.places.specs.Held.{waits_at, held_of, used_of, free_of, owed_of, owed_all, owed_others, load_of};
 ghost use Rattle.places.specs.Fits.{claim_of, claims_of};
@@ -8,46 +8,25 @@ ghost use Rattle.places.specs.Fits.{claim_of, claims_of};
 use crate::Place;
 use profile::{Share, Shares};
 
-fn one_if(b: bool) -> u8
-    ensures { result ≡ one b }
-{
-    if b { 1 } else { 0 }
-}
-
+#[tactic(auto, unfolding(crate::specs::Held::waits_at, codec::specs::Codec::both))]
 fn waits_at(p: Place, post: u8) -> bool
     ensures { result ≡ waits_at p post }
 {
-    if p.used {
-        return p.post == post;
-    }
-    false
+    p.used && p.post == post
 }
 
 // The post's number of waiting calls.
 pub(crate) fn held(list: [Place; 32], post: u8) -> u8
     ensures { result ≡ held_of list post }
 {
-    let mut count: u8 = 0;
-    let mut i: usize = 0;
-    while i < Shares::PLACES {
-        count += one_if(waits_at(list[i], post));
-        i += 1;
-    }
-    count
+    list.iter().filter(|p| waits_at(**p, post)).count() as u8
 }
 
 // The waiting calls of all posts.
 fn used(list: [Place; 32]) -> u8
     ensures { result ≡ used_of list }
 {
-    let mut count: u8 = 0;
-    let mut at: usize = 0;
-    while at < Shares::PLACES {
-        let p = list[at];
-        count += one_if(p.used);
-        at += 1;
-    }
-    count
+    list.iter().filter(|p| p.used).count() as u8
 }
 
 pub(crate) fn free(list: [Place; 32]) -> usize
@@ -57,76 +36,57 @@ pub(crate) fn free(list: [Place; 32]) -> usize
 }
 
 // The post's row; past the eight there is none.
+#[tactic(auto, unfolding(profile::specs::Rules::share_in))]
 pub(crate) fn share_of(rows: [Share; 8], post: u8) -> Share
     ensures { result ≡ share_in rows post }
 {
-    let p = post as usize;
-    if p < Shares::POSTS {
-        return rows[p];
-    }
-    Share {
+    rows.get(post as usize).copied().unwrap_or(Share {
         reserved: 0,
         ceiling: 0,
-    }
+    })
 }
 
 // What is owed to the post.
+#[tactic(auto, unfolding(crate::specs::Held::owed_of))]
 fn owed(shares: Shares, list: [Place; 32], post: u8) -> u8
     ensures { result ≡ owed_of shares list post }
 {
-    let rows = shares.share;
-    let share = share_of(rows, post);
-    less(share.reserved, held(list, post))
+    share_of(shares.share, post)
+        .reserved
+        .saturating_sub(held(list, post))
 }
 
-// a less b, or 0 if that is negative.
-fn less(a: u8, b: u8) -> u8
-    ensures { result ≡ a - b }
+// The sum over the posts of what there is for each.
+fn over_posts<F: Fn(u8) -> u8>(posts: u8, part: F) -> u16
+    requires { F.IsAlwaysCallable part }
+    ensures { (amount : ℕ → ℕ) → ((q n : ℕ) → q < posts → F.post part q n → n ≡ amount q) → result ≡ sum posts amount }
 {
-    if a < b {
-        return 0;
+    let mut total: u16 = 0;
+    for q in 0..posts {
+        total += u16::from(part(q));
     }
-    a - b
+    total
 }
 
 // The sum owed to all posts.
 fn owed_all(shares: Shares, list: [Place; 32]) -> u16
     ensures { result ≡ owed_all shares list }
 {
-    let posts = shares.posts;
-    let mut total: u16 = 0;
-    let mut q: u8 = 0;
-    while q < posts {
-        total += owed(shares, list, q) as u16;
-        q += 1;
-    }
-    total
+    over_posts(shares.posts, |q| owed(shares, list, q))
 }
 
 // The sum owed to all other posts.
 pub(crate) fn owed_others(shares: Shares, list: [Place; 32], post: u8) -> u16
     ensures { result ≡ owed_others shares list post }
 {
-    let posts = shares.posts;
-    let mut total: u16 = 0;
-    let mut q: u8 = 0;
-    while q < posts {
-        total += unless(q == post, owed(shares, list, q)) as u16;
-        q += 1;
-    }
-    total
-}
-
-fn unless(same: bool, n: u8) -> u8
-    ensures { result ≡ cond same 0 n }
-{
-    if same {
-        return 0;
-    }
-    n
+    over_posts(
+        shares.posts,
+        |q| if q == post { 0 } else { owed(shares, list, q) },
+    )
 }
 
 // All held plus all owed.
+#[tactic(auto, unfolding(crate::specs::Held::load_of))]
 pub(crate) fn load(shares: Shares, list: [Place; 32]) -> usize
     ensures { result ≡ load_of shares list }
 {
@@ -134,34 +94,16 @@ pub(crate) fn load(shares: Shares, list: [Place; 32]) -> usize
 }
 
 // What the post has a claim to: the larger of its reserved number and its held.
+#[tactic(auto, unfolding(crate::specs::Fits::claim_of))]
 fn claim(shares: Shares, list: [Place; 32], post: u8) -> u8
     ensures { result ≡ claim_of shares list post }
 {
-    let rows = shares.share;
-    let share = share_of(rows, post);
-    let held = held(list, post);
-    larger(share.reserved, held)
-}
-
-fn larger(a: u8, b: u8) -> u8
-    ensures { result ≡ max a b }
-{
-    if a < b {
-        return b;
-    }
-    a
+    share_of(shares.share, post).reserved.max(held(list, post))
 }
 
 // The claims of all posts.
 pub(crate) fn claims(shares: Shares, list: [Place; 32]) -> u16
     ensures { result ≡ claims_of shares list }
 {
-    let posts = shares.posts;
-    let mut total: u16 = 0;
-    let mut q: u8 = 0;
-    while q < posts {
-        total += claim(shares, list, q) as u16;
-        q += 1;
-    }
-    total
+    over_posts(shares.posts, |q| claim(shares, list, q))
 }

@@ -11,42 +11,21 @@ use profile::Shares;
 pub(crate) fn calls_ok(posts: u8, list: [Place; 32]) -> bool
     ensures { result ≡ every 32 (λ i. call_ok posts (place_in list i)) }
 {
-    let mut i: usize = 0;
-    while i < Shares::PLACES {
-        let p = list[i];
-        i += 1;
-        if call_ok(posts, p) {} else {
-            return false;
-        }
-    }
-    true
+    list.iter().all(|p| call_ok(posts, *p))
 }
 
+#[tactic(auto, unfolding(crate::specs::Grounds::call_ok, codec::specs::Codec::both))]
 fn call_ok(posts: u8, p: Place) -> bool
     ensures { result ≡ call_ok posts p }
 {
-    if p.used {} else {
-        return true;
-    }
-    if p.identifier < 0x4000 {} else {
-        return false;
-    }
-    if p.post < posts {} else {
-        return false;
-    }
-    if second_ok(posts, p) {
-        return p.cause < 0x20;
-    }
-    false
+    !p.used || p.identifier < 0x4000 && p.post < posts && second_ok(posts, p) && p.cause < 0x20
 }
 
+#[tactic(auto, unfolding(crate::specs::Grounds::second_ok))]
 fn second_ok(posts: u8, p: Place) -> bool
     ensures { result ≡ second_ok posts p }
 {
-    if p.more {
-        return p.second < posts;
-    }
-    true
+    !p.more || p.second < posts
 }
 
 // No two waiting calls have one identifier: no lower place has that of place i. Both loops stand in one function, since another would
@@ -54,54 +33,38 @@ fn second_ok(posts: u8, p: Place) -> bool
 pub(crate) fn all_alone(list: [Place; 32]) -> bool
     ensures { result ≡ every 32 (λ i. alone_at list i) }
 {
-    let mut i: usize = 0;
-    while i < Shares::PLACES {
-        let p = list[i];
-        let mut j: usize = 0;
-        while j < i {
-            let q = list[j];
-            j += 1;
-            if apart(p, q) {} else {
+    for i in 0..Shares::PLACES {
+        for j in 0..i {
+            if !apart(list[i], list[j]) {
                 return false;
             }
         }
-        i += 1;
     }
     true
 }
 
+#[tactic(auto, unfolding(crate::specs::Grounds::apart, codec::specs::Codec::both))]
 fn apart(p: Place, q: Place) -> bool
     ensures { result ≡ apart p q }
 {
-    if p.used {} else {
-        return true;
-    }
-    if q.used {} else {
-        return true;
-    }
-    p.identifier != q.identifier
+    !p.used || !q.used || p.identifier != q.identifier
 }
 
 // No post is over its ceiling.
 pub(crate) fn under_ceilings(shares: Shares, list: [Place; 32]) -> bool
     ensures { result ≡ every shares.posts (λ p. under_ceiling shares list p) }
 {
-    let posts = shares.posts;
-    let mut p: u8 = 0;
-    while p < posts {
-        let under = under_ceiling(shares, list, p);
-        p += 1;
-        if under {} else {
+    for p in 0..shares.posts {
+        if !under_ceiling(shares, list, p) {
             return false;
         }
     }
     true
 }
 
+#[tactic(auto, unfolding(crate::specs::Grounds::under_ceiling))]
 fn under_ceiling(shares: Shares, list: [Place; 32], post: u8) -> bool
     ensures { result ≡ under_ceiling shares list post }
 {
-    let rows = shares.share;
-    let share = count::share_of(rows, post);
-    count::held(list, post) <= share.ceiling
+    count::held(list, post) <= count::share_of(shares.share, post).ceiling
 }

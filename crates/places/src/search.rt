@@ -1,66 +1,47 @@
-// Searches among the places, from the lowest up. Each yields the number of the place that it stops at, or 32.
-ghost use Rattle.std.specs.Prelude.{◌≡◌};
-ghost use Rattle.places.specs.Spots.{has_call, number_in, spot_of, place_of, lowest_free};
+// Searches among the places, from the lowest up.
+ghost use Rattle.std.specs.Prelude.{◌≡◌, ◌<◌, not, position, IfSome};
+ghost use Rattle.std.specs.Option.{unwrap_or};
+ghost use Rattle.places.specs.Spots.{has_call, spot_of};
 
 use crate::{Place, Spot};
-use profile::Shares;
 
 // The number of the lowest free place.
-pub(crate) fn free_number(list: [Place; 32]) -> usize
-    ensures { result ≡ number_in (lowest_free list) }
+pub(crate) fn free_number(list: [Place; 32]) -> Option<usize>
+    ensures lowest { result ≡ position (λ (p : Place). not p.used) list }
+    ensures below { IfSome result (λ n. n < 32) }
 {
-    let mut i: usize = 0;
-    let at = loop {
-        if i == Shares::PLACES {
-            break Shares::PLACES;
-        }
-        let p = list[i];
-        if !p.used {
-            break i;
-        }
-        i += 1;
-    };
-    at
+    list.iter().position(|p| !p.used)
 }
 
 // The number of the lowest place where a call with this identifier waits.
-pub(crate) fn call_number(list: [Place; 32], identifier: u32) -> usize
-    ensures { result ≡ number_in (place_of list identifier) }
+pub(crate) fn call_number(list: [Place; 32], identifier: u32) -> Option<usize>
+    ensures lowest { result ≡ position (λ p. has_call p identifier) list }
+    ensures below { IfSome result (λ n. n < 32) }
 {
-    let mut i: usize = 0;
-    let at = loop {
-        if i == Shares::PLACES {
-            break Shares::PLACES;
-        }
-        if has_call(list[i], identifier) {
-            break i;
-        }
-        i += 1;
-    };
-    at
+    list.iter().position(|p| has_call(*p, identifier))
 }
 
+#[tactic(auto, unfolding(crate::specs::Spots::has_call, codec::specs::Codec::both))]
 fn has_call(p: Place, identifier: u32) -> bool
     ensures { result ≡ has_call p identifier }
 {
-    if p.used {
-        return p.identifier as u32 == identifier;
-    }
-    false
+    p.used && u32::from(p.identifier) == identifier
 }
 
-// The spot of a number that a search yielded.
-pub(crate) fn spot_of(number: usize) -> Spot
-    ensures { result ≡ spot_of number }
+// The spot of the number that a search found.
+#[tactic(auto, unfolding(crate::specs::Spots::spot_of))]
+pub(crate) fn spot_of(number: Option<usize>) -> Spot
+    requires { IfSome number (λ n. n < 32) }
+    ensures { result ≡ spot_of (unwrap_or number 32) }
 {
-    if number < Shares::PLACES {
-        return Spot {
+    match number {
+        Some(place) => Spot {
             found: true,
-            place: number as u8,
-        };
-    }
-    Spot {
-        found: false,
-        place: 0,
+            place: place as u8,
+        },
+        None => Spot {
+            found: false,
+            place: 0,
+        },
     }
 }

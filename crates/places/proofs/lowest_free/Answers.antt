@@ -1,7 +1,6 @@
-use Rattle.places.proofs.SpotLaws.{spot_back}
-use Rattle.places.specs.Spots.{lowest_free}
+use Rattle.std.proofs.Common.{◌∙◌, rules}
+use Rattle.places.proofs.ListLaws.{free_spot}
 use Rattle.places.proofs.lowest_free.Goals as goal
 
 pub returns : goal.returns
-unfolding lowest_free
-returns c = rw (c.spot_of.ensures, c.free_number.ensures) (spot_back _)
+returns c = c.spot_of.ensures ∙ rw c.free_number.ensures.lowest (free_spot _ (search rules))

@@ -1,7 +1,6 @@
-use Rattle.places.proofs.SpotLaws.{spot_back}
-use Rattle.places.specs.Spots.{place_of}
+use Rattle.std.proofs.Common.{◌∙◌, rules}
+use Rattle.places.proofs.ListLaws.{call_spot}
 use Rattle.places.proofs.place_of.Goals as goal
 
 pub returns : goal.returns
-unfolding place_of
-returns c = rw (c.spot_of.ensures, c.call_number.ensures) (spot_back _)
+returns c = c.spot_of.ensures ∙ rw c.call_number.ensures.lowest (call_spot _ _ (search rules))

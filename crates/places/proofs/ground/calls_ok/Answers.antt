@@ -1,23 +1,15 @@
-use mathlib.Core.Path.{sym, ◌∙◌}
-use native.Mathlib.Omega.{arith}
-use borrow.Author.Rules.{rules}
-use Rattle.places.specs.Held.{place_in}
-use Rattle.profile.proofs.CountLaws.{every_none, every_more, every_not, every_end}
+-- `ground::calls_ok` meets its contract: what a test of all in the list finds, said of its numbers.
+use Rattle.std.proofs.Common.{◌≡◌, ◌∙◌, rules, tests}
+use Rattle.std.specs.List.{list_all}
+use Rattle.std.proofs.lemmas.Iterator.{YieldsList-from_slice}
+use Rattle.std.proofs.lemmas.Iterator.Search.{all_from_yields_List}
+use Rattle.places.specs.Grounds.{call_ok}
+use Rattle.places.specs.declared.Place.{Place}
+use Rattle.places.proofs.ListLaws.{all_calls}
 use Rattle.places.proofs.ground.calls_ok.Goals as goal
 
-pub loop-i-init : goal.loop-i-init
-unfolding place_in
-loop-i-init c = (search rules, (search rules, every_none _))
-
-pub loop-i-preserved : goal.loop-i-preserved
-unfolding place_in
-loop-i-preserved c =
-    (search rules, (search rules, every_more _ _ c.loop-i.invariant.1.1 (sym c.call_ok.ensures ∙ c.if-call_ok.true)))
-
-pub returns-else-call_ok : goal.returns-else-call_ok
-unfolding place_in
-returns-else-call_ok c = sym (every_not _ _ c.loop-i.i (search rules) (sym c.call_ok.ensures ∙ c.if-call_ok.false))
-
 pub returns : goal.returns
-unfolding place_in
-returns c = every_end _ c.loop-i.i _ c.loop-i.invariant.1.1 (omega arith)
+returns c =
+    let found : c.all.result ≡ list_all (λ (p : Place). call_ok c.args.posts p) c.args.list =
+    all_from_yields_List (λ (p : Place). call_ok c.args.posts p) _ _ c.all.result c.all.ensures.ran (YieldsList-from_slice c.args.list cc) (λ x b q k. search (rules, tests)) in
+    found ∙ all_calls c.args.posts c.args.list (search rules)

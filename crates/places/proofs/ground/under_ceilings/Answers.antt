@@ -1,19 +1,17 @@
-use mathlib.Core.Path.{sym, ◌∙◌}
-use native.Mathlib.Omega.{arith}
-use borrow.Author.Rules.{rules}
+-- `ground::under_ceilings` meets its contract: no post passed is over its ceiling.
+use Rattle.std.proofs.Common.{sym, ◌∙◌, rules, arith}
 use Rattle.profile.proofs.CountLaws.{every_none, every_more, every_not, every_end}
 use Rattle.places.proofs.ground.under_ceilings.Goals as goal
 
 pub loop-p-init : goal.loop-p-init
-loop-p-init c = (search rules, every_none _)
+loop-p-init c = every_none _
 
 pub loop-p-preserved : goal.loop-p-preserved
-loop-p-preserved c =
-    (search rules, every_more _ _ c.loop-p.invariant.1 (sym c.under_ceiling-under.ensures ∙ c.if-under.true))
+loop-p-preserved c = every_more _ _ c.loop-p.invariant (sym c.under_ceiling.ensures ∙ c.if-not-under_ceiling.false)
 
-pub returns-else-under : goal.returns-else-under
-returns-else-under c =
-    sym (every_not _ _ c.loop-p.p (search rules) (sym c.under_ceiling-under.ensures ∙ c.if-under.false))
+pub returns-then-not-under_ceiling : goal.returns-then-not-under_ceiling
+returns-then-not-under_ceiling c =
+    sym (every_not _ _ c.loop-p.p (search rules) (sym c.under_ceiling.ensures ∙ c.if-not-under_ceiling.true))
 
 pub returns : goal.returns
-returns c = every_end _ c.loop-p.p _ c.loop-p.invariant.1 (omega arith)
+returns c = every_end _ c.loop-p.p _ c.loop-p.invariant (omega arith)
