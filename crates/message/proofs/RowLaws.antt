@@ -27,14 +27,6 @@ use Rattle.message.proofs.TableLaws.{each_row}
 pub past_end : {A : Type 0} (l : List A) (n i : ℕ) (d : A) → length l ≡ n → n ≤ i → d ≡ get_or l i d
 past_end l n i d e h = let k : length l ≤ i = omega arith in sym (get_or-eq_default l d k)
 
-pub element_none : (k : ℕ) → 12 ≤ k → 0 ≡ element_of k
-unfolding element_of elements
-element_none k h = sym (get_or-eq_default elements 0 h)
-
-pub width_none : (k : ℕ) → 12 ≤ k → 0 ≡ width_of k
-unfolding width_of widths
-width_none k h = sym (get_or-eq_default widths 0 h)
-
 -- ---- every row has seven slots for its options
 
 pub seven_options : (t : ℕ) → length (row_of t).optional ≡ 7

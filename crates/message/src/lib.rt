@@ -6,7 +6,7 @@
 #![tactic(auto)]
 
 ghost use Rattle.std.specs.Prelude.{◌≡◌, true, ◌+◌, ◌-◌};
-ghost use Rattle.message.specs.Groups.{addresses_in, allowed_in, range_ok, ends_ok, no_group, address_at, span_in, span_of};
+ghost use Rattle.message.specs.Groups.{addresses_in, allowed_in, range_ok, ends_ok, no_group, address_at, with_address, span_in, span_of};
 ghost use Rattle.message.specs.Areas.{rises};
 ghost use Rattle.message.specs.Numbers.{element_of, width_of};
 ghost use Rattle.message.specs.Values.{no_lists, blank, number_at, given_at, with_number, with_users, with_mask, with_dispatchers, with_sources, with_destinations, with_areas, with_given};
@@ -15,13 +15,13 @@ ghost use Rattle.message.specs.Messages.{is_carried};
 ghost use Rattle.message.specs.declared.Part.TheVariants.{User, Result, Dispatcher, Interrogation};
 
 use profile::{Air, Kind, Meaning};
+use rows::{NO_ROW, row};
 
-mod copy;
 mod rows;
-mod store;
 
-// With kind 1 the extension is not on the air, and zero.
-#[derive(Clone, Copy)]
+// With kind 1 the extension is not on the air, and zero. The kind is a number and no enum: C hands over any byte, and what `valid` refuses,
+// as kind 3 in row 100 of the rounds, has to be a value.
+#[derive(Clone, Copy, PartialEq, Eq)]
 pub struct Address {
     pub kind: u8,
     pub ssi: u32,
@@ -29,28 +29,29 @@ pub struct Address {
 }
 
 // A range number and the addresses that its meaning has; the places beyond are zero.
-#[derive(Clone, Copy)]
+#[derive(Clone, Copy, PartialEq, Eq)]
 pub struct Group {
     pub range: u8,
     pub addresses: [Address; 15],
 }
 
 // A range number and the areas that its meaning has; the places beyond are zero.
-#[derive(Clone, Copy)]
+#[derive(Clone, Copy, PartialEq, Eq)]
 pub struct Areas {
     pub range: u8,
     pub areas: [u8; 15],
 }
 
 // What a restriction covers beside its dispatchers.
-#[derive(Clone, Copy)]
+#[derive(Clone, Copy, PartialEq, Eq)]
 pub struct Lists {
     pub sources: Group,
     pub destinations: Group,
     pub areas: Areas,
 }
 
-// What INTERROGATE ACK says of its users: a result; where it is 0 a reason, and where it is 1 the rest.
+// What INTERROGATE ACK says of its users: a result; where it is 0 a reason, and where it is 1 the rest. Numbers and no enum: `valid` refuses
+// others (rows 129 to 137 of the rounds), so they have to be values.
 #[derive(Clone, Copy)]
 pub struct State {
     pub result: u32,
@@ -64,7 +65,9 @@ pub struct State {
 // A message. All that it doesn't carry is zero. A number stands at its place (specs/Numbers); `given` says which of the row's options are
 // there. INTERROGATE's address is user address 0, REQUEST's calling and called are user addresses 0 and 1, the dispatcher of INTERCEPTED,
 // DIVERTED and REJECTED is dispatcher address 0, all with range number 0. Identity i, from 0, is bit 63 − i of the mask.
-#[derive(Clone, Copy)]
+// The type is a number and no enum, and neither the mask nor an option an Option: C hands over any bytes, and `valid` refuses other types, an
+// option's part that is not given and not zero, and a mask that is not zero where there is none (rows 29 and 104 of the rounds).
+#[derive(Clone, Copy, PartialEq, Eq)]
 pub struct Value {
     pub pdu: u8,
     pub numbers: [u32; 12],
@@ -94,12 +97,14 @@ pub enum Part {
     Areas,
 }
 
+// A struct of its own, since the contracts of reading, validity, writing and console speak of slots (`first_parts`), as of a row's count.
 #[derive(Clone, Copy)]
 pub struct Slot {
     pub part: Part,
 }
 
-// A message after the first 11 bits: so many parts, one after the other, then so many options under one O-bit.
+// A message after the first 11 bits: so many parts, one after the other, then so many options under one O-bit. `carried` is a flag: `row_of` of
+// specs/ has a row for every type.
 #[derive(Clone, Copy)]
 pub struct Row {
     pub carried: bool,
@@ -130,24 +135,23 @@ pub const NO_AREAS: Areas = Areas {
 // ---- what a range value's meaning asks for
 
 // How many addresses follow.
+#[tactic(auto, unfolding(crate::specs::Groups::addresses_in))]
 pub fn addresses_in(m: Meaning) -> usize
     ensures { result ≡ addresses_in m }
 {
-    let kind = m.kind;
-    match kind {
+    match m.kind {
         Kind::Listed => m.count as usize,
         Kind::FirstLast => 2,
-        Kind::Nobody => 0,
-        Kind::Reserved => 0,
+        Kind::Nobody | Kind::Reserved => 0,
     }
 }
 
 // A meaning is not refused with 9; `none` says whether "none" is good.
+#[tactic(auto, unfolding(crate::specs::Groups::allowed_in))]
 pub fn allowed(none: bool, m: Meaning) -> bool
     ensures { result ≡ allowed_in none m }
 {
-    let kind = m.kind;
-    match kind {
+    match m.kind {
         Kind::Listed => profile::list_ok(m.count),
         Kind::FirstLast => true,
         Kind::Nobody => none,
@@ -156,73 +160,57 @@ pub fn allowed(none: bool, m: Meaning) -> bool
 }
 
 // The addresses are not refused with 11.
+#[tactic(auto, unfolding(crate::specs::Groups::ends_ok))]
 pub fn ends_ok(m: Meaning, list: [Address; 15]) -> bool
     ensures { result ≡ ends_ok m list }
 {
-    let kind = m.kind;
-    match kind {
-        Kind::FirstLast => {
-            let first = list[0];
-            let last = list[1];
-            range_ok(first, last)
-        }
-        Kind::Listed => true,
-        Kind::Nobody => true,
-        Kind::Reserved => true,
+    match m.kind {
+        Kind::FirstLast => range_ok(list[0], list[1]),
+        Kind::Listed | Kind::Nobody | Kind::Reserved => true,
     }
 }
 
 // First and last of a range of areas are not refused with 11.
+#[tactic(auto, unfolding(crate::specs::Areas::rises))]
 pub fn areas_rise(m: Meaning, list: [u8; 15]) -> bool
     ensures { result ≡ rises m list }
 {
-    let kind = m.kind;
-    match kind {
+    match m.kind {
         Kind::FirstLast => list[0] <= list[1],
-        Kind::Listed => true,
-        Kind::Nobody => true,
-        Kind::Reserved => true,
+        Kind::Listed | Kind::Nobody | Kind::Reserved => true,
     }
 }
 
 // How many identities a group names.
+#[tactic(auto, unfolding(crate::specs::Groups::span_of))]
 pub fn span_of(air: Air, group: Group) -> usize
     ensures { result ≡ span_of air group }
 {
-    let meanings = air.meanings;
-    let list = group.addresses;
-    span_in(profile::meaning_of(meanings, group.range), list)
+    span_in(
+        profile::meaning_of(air.meanings, group.range),
+        group.addresses,
+    )
 }
 
 // First and last have one kind and one extension, don't fall, and name at most 64 identities.
+#[tactic(auto, unfolding(crate::specs::Groups::range_ok, codec::specs::Codec::both))]
 pub fn range_ok(first: Address, last: Address) -> bool
     ensures { result ≡ range_ok first last }
 {
-    if first.kind != last.kind {
-        return false;
-    }
-    if first.extension != last.extension {
-        return false;
-    }
-    if first.ssi > last.ssi {
-        return false;
-    }
-    span(first.ssi, last.ssi) <= Group::IDENTITIES
+    first.kind == last.kind
+        && first.extension == last.extension
+        && first.ssi <= last.ssi
+        && span(first.ssi, last.ssi) <= Group::IDENTITIES
 }
 
+#[tactic(auto, unfolding(crate::specs::Groups::span_in))]
 fn span_in(m: Meaning, list: [Address; 15]) -> usize
     ensures { result ≡ span_in m list }
 {
-    let kind = m.kind;
-    match kind {
-        Kind::FirstLast => {
-            let first = list[0];
-            let last = list[1];
-            span(first.ssi, last.ssi)
-        }
+    match m.kind {
+        Kind::FirstLast => span(list[0].ssi, list[1].ssi),
         Kind::Listed => m.count as usize,
-        Kind::Nobody => 0,
-        Kind::Reserved => 0,
+        Kind::Nobody | Kind::Reserved => 0,
     }
 }
 
@@ -230,15 +218,12 @@ fn span_in(m: Meaning, list: [Address; 15]) -> usize
 pub fn span(first: u32, last: u32) -> usize
     ensures { result ≡ last - first + 1 }
 {
-    if last < first {
-        return 1;
-    }
-    (last - first) as usize + 1
+    last.saturating_sub(first) as usize + 1
 }
 
 // ---- the messages
 
-// The elements by number (specs/Elements).
+// The elements by number (specs/Elements). They are no enum: `codec::take` and each `Stop` carry the number, and `cad_read_at` tells C of it.
 pub const SS_TYPE: u8 = 1;
 
 pub const PDU_TYPE: u8 = 2;
@@ -279,7 +264,7 @@ pub const INTERCEPTION_TYPE: u8 = 19;
 
 pub const TYPE_OF_RESTRICTION: u8 = 20;
 
-// The places of the numbers (specs/Numbers).
+// The places of the numbers (specs/Numbers). They are no enum: `number_at` and `with_number` take any number and say what lies past the last.
 pub const IDENTIFIER_AT: u8 = 0;
 
 pub const CAUSE_AT: u8 = 1;
@@ -302,6 +287,7 @@ pub const ACTIVATION_TYPE_AT: u8 = 9;
 
 pub const INTERCEPTION_TYPE_AT: u8 = 10;
 
+// Two rows, as specs/Numbers has them.
 const ELEMENTS: [u8; 12] = [
     IDENTIFIER,
     CAUSE,
@@ -320,25 +306,19 @@ const ELEMENTS: [u8; 12] = [
 const WIDTHS: [usize; 12] = [14, 5, 1, 7, 24, 4, 4, 2, 2, 1, 1, 4];
 
 // Which element the number at a place is.
+#[tactic(auto, unfolding(crate::specs::Numbers::element_of, crate::specs::Numbers::elements))]
 pub fn element_of(place: u8) -> u8
     ensures { result ≡ element_of place }
 {
-    let i = place as usize;
-    if i < 12 {
-        return ELEMENTS[i];
-    }
-    0
+    ELEMENTS.get(place as usize).copied().unwrap_or(0)
 }
 
 // How many bits it has.
+#[tactic(auto, unfolding(crate::specs::Numbers::width_of, crate::specs::Numbers::widths))]
 pub fn width_of(place: u8) -> usize
     ensures { result ≡ width_of place }
 {
-    let at = place as usize;
-    if at < 12 {
-        return WIDTHS[at];
-    }
-    0
+    WIDTHS.get(place as usize).copied().unwrap_or(0)
 }
 
 const IDENTIFIER_PART: Part = Part::Number(IDENTIFIER_AT);
@@ -346,78 +326,41 @@ const IDENTIFIER_PART: Part = Part::Number(IDENTIFIER_AT);
 const CAUSE_PART: Part = Part::Number(CAUSE_AT);
 
 // The table of documents 01 and 02: what each message has after the first 11 bits; any other type is not carried.
+#[tactic(auto, unfolding(crate::specs::Rows::row_of, crate::specs::Rows::row_in, crate::specs::Rows::table))]
 pub fn row_of(pdu: u8) -> Row
     ensures { result ≡ row_of pdu }
 {
-    // ACTIVATE
-    if pdu == 2 {
-        return rows::one_and_option(Part::Users, Part::Dispatchers);
+    match pdu {
+        // ACTIVATE
+        2 => row([Part::Users], [Part::Dispatchers]),
+        // ACTIVATE ACK, DEACTIVATE ACK
+        3 | 5 => rows::ack(),
+        // DEACTIVATE
+        4 => row([Part::Users], []),
+        // INTERROGATE
+        8 => row([Part::User(0)], []),
+        // INTERROGATE ACK
+        9 => rows::interrogate_ack(),
+        // INTERCEPTED, DIVERTED, REJECTED
+        10 | 16 | 18 => row([CAUSE_PART], [Part::Dispatcher]),
+        // REQUEST
+        11 => rows::request(),
+        // ACCEPT, CANCEL, DIVERT
+        12 | 14 | 15 => row([IDENTIFIER_PART], []),
+        // ACCEPTED
+        13 => row([], []),
+        // REJECT
+        17 => row([IDENTIFIER_PART, CAUSE_PART], []),
+        _ => NO_ROW,
     }
-    // ACTIVATE ACK
-    if pdu == 3 {
-        return rows::ack();
-    }
-    // DEACTIVATE
-    if pdu == 4 {
-        return rows::one(Part::Users);
-    }
-    // DEACTIVATE ACK
-    if pdu == 5 {
-        return rows::ack();
-    }
-    // INTERROGATE
-    if pdu == 8 {
-        return rows::one(Part::User(0));
-    }
-    // INTERROGATE ACK
-    if pdu == 9 {
-        return rows::interrogate_ack();
-    }
-    // INTERCEPTED
-    if pdu == 10 {
-        return rows::one_and_option(CAUSE_PART, Part::Dispatcher);
-    }
-    // REQUEST
-    if pdu == 11 {
-        return rows::request();
-    }
-    // ACCEPT
-    if pdu == 12 {
-        return rows::one(IDENTIFIER_PART);
-    }
-    // ACCEPTED
-    if pdu == 13 {
-        return rows::none();
-    }
-    // CANCEL
-    if pdu == 14 {
-        return rows::one(IDENTIFIER_PART);
-    }
-    // DIVERT
-    if pdu == 15 {
-        return rows::one(IDENTIFIER_PART);
-    }
-    // DIVERTED
-    if pdu == 16 {
-        return rows::one_and_option(CAUSE_PART, Part::Dispatcher);
-    }
-    // REJECT
-    if pdu == 17 {
-        return rows::two(IDENTIFIER_PART, CAUSE_PART);
-    }
-    // REJECTED
-    if pdu == 18 {
-        return rows::one_and_option(CAUSE_PART, Part::Dispatcher);
-    }
-    rows::not_carried()
 }
 
 // The types that are carried.
+#[tactic(auto, unfolding(crate::specs::Messages::is_carried))]
 pub fn is_carried(pdu: u8) -> bool
     ensures { result ≡ is_carried pdu }
 {
-    let row = row_of(pdu);
-    row.carried
+    row_of(pdu).carried
 }
 
 // ---- what is in a group and in a value
@@ -426,43 +369,44 @@ pub fn is_carried(pdu: u8) -> bool
 pub fn address_at(group: Group, place: u8) -> Address
     ensures { result ≡ address_at place group }
 {
-    let addresses = group.addresses;
-    store::address_in(addresses, place)
+    group
+        .addresses
+        .get(place as usize)
+        .copied()
+        .unwrap_or(NOBODY)
 }
 
 // The number at a place; 0 past the last.
 pub fn number_at(value: Value, place: u8) -> u32
     ensures { result ≡ number_at place value }
 {
-    let numbers = value.numbers;
-    store::number_in(numbers, place)
+    value.numbers.get(place as usize).copied().unwrap_or(0)
 }
 
 // The option of that number in its row is there.
 pub fn given_at(value: Value, option: usize) -> bool
     ensures { result ≡ given_at option value }
 {
-    let given = value.given;
-    store::given_in(given, option)
+    value.given.get(option).copied().unwrap_or(false)
 }
 
 // What INTERROGATE ACK says.
 pub fn state_in(value: Value) -> State
     ensures { result ≡ get Interrogation value }
 {
-    let numbers = value.numbers;
     State {
-        result: numbers[RESULT_AT as usize],
-        reason: numbers[REASON_AT as usize],
-        activation: numbers[ACTIVATION_TYPE_AT as usize],
-        interception: numbers[INTERCEPTION_TYPE_AT as usize],
-        called: numbers[CALLED_SERVICE_AT as usize],
-        calling: numbers[CALLING_SERVICE_AT as usize],
+        result: value.numbers[RESULT_AT as usize],
+        reason: value.numbers[REASON_AT as usize],
+        activation: value.numbers[ACTIVATION_TYPE_AT as usize],
+        interception: value.numbers[INTERCEPTION_TYPE_AT as usize],
+        called: value.numbers[CALLED_SERVICE_AT as usize],
+        calling: value.numbers[CALLING_SERVICE_AT as usize],
     }
 }
 
 // ---- groups and values
 
+#[tactic(auto, unfolding(crate::specs::Groups::no_group, crate::specs::Groups::nobodies))]
 pub fn no_group() -> Group
     ensures { result ≡ no_group }
 {
@@ -473,34 +417,38 @@ pub fn no_group() -> Group
 }
 
 // A message of this type with nothing in it.
+#[tactic(auto, unfolding(crate::specs::Values::blank, crate::specs::Values::no_lists, crate::specs::Areas::no_areas))]
 pub fn blank(pdu: u8) -> Value
     ensures { result ≡ blank pdu }
 {
     let none = no_group();
-    let lists = Lists {
-        sources: none,
-        destinations: none,
-        areas: NO_AREAS,
-    };
     Value {
-        pdu: pdu,
+        pdu,
         numbers: [0; 12],
         users: none,
         masked: false,
         mask: 0,
         given: [false; 7],
         dispatchers: none,
-        lists: lists,
+        lists: Lists {
+            sources: none,
+            destinations: none,
+            areas: NO_AREAS,
+        },
     }
 }
 
-// Each of these is the value with one thing in it changed; at a place that is not there all stays.
+// Each of these is the value with one thing in it changed; at a place that is not there all stays. A place is written by its index: of an array
+// whose `get_mut` was taken the proof knows the length alone (tried).
 
 pub fn with_number(value: Value, place: u8, n: u32) -> Value
     ensures { result ≡ with_number place n value }
 {
-    let numbers = value.numbers;
-    store::with_numbers(value, store::set_number(numbers, place, n))
+    let mut v = value;
+    if (place as usize) < v.numbers.len() {
+        v.numbers[place as usize] = n;
+    }
+    v
 }
 
 pub fn with_users(value: Value, users: Group) -> Value
@@ -514,8 +462,7 @@ pub fn with_users(value: Value, users: Group) -> Value
 pub fn with_user(value: Value, place: u8, user: Address) -> Value
     ensures { result ≡ put (User place) user value }
 {
-    let users = value.users;
-    with_users(value, store::with_address(users, place, user))
+    with_users(value, with_address(value.users, place, user))
 }
 
 pub fn with_mask(value: Value, masked: bool, mask: u64) -> Value
@@ -544,8 +491,7 @@ pub fn with_dispatchers(value: Value, dispatchers: Group) -> Value
 pub fn with_dispatcher(value: Value, dispatcher: Address) -> Value
     ensures { result ≡ put Dispatcher dispatcher value }
 {
-    let dispatchers = value.dispatchers;
-    with_dispatchers(value, store::with_address(dispatchers, 0, dispatcher))
+    with_dispatchers(value, with_address(value.dispatchers, 0, dispatcher))
 }
 
 pub fn with_state(value: Value, state: State) -> Value
@@ -562,39 +508,47 @@ pub fn with_state(value: Value, state: State) -> Value
 pub fn with_sources(value: Value, sources: Group) -> Value
     ensures { result ≡ with_sources sources value }
 {
-    let mut lists = value.lists;
-    lists.sources = sources;
     let mut v = value;
-    v.lists = lists;
+    v.lists.sources = sources;
     v
 }
 
 pub fn with_destinations(value: Value, destinations: Group) -> Value
     ensures { result ≡ with_destinations destinations value }
 {
-    let mut lists = value.lists;
-    lists.destinations = destinations;
     let mut v = value;
-    v.lists = lists;
+    v.lists.destinations = destinations;
     v
 }
 
 pub fn with_areas(value: Value, areas: Areas) -> Value
     ensures { result ≡ with_areas areas value }
 {
-    let mut lists = value.lists;
-    lists.areas = areas;
     let mut v = value;
-    v.lists = lists;
+    v.lists.areas = areas;
     v
+}
+
+// The group with another address at a place; past the last place all stays.
+fn with_address(group: Group, place: u8, address: Address) -> Group
+    ensures { result ≡ with_address place address group }
+{
+    let mut g = group;
+    if (place as usize) < g.addresses.len() {
+        g.addresses[place as usize] = address;
+    }
+    g
 }
 
 // The option of that number in its row is there from now on.
 pub fn with_given(value: Value, option: usize) -> Value
     ensures { result ≡ with_given option true value }
 {
-    let given = value.given;
-    store::with_givens(value, store::set_given(given, option))
+    let mut v = value;
+    if option < v.given.len() {
+        v.given[option] = true;
+    }
+    v
 }
 
 // What a part holds in one value, put into another.
@@ -602,18 +556,18 @@ pub fn copied(part: Part, from: Value, to: Value) -> Value
     ensures { result ≡ copy_of part from to }
 {
     match part {
-        Part::Nothing => copy::nothing(from, to),
-        Part::Number(place) => copy::number(place, from, to),
-        Part::Users => copy::users(from, to),
-        Part::User(place) => copy::user(place, from, to),
-        Part::Masked => copy::mask(from, to),
-        Part::Result => copy::result(from, to),
-        Part::Dispatchers => copy::dispatchers(from, to),
-        Part::Dispatcher => copy::dispatcher(from, to),
-        Part::Interrogation => copy::state(from, to),
-        Part::Sources => copy::sources(from, to),
-        Part::Destinations => copy::destinations(from, to),
-        Part::Areas => copy::areas(from, to),
+        Part::Nothing => to,
+        Part::Number(place) => with_number(to, place, number_at(from, place)),
+        Part::Users => with_users(to, from.users),
+        Part::User(place) => with_user(to, place, address_at(from.users, place)),
+        Part::Masked => with_mask(to, from.masked, from.mask),
+        Part::Result => with_result(to, number_at(from, RESULT_AT), number_at(from, REASON_AT)),
+        Part::Dispatchers => with_dispatchers(to, from.dispatchers),
+        Part::Dispatcher => with_dispatcher(to, address_at(from.dispatchers, 0)),
+        Part::Interrogation => with_state(to, state_in(from)),
+        Part::Sources => with_sources(to, from.lists.sources),
+        Part::Destinations => with_destinations(to, from.lists.destinations),
+        Part::Areas => with_areas(to, from.lists.areas),
     }
 }
 
@@ -622,7 +576,8 @@ pub fn copied_option(option: usize, part: Part, from: Value, to: Value) -> Value
     ensures { result ≡ copy_option option part from to }
 {
     if given_at(from, option) {
-        return with_given(copied(part, from, to), option);
+        with_given(copied(part, from, to), option)
+    } else {
+        to
     }
-    to
 }

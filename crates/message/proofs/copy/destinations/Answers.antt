@@ -1,6 +1,0 @@
-use Rattle.message.specs.Rows.{copy_of}
-use Rattle.message.proofs.copy.destinations.Goals as goal
-
-pub returns : goal.returns
-unfolding copy_of
-returns c = rw c.with_destinations.ensures

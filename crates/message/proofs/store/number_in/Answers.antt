@@ -1,6 +1,0 @@
-use borrow.Author.Rules.{rules}
-use Rattle.message.proofs.RowLaws.{past_end}
-use Rattle.message.proofs.store.number_in.Goals as goal
-
-pub returns : goal.returns
-returns c = past_end c.args.numbers 12 c.args.place _ (search rules) (search rules)
