@@ -1,14 +1,15 @@
 -- A row's parts and options tested one after the other, and that this is the test of the message's codec. Assumes nothing.
-use Prim.Native.Nat.{ℕ, suc, ◌+◌, ◌-◌, ◌*◌, ◌%◌, ◌^◌, ◌≤◌, ◌<◌}
+use Prim.Native.Nat.{ℕ, suc, ◌+◌, ◌-◌, ◌≤◌, ◌<◌}
 use mathlib.Core.Path.{◌≡◌, refl, sym, ap, ◌∙◌}
 use mathlib.Core.Bool.{Bool, true, false, not, cond}
 use mathlib.Core.List.{List, [], ◌∷◌}
-use native.Mathlib.Nat.{one-mul}
 use native.Mathlib.Numerals.{add-one}
 use native.Mathlib.Omega.{arith}
-use lib.Dec.{ltb}
-use lib.ListN.{length, drop, get_or}
-use lib.Pow.{shl_exact}
+use lib.Dec.{leb}
+use lib.ListN.{length, length-take, take, drop, get_or}
+use lib.Seq.{get_or-take}
+use Rattle.std.specs.Prelude.{min}
+use borrow.Author.Tests.{leb-true, leb-false}
 use Rattle.codec.specs.Codec.{Codec, both, pure, guard, choose}
 use Rattle.codec.specs.Options.{absent, flag, optional}
 use Rattle.codec.proofs.Good.{both_none}
@@ -26,53 +27,67 @@ use Rattle.message.proofs.SlotLaws.{slot_more, slot_end, slot_past, slot_start}
 use Rattle.validity.specs.Parts.{part_ok, option_ok, options_ok, parts_ok}
 use Rattle.validity.proofs.ValidLaws.{both_yes, both_all, flag_ok}
 
+-- ---- the first k of some slots, as many as there are
+
+abbrev no_slot : Slot
+no_slot = record { part = part.Nothing }
+
+module _ (k : ℕ) (l : List Slot) (n : ℕ) (e : n ≡ min k (length l)) (i : ℕ) where
+  slot_here : i < length (take n l) → first_parts (k - i) (drop i l) ≡ (get_or (take n l) i no_slot).part ∷ first_parts (k - (i + 1)) (drop (i + 1) l)
+  slot_here h =
+      let t = length-take n l in
+      let m : i < n = omega arith in
+      rw (get_or-take n l i no_slot m) (slot_more k l i (omega arith) (omega arith))
+
+  slot_done : length (take n l) ≤ i → first_parts (k - i) (drop i l) ≡ []
+  slot_done h = go (leb k i) refl
+    where
+      go : (b : Bool) → leb k i ≡ b → first_parts (k - i) (drop i l) ≡ []
+      go true f = slot_end k l i (leb-true k i f)
+      go false f = let m = leb-false k i f in let t = length-take n l in slot_past k l i (omega arith)
+
 -- ---- the loop over the options
 
-module _ (air : Air) (w : Value) (k : ℕ) (l : List Slot) (i : ℕ) (v : Value) where
-  abbrev here : Part
-  here = (get_or l i (record { part = part.Nothing })).part
+module _ (air : Air) (w : Value) (k : ℕ) (l : List Slot) (n : ℕ) (e : n ≡ min k (length l)) (i : ℕ) (v : Value) where
+  abbrev option : Part
+  option = (get_or (take n l) i no_slot).part
 
-  module _ (h : i < k) (m : i < length l) where
-    pub options_turn : (u : Value) → option_ok air i w here v ≡ true → u ≡ copy_option i here v w
+  module _ (h : i < length (take n l)) where
+    pub options_turn : (u : Value) → option_ok air i w option v ≡ true → u ≡ copy_option i option v w
         → options_ok air i w (first_parts (k - i) (drop i l)) v ≡ options_ok air (i + 1) u (first_parts (k - (i + 1)) (drop (i + 1) l)) v
     unfolding options_ok both
-    options_turn u e d = rw (slot_more k l i h m, e, d, add-one)
+    options_turn u f d = rw (slot_here k l n e i h, f, d, add-one)
 
-    pub options_not : option_ok air i w here v ≡ false → options_ok air i w (first_parts (k - i) (drop i l)) v ≡ false
+    pub options_not : option_ok air i w option v ≡ false → options_ok air i w (first_parts (k - i) (drop i l)) v ≡ false
     unfolding options_ok both
-    options_not e = rw (slot_more k l i h m, e)
+    options_not f = rw (slot_here k l n e i h, f)
 
-  pub options_end : k ≤ i → options_ok air i w (first_parts (k - i) (drop i l)) v ≡ same_value w v
+  pub options_done : length (take n l) ≤ i → options_ok air i w (first_parts (k - i) (drop i l)) v ≡ same_value w v
   unfolding options_ok
-  options_end h = rw (slot_end k l i h)
-
-  pub options_past : length l ≤ i → options_ok air i w (first_parts (k - i) (drop i l)) v ≡ same_value w v
-  unfolding options_ok
-  options_past h = rw (slot_past k l i h)
+  options_done h = rw (slot_done k l n e i h)
 
 pub options_start : (air : Air) (w : Value) (k : ℕ) (l : List Slot) (v : Value) → options_ok air 0 w (first_parts k l) v ≡ options_ok air 0 w (first_parts (k - 0) (drop 0 l)) v
 options_start air w k l v = rw (slot_start k l)
 
 -- ---- the loop over the parts
 
-module _ (air : Air) (w : Value) (k : ℕ) (l : List Slot) (i : ℕ) (qs : List Part) (v : Value) where
-  module _ (h : i < k) (m : i < length l) where
-    pub parts_turn : (u : Value) → part_ok air w (get_or l i (record { part = part.Nothing })).part v ≡ true → u ≡ copy_of (get_or l i (record { part = part.Nothing })).part v w
+module _ (air : Air) (w : Value) (k : ℕ) (l : List Slot) (n : ℕ) (e : n ≡ min k (length l)) (i : ℕ) (qs : List Part) (v : Value) where
+  abbrev here : Part
+  here = (get_or (take n l) i no_slot).part
+
+  module _ (h : i < length (take n l)) where
+    pub parts_turn : (u : Value) → part_ok air w here v ≡ true → u ≡ copy_of here v w
         → parts_ok air w (first_parts (k - i) (drop i l)) qs v ≡ parts_ok air u (first_parts (k - (i + 1)) (drop (i + 1) l)) qs v
     unfolding parts_ok both
-    parts_turn u e d = rw (slot_more k l i h m, e, d)
+    parts_turn u f d = rw (slot_here k l n e i h, f, d)
 
-    pub parts_not : part_ok air w (get_or l i (record { part = part.Nothing })).part v ≡ false → parts_ok air w (first_parts (k - i) (drop i l)) qs v ≡ false
+    pub parts_not : part_ok air w here v ≡ false → parts_ok air w (first_parts (k - i) (drop i l)) qs v ≡ false
     unfolding parts_ok both
-    parts_not e = rw (slot_more k l i h m, e)
+    parts_not f = rw (slot_here k l n e i h, f)
 
-  pub parts_end : k ≤ i → parts_ok air w (first_parts (k - i) (drop i l)) qs v ≡ options_ok air 0 w qs v
+  pub parts_done : length (take n l) ≤ i → parts_ok air w (first_parts (k - i) (drop i l)) qs v ≡ options_ok air 0 w qs v
   unfolding parts_ok
-  parts_end h = rw (slot_end k l i h)
-
-  pub parts_past : length l ≤ i → parts_ok air w (first_parts (k - i) (drop i l)) qs v ≡ options_ok air 0 w qs v
-  unfolding parts_ok
-  parts_past h = rw (slot_past k l i h)
+  parts_done h = rw (slot_done k l n e i h)
 
 pub parts_start : (air : Air) (w : Value) (k : ℕ) (l : List Slot) (qs : List Part) (v : Value) → parts_ok air w (first_parts k l) qs v ≡ parts_ok air w (first_parts (k - 0) (drop 0 l)) qs v
 parts_start air w k l qs v = rw (slot_start k l)
@@ -90,9 +105,6 @@ option_given air i w q v e = rw e
 pub option_not : (air : Air) (i : ℕ) (w : Value) (q : Part) (v : Value) → given_at i v ≡ false → option_ok air i w q v ≡ true
 unfolding option_ok
 option_not air i w q v e = rw e
-
-pub fits_by : (n w : ℕ) → w ≤ 32 → ltb n ((1 * 2 ^ w) % 2 ^ 64) ≡ ltb n (2 ^ w)
-fits_by n w h = rw (shl_exact {a = 1} 1 w 64 (omega arith) (omega arith), one-mul)
 
 -- ---- options under their O-bit: it says no more than their P-bits do
 

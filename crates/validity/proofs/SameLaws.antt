@@ -1,69 +1,95 @@
--- The loops of the test that two values are one: what is left of two lists. Assumes nothing.
-use Prim.Native.Nat.{ℕ, ◌+◌, ◌≤◌, ◌<◌}
-use mathlib.Core.Path.{◌≡◌}
-use mathlib.Core.Bool.{Bool, true, false}
+-- The derived equality of two values is the definition's, `same_value`. Assumes nothing.
+use mathlib.Core.Path.{◌≡◌, refl}
+use mathlib.Core.Bool.{Bool, true, false, beq, ◌&&◌}
 use mathlib.Core.List.{List, [], ◌∷◌}
-use native.Mathlib.Numerals.{add-one}
-use native.Mathlib.Omega.{arith}
-use lib.ListN.{length, drop, get_or, drop_of_length-le}
-use lib.Seq.{drop-cons}
-use borrow.Author.Tests.{eq-eqb, ne_eqb}
+use lib.Pointwise.{pointwise}
+use Rattle.std.specs.Prelude.{ℕ, nat_eq}
 use Rattle.codec.specs.Codec.{both}
-use Rattle.message.specs.Addresses.{nobody}
-use Rattle.message.specs.Values.{same_bool, same_bools, same_numbers, same_address, same_addresses}
+use Rattle.message.specs.Values.{same_bool, same_bools, same_numbers, same_address, same_addresses, same_group, same_areas, same_lists, same_value}
 use Rattle.message.specs.declared.Address.{Address}
+use Rattle.message.specs.declared.Group.{Group}
+use Rattle.message.specs.declared.Areas.{Areas}
+use Rattle.message.specs.declared.Lists.{Lists}
+use Rattle.message.specs.declared.Value.{Value}
+use Rattle.validity.proofs.ValidLaws.{and_both}
 
-module _ {A : Type 0} (d : A) (n : ℕ) (i : ℕ) (x : List A) (e : length x ≡ n) where
-  front : i < n → drop i x ≡ get_or x i d ∷ drop (i + 1) x
-  front h = let k : i < length x = omega arith in rw (add-one, drop-cons x i d k)
+-- ---- as the derives have it
 
-  gone : n ≤ i → drop i x ≡ []
-  gone h = let k : length x ≤ i = omega arith in drop_of_length-le x k
+abbrev equal_address : Address → Address → Bool
+equal_address a b = nat_eq a.kind b.kind && (nat_eq a.ssi b.ssi && nat_eq a.extension b.extension)
 
-module _ (n : ℕ) (x y : List ℕ) (lx : length x ≡ n) (ly : length y ≡ n) (i : ℕ) where
-  pub numbers_more : i < n → get_or x i 0 ≡ get_or y i 0 → same_numbers (drop i x) (drop i y) ≡ same_numbers (drop (i + 1) x) (drop (i + 1) y)
-  unfolding same_numbers both
-  numbers_more h e = rw (front 0 n i x lx h, front 0 n i y ly h, eq-eqb _ _ e)
+abbrev equal_group : Group → Group → Bool
+equal_group g h = nat_eq g.range h.range && pointwise equal_address g.addresses h.addresses
 
-  pub numbers_not : i < n → (get_or x i 0 ≡ get_or y i 0 → ⊥) → same_numbers (drop i x) (drop i y) ≡ false
-  unfolding same_numbers both
-  numbers_not h e = rw (front 0 n i x lx h, front 0 n i y ly h, ne_eqb _ _ e)
+abbrev equal_areas : Areas → Areas → Bool
+equal_areas a b = nat_eq a.range b.range && pointwise nat_eq a.areas b.areas
 
-  pub numbers_end : n ≤ i → same_numbers (drop i x) (drop i y) ≡ true
-  unfolding same_numbers
-  numbers_end h = rw (gone 0 n i x lx h, gone 0 n i y ly h)
+abbrev equal_lists : Lists → Lists → Bool
+equal_lists x y = equal_group x.sources y.sources && (equal_group x.destinations y.destinations && equal_areas x.areas y.areas)
 
-module _ (x y : List Bool) (lx : length x ≡ 7) (ly : length y ≡ 7) (i : ℕ) where
-  bools_by : (b : Bool) → i < 7 → same_bool (get_or x i false) (get_or y i false) ≡ b → same_bools (drop i x) (drop i y) ≡ both b (same_bools (drop (i + 1) x) (drop (i + 1) y))
-  unfolding same_bools
-  bools_by b h e = rw (front false 7 i x lx h, front false 7 i y ly h, e)
+abbrev pub equal_value : Value → Value → Bool
+equal_value v w =
+    nat_eq v.pdu w.pdu
+    && (pointwise nat_eq v.numbers w.numbers
+    && (equal_group v.users w.users
+    && (beq v.masked w.masked
+    && (nat_eq v.mask w.mask
+    && (pointwise beq v.given w.given && (equal_group v.dispatchers w.dispatchers && equal_lists v.lists w.lists))))))
 
-  pub bools_more : i < 7 → same_bool (get_or x i false) (get_or y i false) ≡ true → same_bools (drop i x) (drop i y) ≡ same_bools (drop (i + 1) x) (drop (i + 1) y)
-  unfolding both
-  bools_more h e = bools_by true h e
+-- ---- and as the definition has it
 
-  pub bools_not : i < 7 → same_bool (get_or x i false) (get_or y i false) ≡ false → same_bools (drop i x) (drop i y) ≡ false
-  unfolding both
-  bools_not h e = bools_by false h e
+and_is : {a b c d : Bool} → a ≡ b → c ≡ d → (a && c) ≡ both b d
+and_is e h = rw (e, h) (and_both _ _)
 
-  pub bools_end : 7 ≤ i → same_bools (drop i x) (drop i y) ≡ true
-  unfolding same_bools
-  bools_end h = rw (gone false 7 i x lx h, gone false 7 i y ly h)
+bool_same : (a b : Bool) → beq a b ≡ same_bool a b
+bool_same true true = refl
+bool_same true false = refl
+bool_same false true = refl
+bool_same false false = refl
 
-module _ (x y : List Address) (lx : length x ≡ 15) (ly : length y ≡ 15) (i : ℕ) where
-  addresses_by_lem : (b : Bool) → i < 15 → same_address (get_or x i nobody) (get_or y i nobody) ≡ b
-      → same_addresses (drop i x) (drop i y) ≡ both b (same_addresses (drop (i + 1) x) (drop (i + 1) y))
-  unfolding same_addresses
-  addresses_by_lem b h e = rw (front nobody 15 i x lx h, front nobody 15 i y ly h, e)
+bools_same : (l m : List Bool) → pointwise beq l m ≡ same_bools l m
+unfolding same_bools
+bools_same [] [] = refl
+bools_same [] (y ∷ m) = refl
+bools_same (x ∷ l) [] = refl
+bools_same (x ∷ l) (y ∷ m) = and_is (bool_same x y) (bools_same l m)
 
-  pub addresses_more : i < 15 → same_address (get_or x i nobody) (get_or y i nobody) ≡ true → same_addresses (drop i x) (drop i y) ≡ same_addresses (drop (i + 1) x) (drop (i + 1) y)
-  unfolding both
-  addresses_more h e = addresses_by_lem true h e
+numbers_same : (l m : List ℕ) → pointwise nat_eq l m ≡ same_numbers l m
+unfolding same_numbers
+numbers_same [] [] = refl
+numbers_same [] (y ∷ m) = refl
+numbers_same (x ∷ l) [] = refl
+numbers_same (x ∷ l) (y ∷ m) = and_is refl (numbers_same l m)
 
-  pub addresses_not : i < 15 → same_address (get_or x i nobody) (get_or y i nobody) ≡ false → same_addresses (drop i x) (drop i y) ≡ false
-  unfolding both
-  addresses_not h e = addresses_by_lem false h e
+address_same : (a b : Address) → equal_address a b ≡ same_address a b
+unfolding same_address
+address_same a b = and_is refl (and_both _ _)
 
-  pub addresses_end : 15 ≤ i → same_addresses (drop i x) (drop i y) ≡ true
-  unfolding same_addresses
-  addresses_end h = rw (gone nobody 15 i x lx h, gone nobody 15 i y ly h)
+addresses_same : (l m : List Address) → pointwise equal_address l m ≡ same_addresses l m
+unfolding same_addresses
+addresses_same [] [] = refl
+addresses_same [] (y ∷ m) = refl
+addresses_same (x ∷ l) [] = refl
+addresses_same (x ∷ l) (y ∷ m) = and_is (address_same x y) (addresses_same l m)
+
+group_same : (g h : Group) → equal_group g h ≡ same_group g h
+unfolding same_group
+group_same g h = and_is refl (addresses_same g.addresses h.addresses)
+
+areas_same : (a b : Areas) → equal_areas a b ≡ same_areas a b
+unfolding same_areas
+areas_same a b = and_is refl (numbers_same a.areas b.areas)
+
+lists_same : (x y : Lists) → equal_lists x y ≡ same_lists x y
+unfolding same_lists
+lists_same x y = and_is (group_same x.sources y.sources) (and_is (group_same x.destinations y.destinations) (areas_same x.areas y.areas))
+
+pub value_same : (v w : Value) → equal_value v w ≡ same_value v w
+unfolding same_value
+value_same v w =
+    and_is refl
+    (and_is (numbers_same v.numbers w.numbers)
+    (and_is (group_same v.users w.users)
+    (and_is (bool_same v.masked w.masked)
+    (and_is refl
+    (and_is (bools_same v.given w.given) (and_is (group_same v.dispatchers w.dispatchers) (lists_same v.lists w.lists)))))))

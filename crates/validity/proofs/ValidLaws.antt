@@ -1,14 +1,14 @@
 -- What the tests of validity go by. Assumes nothing.
 use Prim.Native.Nat.{ℕ, zero, suc, ◌+◌, ◌-◌, ◌*◌, ◌/◌, ◌%◌, ◌^◌, ◌≤◌, ◌<◌}
 use mathlib.Core.Path.{◌≡◌, refl, sym, ap, ◌∙◌}
-use mathlib.Core.Bool.{Bool, true, false, not, cond}
+use mathlib.Core.Bool.{Bool, true, false, not, cond, ◌&&◌}
+use Rattle.std.specs.List.{list_all}
+use Rattle.std.proofs.lemmas.List.{length-drop, length-take-le, take_all}
 use mathlib.Core.List.{List, [], ◌∷◌}
-use native.Mathlib.Numerals.{add-one}
 use native.Mathlib.Omega.{arith}
 use lib.Dec.{eqb, leb, ltb}
-use lib.ListN.{length, length-take, take, drop, get_or, drop_of_length-le}
+use lib.ListN.{length, take, drop}
 use lib.Pow.{shr_lt, shl_exact}
-use lib.Seq.{drop-cons, get_or-take}
 use borrow.Author.Tests.{eqb-true, eqb-false, eq-eqb, ne_eqb, lt-ltb, le-ltb, le-leb, leb-true, leb-false}
 use Rattle.codec.specs.Codec.{Codec, both, number, pure, choose, vec_ok}
 use Rattle.codec.specs.Options.{flag}
@@ -54,54 +54,47 @@ pub kind_two : (k : ℕ) → (k ≡ 1 → ⊥) → eqb k 2 ≡ (kind_c false).ok
 unfolding kind_c number
 kind_two k h = rw (ne_eqb _ _ h) (two_fits k (eqb k 2) refl)
 
--- ---- the first of them: addresses, areas
+-- ---- fifteen places: the first k are good, those beyond are none
 
-module _ {A : Type 0} (none : A) (C : Codec A) (l : List A) (count i : ℕ) where
-  module _ (h : i < count) (k : count ≤ length l) where
-    cut : drop i (take count l) ≡ get_or l i none ∷ drop (i + 1) (take count l)
-    cut =
-        let n : i < length (take count l) = simp length-take (omega arith) in
-        rw (add-one, drop-cons (take count l) i none n, get_or-take count l i none h)
+pub and_both : (a b : Bool) → (a && b) ≡ both a b
+unfolding both
+and_both true b = refl
+and_both false b = refl
 
-    left : count - i ≡ suc (count - (i + 1))
-    left = omega arith
+none_all : {A : Type 0} (is_none : A → Bool) (k : ℕ) (l : List A) → length l ≡ k → list_all is_none l ≡ are_none is_none k l
+unfolding are_none
+none_all {A = A} is_none k l e = rw (sym e) (go l)
+  where
+    go : (l : List A) → list_all is_none l ≡ are_none is_none (length l) l
+    go [] = refl
+    go (a ∷ l) = rw (go l) (and_both _ _)
 
-    pub first_more : C.ok (get_or l i none) ≡ true → vec_ok C (count - i) (drop i (take count l)) ≡ vec_ok C (count - (i + 1)) (drop (i + 1) (take count l))
-    first_more e = rw (left, cut) (both_yes _ _ e)
+first_all : {A : Type 0} (C : Codec A) (k : ℕ) (l : List A) → length l ≡ k → list_all (λ a. C.ok a) l ≡ vec_ok C k l
+first_all {A = A} C k l e = rw (sym e) (go l)
+  where
+    go : (l : List A) → list_all (λ a. C.ok a) l ≡ vec_ok C (length l) l
+    go [] = refl
+    go (a ∷ l) = rw (go l) (and_both _ _)
 
-    pub first_not : C.ok (get_or l i none) ≡ false → vec_ok C (count - i) (drop i (take count l)) ≡ false
-    first_not e = rw (left, cut) (both_no _ _ e)
+-- a slice from k to the fifteenth is what lies beyond k
+pub all_beyond : {A : Type 0} (l : List A) (k : ℕ) → length l ≡ 15 → take (15 - k) (drop k l) ≡ drop k l
+all_beyond l k e = take_all (15 - k) (drop k l) (let d = length-drop k l in omega arith)
 
-  pub first_end : count ≤ i → count ≤ length l → vec_ok C (count - i) (drop i (take count l)) ≡ true
-  first_end h k =
-      let n : length (take count l) ≤ i = simp length-take (omega arith) in
-      let z : count - i ≡ 0 = omega arith in
-      rw (z, drop_of_length-le (take count l) n)
+module _ {A : Type 0} (is_none : A → Bool) (C : Codec A) (l : List A) (k : ℕ) (e : length l ≡ 15) (h : k ≤ 15) where
+  abbrev places : Bool
+  places = both (are_none is_none (15 - k) (drop k l)) (vec_ok C k (take k l))
 
--- ---- the places beyond
+  beyond : list_all is_none (drop k l) ≡ are_none is_none (15 - k) (drop k l)
+  beyond = none_all is_none (15 - k) (drop k l) (length-drop k l ∙ ap (λ n. n - k) e)
 
-module _ {A : Type 0} (none : A) (is_none : A → Bool) (l : List A) (i : ℕ) where
-  module _ (h : i < 15) (k : length l ≡ 15) where
-    gone : drop i l ≡ get_or l i none ∷ drop (i + 1) l
-    gone = let n : i < length l = omega arith in rw (add-one, drop-cons l i none n)
+  first : list_all (λ a. C.ok a) (take k l) ≡ vec_ok C k (take k l)
+  first = first_all C k (take k l) (let m : k ≤ length l = omega arith in length-take-le k l m)
 
-    less : 15 - i ≡ suc (15 - (i + 1))
-    less = omega arith
+  pub places_then : list_all is_none (drop k l) ≡ true → list_all (λ a. C.ok a) (take k l) ≡ places
+  places_then t = first ∙ sym (both_yes _ _ (sym beyond ∙ t))
 
-    pub rest_more : is_none (get_or l i none) ≡ true → are_none is_none (15 - i) (drop i l) ≡ are_none is_none (15 - (i + 1)) (drop (i + 1) l)
-    unfolding are_none
-    rest_more e = rw (less, gone) (both_yes _ _ e)
-
-    pub rest_not : is_none (get_or l i none) ≡ false → are_none is_none (15 - i) (drop i l) ≡ false
-    unfolding are_none
-    rest_not e = rw (less, gone) (both_no _ _ e)
-
-  pub rest_end : 15 ≤ i → length l ≡ 15 → are_none is_none (15 - i) (drop i l) ≡ true
-  unfolding are_none
-  rest_end h k =
-      let n : length l ≤ i = omega arith in
-      let z : 15 - i ≡ 0 = omega arith in
-      rw (z, drop_of_length-le l n)
+  pub places_else : list_all is_none (drop k l) ≡ false → false ≡ places
+  places_else f = sym (both_no _ _ (sym beyond ∙ f))
 
 -- ---- a destination is good as any other address is
 

@@ -11,9 +11,10 @@ pub(crate) fn masked_ok(count: usize, masked: bool, mask: u64) -> bool
     ensures { result ≡ (masked_c count).ok (masked, mask) }
 {
     if masked {
-        return mask_ok(count, mask);
+        mask_ok(count, mask)
+    } else {
+        mask == 0
     }
-    mask == 0
 }
 
 // No bit stands beyond the count: the identities have the top bits.
@@ -32,61 +33,35 @@ fn mask_ok(count: usize, mask: u64) -> bool
 pub(crate) fn result_ok(res: u32, reason: u32) -> bool
     ensures { result ≡ result_c.ok (res, reason) }
 {
-    if res >= 2 {
-        return false;
+    match res {
+        0 => reason < 128,
+        1 => reason == 0,
+        _ => false,
     }
-    if res == 1 {
-        return reason == 0;
-    }
-    reason < 128
 }
 
 pub(crate) fn state_ok(s: State) -> bool
     ensures { result ≡ state_c.ok s }
 {
-    if s.result > 1 {
-        return false;
+    match s.result {
+        0 => not_accepted_ok(s),
+        1 => accepted_ok(s),
+        _ => false,
     }
-    if s.result == 1 {
-        return accepted_ok(s);
-    }
-    not_accepted_ok(s)
 }
 
 // No reason.
+#[tactic(auto, unfolding(crate::specs::Parts::accepted_ok, codec::specs::Codec::both))]
 fn accepted_ok(s: State) -> bool
     ensures { result ≡ accepted_ok s }
 {
-    if s.reason != 0 {
-        return false;
-    }
-    if s.activation > 1 {
-        return false;
-    }
-    if s.interception > 1 {
-        return false;
-    }
-    if s.called > 3 {
-        return false;
-    }
-    s.calling <= 3
+    s.reason == 0 && s.activation <= 1 && s.interception <= 1 && s.called <= 3 && s.calling <= 3
 }
 
 // A reason alone.
+#[tactic(auto, unfolding(crate::specs::Parts::not_accepted_ok, codec::specs::Codec::both))]
 fn not_accepted_ok(s: State) -> bool
     ensures { result ≡ not_accepted_ok s }
 {
-    if s.reason > 7 {
-        return false;
-    }
-    if s.activation != 0 {
-        return false;
-    }
-    if s.interception != 0 {
-        return false;
-    }
-    if s.called != 0 {
-        return false;
-    }
-    s.calling == 0
+    s.reason <= 7 && s.activation == 0 && s.interception == 0 && s.called == 0 && s.calling == 0
 }

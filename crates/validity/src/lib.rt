@@ -2,7 +2,7 @@
 // and all that the message doesn't carry is zero. The definition is the `ok` of `message`'s codec, which its round trips are about.
 //
 // `valid` equals `valid_of` for every profile and value, also for a profile that breaks a rule: refusing that is the caller's. The files
-// go from small to large: address, group, area and ack, part, body; same is the test that two values are one.
+// go from small to large: address, group, area and ack, part, body.
 #![tactic(auto)]
 
 ghost use Rattle.std.specs.Prelude.{◌≡◌};
@@ -18,25 +18,17 @@ mod area;
 mod body;
 mod group;
 mod part;
-mod same;
 
 // True exactly if the value is a valid one under the profile's ranges (document 01, "Bits on the air").
 pub fn valid(profile: Profile, value: Value) -> bool
     ensures { result ≡ valid_of profile.air value }
 {
-    let air = profile.air;
-    if header_ok(air.ss, value.pdu) {
-        return body::body_ok(air, value.pdu, value);
-    }
-    false
+    header_ok(profile.air.ss, value.pdu) && body::body_ok(profile.air, value.pdu, value)
 }
 
 // Both numbers of the header fit, and the type is carried.
 fn header_ok(ss: u8, pdu: u8) -> bool
     ensures { result ≡ (header_c ss).ok (ss, pdu) }
 {
-    if ss >= 64 {
-        return false;
-    }
-    message::is_carried(pdu)
+    ss < 64 && message::is_carried(pdu)
 }

@@ -8,6 +8,6 @@ pub returns-then-header_ok : goal.returns-then-header_ok
 unfolding valid_of message_c both
 returns-then-header_ok c = rw (sym c.header_ok.ensures ∙ c.if-header_ok.true) c.body_ok.ensures
 
-pub returns : goal.returns
+pub returns-else-header_ok : goal.returns-else-header_ok
 unfolding valid_of message_c both
-returns c = rw (sym c.header_ok.ensures ∙ c.if-header_ok.false)
+returns-else-header_ok c = rw (c.if-header_ok.false, sym c.header_ok.ensures ∙ c.if-header_ok.false)

@@ -5,5 +5,5 @@ use Rattle.validity.proofs.ack.masked_ok.Goals as goal
 pub returns-then-masked : goal.returns-then-masked
 returns-then-masked c = c.mask_ok.ensures ∙ sym (masked_there _ _ _ c.if-masked.true)
 
-pub returns : goal.returns
-returns c = sym (masked_none _ _ _ c.if-masked.false)
+pub returns-else-masked : goal.returns-else-masked
+returns-else-masked c = sym (masked_none _ _ _ c.if-masked.false)

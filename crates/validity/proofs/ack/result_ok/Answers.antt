@@ -1,16 +1,18 @@
-use borrow.Author.Tests.{eq-eqb, ne_eqb, lt-ltb, le-ltb}
+use Prim.Native.Nat.{◌≤◌}
+use native.Mathlib.Omega.{arith}
+use borrow.Author.Tests.{le-ltb}
 use Rattle.codec.specs.Codec.{both, number}
 use Rattle.message.specs.Acks.{result_c}
 use Rattle.validity.proofs.ack.result_ok.Goals as goal
 
-pub returns-then-res-ge2 : goal.returns-then-res-ge2
+pub returns-in-0 : goal.returns-in-0
 unfolding result_c number both
-returns-then-res-ge2 c = rw (le-ltb _ _ c.if-res-ge2.true)
+returns-in-0 c = rw c.in-0.is
 
-pub returns-then-res-eq1 : goal.returns-then-res-eq1
+pub returns-in-1 : goal.returns-in-1
 unfolding result_c number both
-returns-then-res-eq1 c = rw (lt-ltb _ _ c.if-res-ge2.false, eq-eqb _ _ c.if-res-eq1.true)
+returns-in-1 c = rw c.in-1.is
 
-pub returns : goal.returns
+pub returns-in_default : goal.returns-in_default
 unfolding result_c number both
-returns c = rw (lt-ltb _ _ c.if-res-ge2.false, ne_eqb _ _ c.if-res-eq1.false)
+returns-in_default c = let h : 2 ≤ c.args.res = omega arith in rw (le-ltb _ _ h)

@@ -1,18 +1,19 @@
-use borrow.Author.Tests.{eq-eqb, ne_eqb, le-leb, lt-leb}
+use Prim.Native.Nat.{◌<◌}
+use native.Mathlib.Omega.{arith}
+use borrow.Author.Tests.{lt-leb}
 use Rattle.codec.specs.Codec.{both}
+use Rattle.validity.specs.Parts.{accepted_ok, not_accepted_ok}
 use Rattle.validity.proofs.ValidLaws.{state_by_lem}
 use Rattle.validity.proofs.ack.state_ok.Goals as goal
 
-pub returns-then-s-gt1 : goal.returns-then-s-gt1
-unfolding both
-returns-then-s-gt1 c = rw (state_by_lem _, lt-leb _ _ c.if-s-gt1.true)
+pub returns-in-0 : goal.returns-in-0
+unfolding both not_accepted_ok
+returns-in-0 c = rw (state_by_lem _, c.in-0.is) c.not_accepted_ok.ensures
 
-pub returns-then-s-eq1 : goal.returns-then-s-eq1
-unfolding both
-returns-then-s-eq1 c =
-    rw (state_by_lem _, le-leb _ _ c.if-s-gt1.false, eq-eqb _ _ c.if-s-eq1.true) c.accepted_ok.ensures
+pub returns-in-1 : goal.returns-in-1
+unfolding both accepted_ok
+returns-in-1 c = rw (state_by_lem _, c.in-1.is) c.accepted_ok.ensures
 
-pub returns : goal.returns
+pub returns-in_default : goal.returns-in_default
 unfolding both
-returns c =
-    rw (state_by_lem _, le-leb _ _ c.if-s-gt1.false, ne_eqb _ _ c.if-s-eq1.false) c.not_accepted_ok.ensures
+returns-in_default c = let h : 1 < c.args.s.result = omega arith in rw (state_by_lem _, lt-leb _ _ h)

@@ -7,5 +7,5 @@ pub returns-then-kind-eq1 : goal.returns-then-kind-eq1
 unfolding kind_c number both
 returns-then-kind-eq1 c = rw c.if-kind-eq1.true
 
-pub returns : goal.returns
-returns c = kind_two _ c.if-kind-eq1.false
+pub returns-else-kind-eq1 : goal.returns-else-kind-eq1
+returns-else-kind-eq1 c = kind_two _ c.if-kind-eq1.false

@@ -12,6 +12,6 @@ pub returns-then-range_ok : goal.returns-then-range_ok
 unfolding areas_c both
 returns-then-range_ok c = rw (sym c.range_ok.ensures ∙ c.if-range_ok.true, ← c.meaning_of.ensures) c.list_ok.ensures
 
-pub returns : goal.returns
+pub returns-else-range_ok : goal.returns-else-range_ok
 unfolding areas_c both
-returns c = rw (sym c.range_ok.ensures ∙ c.if-range_ok.false)
+returns-else-range_ok c = rw (c.if-range_ok.false, sym c.range_ok.ensures ∙ c.if-range_ok.false)

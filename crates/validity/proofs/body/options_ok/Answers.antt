@@ -1,23 +1,20 @@
 use mathlib.Core.Path.{sym, ◌∙◌}
 use borrow.Author.Rules.{rules}
-use Rattle.validity.proofs.RowLaws.{options_turn, options_not, options_end, options_past, options_start}
+use Rattle.validity.proofs.RowLaws.{options_turn, options_not, options_done, options_start}
 use Rattle.validity.proofs.body.options_ok.Goals as goal
 
-pub loop-i-init : goal.loop-i-init
-loop-i-init c = (search rules, options_start _ _ _ _ _)
+pub loop-option-init : goal.loop-option-init
+loop-option-init c = options_start _ _ _ _ _
 
-pub returns-then-i-ge7 : goal.returns-then-i-ge7
-returns-then-i-ge7 c =
-    c.same_value.ensures ∙ sym (c.loop-i.invariant.1 ∙ options_past _ _ _ _ _ _ (search rules))
+pub loop-option-preserved : goal.loop-option-preserved
+loop-option-preserved c =
+    c.loop-option.invariant
+    ∙ options_turn _ _ _ c.args.row.optional _ (search rules) _ _ c.loop-option-test.true _ (sym c.option_ok.ensures ∙ c.if-not-option_ok.false) c.copied_option-made.ensures
 
-pub loop-i-preserved : goal.loop-i-preserved
-loop-i-preserved c =
-    (search rules, c.loop-i.invariant.1 ∙ options_turn _ _ _ _ _ _ (search rules) (search rules) _ (sym c.option_ok.ensures ∙ c.if-option_ok.true) c.copied_option-made.ensures)
-
-pub returns-else-option_ok : goal.returns-else-option_ok
-returns-else-option_ok c =
-    sym (c.loop-i.invariant.1 ∙ options_not _ _ _ _ _ _ (search rules) (search rules) (sym c.option_ok.ensures ∙ c.if-option_ok.false))
+pub returns-then-not-option_ok : goal.returns-then-not-option_ok
+returns-then-not-option_ok c =
+    sym (c.loop-option.invariant ∙ options_not _ _ _ c.args.row.optional _ (search rules) _ _ c.loop-option-test.true (sym c.option_ok.ensures ∙ c.if-not-option_ok.true))
 
 pub returns : goal.returns
 returns c =
-    c.same_value-2.ensures ∙ sym (c.loop-i.invariant.1 ∙ options_end _ _ _ _ _ _ (search rules))
+    c.same_value.ensures ∙ sym (c.loop-option.invariant ∙ options_done _ _ _ c.args.row.optional _ (search rules) _ _ c.loop-option-test.false)

@@ -8,6 +8,7 @@ unfolding addresses_c both
 returns-then-places_ok c =
     rw (← c.addresses_in.ensures, sym c.places_ok.ensures ∙ c.if-places_ok.true) c.ends_ok.ensures
 
-pub returns : goal.returns
+pub returns-else-places_ok : goal.returns-else-places_ok
 unfolding addresses_c both
-returns c = rw (← c.addresses_in.ensures, sym c.places_ok.ensures ∙ c.if-places_ok.false)
+returns-else-places_ok c =
+    rw (← c.addresses_in.ensures, c.if-places_ok.false, sym c.places_ok.ensures ∙ c.if-places_ok.false)

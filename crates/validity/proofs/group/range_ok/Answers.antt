@@ -3,10 +3,10 @@ use Rattle.codec.specs.Codec.{both, number}
 use Rattle.message.specs.Groups.{range_c}
 use Rattle.validity.proofs.group.range_ok.Goals as goal
 
-pub returns-then-range-ge16 : goal.returns-then-range-ge16
+pub returns-then-range-lt16 : goal.returns-then-range-lt16
 unfolding range_c number both
-returns-then-range-ge16 c = rw (le-ltb _ _ c.if-range-ge16.true)
+returns-then-range-lt16 c = rw (lt-ltb _ _ c.if-range-lt16.true, ← c.meaning_of.ensures) c.allowed.ensures
 
-pub returns : goal.returns
+pub returns-else-range-lt16 : goal.returns-else-range-lt16
 unfolding range_c number both
-returns c = rw (lt-ltb _ _ c.if-range-ge16.false, ← c.meaning_of.ensures) c.allowed.ensures
+returns-else-range-lt16 c = rw (le-ltb _ _ c.if-range-lt16.false)
