@@ -1,15 +1,16 @@
 -- The walk over the identities: the masks of those passed, a law for its turn, and what it comes to. Assumes nothing.
-use Prim.Native.Nat.{ℕ, zero, suc, ◌+◌, ◌-◌, ◌*◌, ◌%◌, ◌^◌, ◌<◌, ◌≤◌}
+use Prim.Native.Nat.{ℕ, zero, suc, ◌+◌, ◌-◌, ◌*◌, ◌^◌, ◌<◌, ◌≤◌}
 use mathlib.Core.Path.{◌≡◌, refl, sym, ap, ◌∙◌, subst}
-use mathlib.Core.Bool.{Bool}
+use mathlib.Core.Bool.{Bool, false}
 use mathlib.Core.List.{List, [], ◌∷◌}
 use native.Mathlib.Nat.{add-zero, add-mul, mul_assoc, mul_comm, one-mul, pow-suc, zero-add, zero-mul}
 use native.Mathlib.Numerals.{add-one}
 use native.Mathlib.Omega.{arith}
 use lib.Dec.{eqb}
 use lib.ListN.{length, get_or, set, replicate}
-use lib.Pow.{shl_exact, shl_lt}
+use lib.Pow.{shl_lt}
 use borrow.Author.Tests.{lt-ltb, eq-eqb}
+use Rattle.std.proofs.Common.{Option}
 use Rattle.bits.specs.Fields.{field_at}
 use Rattle.bits.proofs.FieldLaws.{field_lt}
 use Rattle.codec.specs.Codec.{both}
@@ -23,15 +24,12 @@ use Rattle.records.specs.declared.Marks.{Marks}
 use Rattle.records.specs.declared.Sorted.{Sorted}
 use Rattle.records.specs.Identities.{identity_at, count_of, identities_of}
 use Rattle.records.specs.Outcomes.{outcome_of, outcomes_of, has, mask_of, sorted_of, sorted_by}
-use Rattle.records.specs.Marking.{marks_of}
+use Rattle.records.specs.Marking.{accepted_of, unmarked, nobody_marked, with_by, with_mark, marks_of}
 use Rattle.records.specs.Judging.{judged_of}
 use Rattle.records.proofs.IdentityLaws.{count_le}
 use Rattle.records.proofs.OutcomeLaws.{one_lt, outcomes_count, outcomes_le, outcome_at, outcome_lt}
+use Rattle.records.proofs.MarkLaws.{marks_left, marks_start, marks_more, marks_end}
 use Rattle.records.proofs.MaskLaws.{by_count, some_mask}
-
--- bit 63 − i of 64
-pub bit_is : (i : ℕ) → i < 64 → 1 * 2 ^ (63 - i) % 2 ^ 64 ≡ 2 ^ (63 - i)
-bit_is i h = shl_exact {a = 1} 1 (63 - i) 64 (omega arith) (omega arith) ∙ one-mul (2 ^ (63 - i))
 
 -- ---- the mask of an outcome over the first i identities
 
@@ -119,6 +117,33 @@ module _ (air : Air) (g : Group) (rows : List Record) (post i n : ℕ) (m : n �
   pub masks_room : get_or ms o 0 + bit < 2 ^ 64
   masks_room = rw (v, b) (one_room (outcomes_of air g rows post) i there (outcomes_le air g rows post) o its_outcome few)
 
+-- ---- the walk: what is known when i identities are passed
+
+pub record Passed (to : Bool) (air : Air) (g : Group) (rows : List Record) (post : ℕ) (masks : List ℕ) (at : List Bool) (i : ℕ) : Type 0 where
+  pub sums : masks ≡ masks_to (outcomes_of air g rows post) i
+  pub marks : marks_of to rows post (identities_of air g) ≡ marks_left air g rows post (record { at = at; mark = to }) i
+
+pub passed_none : (to : Bool) (air : Air) (g : Group) (rows : List Record) (post : ℕ) → Passed to air g rows post (replicate 3 0) (replicate 128 false) 0
+unfolding nobody_marked unmarked
+passed_none to air g rows post = record { sums = masks_start (outcomes_of air g rows post); marks = marks_start air g rows post to _ refl }
+
+-- identity i has the outcome o
+module _ {to : Bool} {air : Air} {g : Group} {rows : List Record} {post : ℕ} {masks : List ℕ} {at : List Bool} {i : ℕ} (p : Passed to air g rows post masks at i)
+    {n : ℕ} (m : n ≡ count_of air g) (h : i < n) {id : Identity} (d : id ≡ identity_at air g i) {bit : ℕ} (b : bit ≡ 2 ^ (63 - i))
+    {o : ℕ} (e : o ≡ outcome_of rows post (eqb air.unknown air.other) id) where
+  pub mask_room : get_or masks o 0 + bit < 2 ^ 64
+  mask_room = masks_room air g rows post i n m h id d o e masks p.sums bit b
+
+  pub passed_more : {f : Option ℕ} → f ≡ accepted_of rows post id → {more : List ℕ} → more ≡ set masks o (get_or masks o 0 + bit)
+      → {next : List Bool} → next ≡ with_by at f
+      → Passed to air g rows post more next (i + 1)
+  unfolding with_mark
+  passed_more {f} a {more} s {next} w =
+      record {
+        sums = s ∙ masks_more air g rows post i n m h id d o e masks p.sums bit b;
+        marks = marks_more _ air g rows post (record { at = at; mark = to }) i p.marks n m id f (record { at = next; mark = to }) h d a (rw w refl);
+      }
+
 -- ---- the end
 
 sorted_so : (os : List ℕ) → length os ≤ 64 → sorted_by (mask_of 0 os ∷ mask_of 1 os ∷ mask_of 2 os ∷ []) ≡ sorted_of os
@@ -137,6 +162,13 @@ judged_end to air g rows post ms i n p q m v s z marks w =
     let k : i ≤ 64 = omega (arith, count_le air g) in
     let y : s ≡ sorted_of os = z ∙ rw (v, part_end 0 os i c k, part_end 1 os i c k, part_end 2 os i c k) (sorted_so os (outcomes_le air g rows post)) in
     rw (y, w)
+
+pub passed_all : {to : Bool} {air : Air} {g : Group} {rows : List Record} {post : ℕ} {masks : List ℕ} {at : List Bool} {i n : ℕ} → Passed to air g rows post masks at i
+    → i ≤ n → n ≤ i → n ≡ count_of air g
+    → (s : Sorted) → s ≡ sorted_by masks
+    → ◌≡◌ {A = Judged} (record { sorted = s; marks = record { at = at; mark = to } }) (judged_of to air g rows post)
+passed_all {to} {air} {g} {rows} {post} {masks} {at} {i} {n} w p q m s z =
+    judged_end to air g rows post masks i n p q m w.sums s z _ (marks_end _ air g rows post (record { at = at; mark = to }) i w.marks n m q)
 
 -- ---- what was judged, taken apart
 

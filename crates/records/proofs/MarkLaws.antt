@@ -6,7 +6,7 @@ use mathlib.Core.List.{List, [], ◌∷◌}
 use mathlib.Core.Logic.{⊎_elim}
 use native.Mathlib.Numerals.{add-one}
 use native.Mathlib.Omega.{arith}
-use lib.ListN.{length, get_or, set, drop, length-set, length-replicate, get_or-replicate, drop_of_length-le}
+use lib.ListN.{length, get_or, drop, length-set, length-replicate, get_or-replicate, drop_of_length-le}
 use lib.Seq.{drop-cons, get_or-set_same, get_or-set_other}
 use borrow.Author.Tests.{eq-eqb, ne_eqb}
 use Rattle.bits.proofs.SetLaws.{eq_or}
@@ -15,21 +15,10 @@ use Rattle.message.specs.declared.Group.{Group}
 use Rattle.records.specs.declared.Record.{Record}
 use Rattle.records.specs.declared.Identity.{Identity}
 use Rattle.records.specs.declared.Marks.{Marks}
-use Rattle.records.specs.declared.search.Found.{Found}
-use Rattle.records.specs.declared.search.Found.TheVariants as found
+use Rattle.std.proofs.Common.{Option, Some, None}
 use Rattle.records.specs.Identities.{no_identity, identity_at, count_of, identities_of}
 use Rattle.records.specs.Marking.{accepted_of, unmarked, nobody_marked, with_by, with_mark, mark_all, marks_of, is_at, wanted}
 use Rattle.records.proofs.IdentityLaws.{length_identities, identities_at}
-
--- ---- one more mark
-
-pub with_none : (ms : Marks) (f : Found) → f ≡ found.Nobody → ms ≡ with_mark ms f
-unfolding with_mark
-with_none ms f e = rw e
-
-pub with_at : (ms : Marks) (f : Found) (i : ℕ) → f ≡ found.At i → ◌≡◌ {A = Marks} (record { at = set ms.at i true; mark = ms.mark }) (with_mark ms f)
-unfolding with_mark
-with_at ms f i e = rw e
 
 -- ---- the walk: what is left at identity i
 
@@ -42,7 +31,7 @@ unfolding marks_of marks_left
 marks_start air g rows post to ms e = rw e
 
 module _ (x : Marks) (air : Air) (g : Group) (rows : List Record) (post : ℕ) (ms : Marks) (i : ℕ) (v : x ≡ marks_left air g rows post ms i) (n : ℕ) (m : n ≡ count_of air g) where
-  pub marks_more : (id : Identity) (f : Found) (next : Marks) → i < n → id ≡ identity_at air g i → f ≡ accepted_of rows post id → next ≡ with_mark ms f
+  pub marks_more : (id : Identity) (f : Option ℕ) (next : Marks) → i < n → id ≡ identity_at air g i → f ≡ accepted_of rows post id → next ≡ with_mark ms f
       → x ≡ marks_left air g rows post next (i + 1)
   unfolding mark_all marks_left
   marks_more id f next h d e w =
@@ -59,15 +48,15 @@ module _ (x : Marks) (air : Air) (g : Group) (rows : List Record) (post : ℕ) (
 
 -- ---- marks-at: record j's mark is wanted exactly if it is the accepted record of one of the identities
 
-one_at : (at : List Bool) (f : Found) (j : ℕ) → j < length at → get_or (with_by at f) j false ≡ get_or at j false || is_at j f
-one_at at found.Nobody j h = sym (or-false (get_or at j false))
-one_at at (found.At i) j h =
+one_at : (at : List Bool) (f : Option ℕ) (j : ℕ) → j < length at → get_or (with_by at f) j false ≡ get_or at j false || is_at j f
+one_at at None j h = sym (or-false (get_or at j false))
+one_at at (Some i) j h =
     ⊎_elim (λ e. rw (eq-eqb i j e, e) (get_or-set_same at j true false h ∙ sym (or-true (get_or at j false))))
     (λ n. rw (ne_eqb i j n, get_or-set_other at i j true false (λ e. n (sym e))) (sym (or-false (get_or at j false)))) (eq_or i j)
 
-one_length : (at : List Bool) (f : Found) → length (with_by at f) ≡ length at
-one_length at found.Nobody = refl
-one_length at (found.At i) = length-set at i true
+one_length : (at : List Bool) (f : Option ℕ) → length (with_by at f) ≡ length at
+one_length at None = refl
+one_length at (Some i) = length-set at i true
 
 all_at : (rows : List Record) (post : ℕ) (ms : Marks) (ids : List Identity) (j : ℕ) → j < length ms.at
     → get_or (mark_all rows post ms ids).at j false ≡ get_or ms.at j false || wanted rows post ids j

@@ -14,8 +14,7 @@ use Rattle.message.specs.Groups.{span_of}
 use Rattle.message.specs.declared.Group.{Group}
 use Rattle.records.specs.declared.Record.{Record}
 use Rattle.records.specs.declared.Identity.{Identity}
-use Rattle.records.specs.declared.search.Found.{Found}
-use Rattle.records.specs.declared.search.Found.TheVariants as found
+use Rattle.std.proofs.Common.{Option, Some, None}
 use Rattle.records.specs.Identities.{no_identity, identity_at, count_of, identities_of}
 use Rattle.records.specs.Records.{row_of, record_of}
 use Rattle.records.specs.Outcomes.{outcome_by, outcome_of, outcomes_of}
@@ -24,45 +23,37 @@ use Rattle.records.proofs.IdentityLaws.{length_identities, identities_at, count_
 
 -- ---- one identity: its outcome, and the record whose mark is changed
 
-module _ (f : Found) (rows : List Record) (id : Identity) (v : f ≡ record_of rows id) (post : ℕ) where
-  module _ (e : f ≡ found.Nobody) where
+module _ (f : Option ℕ) (rows : List Record) (id : Identity) (v : f ≡ record_of rows id) (post : ℕ) where
+  module _ (e : f ≡ None) where
     pub out_none : (same : Bool) → 1 ≡ outcome_of rows post same id
     unfolding outcome_of
     out_none same = rw (← v, e)
 
-    pub acc_none : found.Nobody ≡ accepted_of rows post id
+    pub acc_none : None ≡ accepted_of rows post id
     unfolding accepted_of
     acc_none = rw (← v, e)
 
-  module _ (i : ℕ) (e : f ≡ found.At i) (r : Record) (w : r ≡ row_of rows i) where
-    pub out_yes : r.post ≡ post → (same : Bool) → 0 ≡ outcome_of rows post same id
+  module _ (i : ℕ) (e : f ≡ Some i) where
+    pub out_yes : (row_of rows i).post ≡ post → (same : Bool) → 0 ≡ outcome_of rows post same id
     unfolding outcome_of
-    out_yes h same = rw (← v, e, ← w, eq-eqb r.post post h)
+    out_yes h same = rw (← v, e, eq-eqb (row_of rows i).post post h)
 
-    pub acc_yes : r.post ≡ post → found.At i ≡ accepted_of rows post id
+    pub acc_yes : (row_of rows i).post ≡ post → Some i ≡ accepted_of rows post id
     unfolding accepted_of
-    acc_yes h = rw (← v, e, ← w, eq-eqb r.post post h)
+    acc_yes h = rw (← v, e, eq-eqb (row_of rows i).post post h)
 
-    pub out_other : (r.post ≡ post → ⊥) → (same : Bool) → cond same 1 2 ≡ outcome_of rows post same id
+    pub out_other : ((row_of rows i).post ≡ post → ⊥) → (same : Bool) → cond same 1 2 ≡ outcome_of rows post same id
     unfolding outcome_of
-    out_other h same = rw (← v, e, ← w, ne_eqb r.post post h)
+    out_other h same = rw (← v, e, ne_eqb (row_of rows i).post post h)
 
-    pub acc_no : (r.post ≡ post → ⊥) → found.Nobody ≡ accepted_of rows post id
+    pub acc_no : ((row_of rows i).post ≡ post → ⊥) → None ≡ accepted_of rows post id
     unfolding accepted_of
-    acc_no h = rw (← v, e, ← w, ne_eqb r.post post h)
-
--- the outcome of another post's user
-pub other_lt : (air : Air) (o : ℕ) → o ≡ cond (eqb air.unknown air.other) 1 2 → o < 3
-other_lt air o e = go (eqb air.unknown air.other) e
-  where
-    go : (same : Bool) → o ≡ cond same 1 2 → o < 3
-    go true e = omega arith
-    go false e = omega arith
+    acc_no h = rw (← v, e, ne_eqb (row_of rows i).post post h)
 
 -- an outcome is 0, 1 or 2
-by_lt : (rows : List Record) (post : ℕ) (same : Bool) (f : Found) → outcome_by rows post same f < 3
-by_lt rows post same found.Nobody = omega arith
-by_lt rows post same (found.At i) = go (eqb (row_of rows i).post post) same
+by_lt : (rows : List Record) (post : ℕ) (same : Bool) (f : Option ℕ) → outcome_by rows post same f < 3
+by_lt rows post same None = omega arith
+by_lt rows post same (Some i) = go (eqb (row_of rows i).post post) same
   where
     go : (a b : Bool) → cond a 0 (cond b 1 2) < 3
     go true b = omega arith

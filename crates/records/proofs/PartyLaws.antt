@@ -6,21 +6,22 @@ use mathlib.Core.List.{List, [], ◌∷◌}
 use native.Mathlib.Omega.{arith}
 use lib.ListN.{length, take}
 use lib.Dec.{eqb}
-use borrow.Author.Tests.{ltb-true, eq-eqb, ne_eqb, eqb-false}
+use borrow.Author.Tests.{ltb-true, eqb-false}
+use Rattle.std.proofs.Common.{Option, Some, None}
+use Rattle.std.specs.Bool.{then_some}
+use Rattle.std.specs.Option.{is_some, option_and_then, option_eq, option_map, option_or}
 use Rattle.codec.specs.Codec.{both}
 use Rattle.codec.proofs.Good.{both_left, both_right, not_both}
-use Rattle.records.specs.Records.{row_of, record_of, record_ok, all_ok, records_ok, no_party, party_of, restricted_by, restricted_of, restricts_by, is_restricted, post_by, post_for, second_of}
+use Rattle.records.specs.Records.{row_of, record_of, record_ok, all_ok, records_ok, no_party, party_of, restricted_by, restricted_of, restricts, restricts_by, is_restricted, post_by, post_for, second_of, restricting, party_by}
 use Rattle.records.specs.declared.Record.{Record}
 use Rattle.records.specs.declared.Identity.{Identity}
 use Rattle.records.specs.declared.Party.{Party}
-use Rattle.records.specs.declared.search.Found.{Found}
-use Rattle.records.specs.declared.search.Found.TheVariants as found
 use Rattle.records.proofs.RecordLaws.{Lowest, is_it, record_lowest}
 
-by_record : (rows : List Record) (f : Found) (next : Party) → restricted_by rows f next ≡ cond (restricts_by rows f) (record { found = true; post = post_by rows f }) next
+by_record : (rows : List Record) (f : Option ℕ) (next : Party) → restricted_by rows f next ≡ cond (restricts_by rows f) (record { found = true; post = post_by rows f }) next
 unfolding party_of
-by_record rows found.Nobody next = refl
-by_record rows (found.At i) next = refl
+by_record rows None next = refl
+by_record rows (Some i) next = refl
 
 -- the call is for the caller's post if the caller is restricted, else for the called party's if that one is, else for none
 pub restricted_is : (rows : List Record) (caller called : Identity)
@@ -30,6 +31,35 @@ pub restricted_is : (rows : List Record) (caller called : Identity)
 unfolding restricted_of is_restricted post_for
 restricted_is rows caller called =
     by_record rows (record_of rows caller) (restricted_by rows (record_of rows called) no_party) ∙ rw (by_record rows (record_of rows called) no_party) refl
+
+-- as the code finds it
+pub restricted_or : (rows : List Record) (caller called : Identity) (f g : Option ℕ) → f ≡ restricting rows caller → g ≡ restricting rows called
+    → party_by (option_or f g) ≡ restricted_of rows (caller ∷ called ∷ [])
+unfolding restricting
+restricted_or rows caller called f g v w =
+    rw (v, w) (go (is_restricted rows caller) (is_restricted rows called) (post_for rows caller) (post_for rows called)) ∙ sym (restricted_is rows caller called)
+  where
+    go : (a b : Bool) (p q : ℕ) → party_by (option_or (then_some a p) (then_some b q))
+        ≡ cond a (record { found = true; post = p }) (cond b (record { found = true; post = q }) no_party)
+    go true b p q = refl
+    go false true p q = refl
+    go false false p q = refl
+
+-- a record restricts a call if its mark is set
+module _ (rows : List Record) (id : Identity) (f : Option Record) (v : f ≡ option_map (row_of rows) (record_of rows id)) where
+  by_holder : restricting rows id ≡ option_and_then (λ r. then_some r.active r.post) f
+  unfolding restricting is_restricted post_for restricts
+  by_holder = rw v (go (record_of rows id))
+    where
+      go : (g : Option ℕ) → then_some (restricts_by rows g) (post_by rows g) ≡ option_and_then (λ r. then_some r.active r.post) (option_map (row_of rows) g)
+      go None = refl
+      go (Some i) = refl
+
+  pub restricting_none : f ≡ None → None ≡ restricting rows id
+  restricting_none e = sym (by_holder ∙ rw e refl)
+
+  pub restricting_some : (r : Record) → f ≡ Some r → then_some r.active r.post ≡ restricting rows id
+  restricting_some r e = sym (by_holder ∙ rw e refl)
 
 -- ---- where 15 does not come, a restricted party's post is one of the posts
 
@@ -47,9 +77,9 @@ pub restricted_below : (posts : ℕ) (rows : List Record) (id : Identity) → al
 unfolding is_restricted post_for
 restricted_below posts rows id e = go (record_of rows id) (record_lowest rows id)
   where
-    go : (f : Found) → Lowest rows id f → restricts_by rows f ≡ true → post_by rows f < posts
-    go found.Nobody l z = not_both z
-    go (found.At i) l z = in_use_post posts (row_of rows i) (ok_at posts rows i l.0 e) (is_it (row_of rows i) id l.1.0).0
+    go : (f : Option ℕ) → Lowest rows id f → restricts_by rows f ≡ true → post_by rows f < posts
+    go None l z = not_both z
+    go (Some i) l z = in_use_post posts (row_of rows i) (ok_at posts rows i l.0 e) (is_it (row_of rows i) id l.1.0).0
 
 -- so is the post that a call is for
 pub party_below : (rows : List Record) (n posts : ℕ) (caller called : Identity) → records_ok rows n posts ≡ true
@@ -66,57 +96,33 @@ party_below rows n posts caller called e = rw (restricted_is (take n rows) calle
 
 -- ---- the post that is asked second
 
--- a party by itself, as a search for it twice gives it
-alone_is : (rows : List Record) (id : Identity)
-    → restricted_of rows (id ∷ id ∷ []) ≡ cond (is_restricted rows id) (record { found = true; post = post_for rows id }) no_party
-alone_is rows id = restricted_is rows id id ∙ go (is_restricted rows id)
-  where
-    for : Party
-    for = record { found = true; post = post_for rows id }
+-- as the code finds it, of the posts of both where their records restrict
+abbrev second_by : Option ℕ → Option ℕ → Option ℕ
+second_by f g = cond (is_some f) (cond (not (option_eq eqb f g)) g None) None
 
-    go : (b : Bool) → cond b for (cond b for no_party) ≡ cond b for no_party
-    go true = refl
-    go false = refl
+module _ (rows : List Record) (caller called : Identity) (f g : Option ℕ) (v : f ≡ restricting rows caller) (w : g ≡ restricting rows called) where
+  second_so : party_by (second_by f g) ≡ second_of rows caller called
+  unfolding restricting second_of both
+  second_so = rw (v, w) (go (is_restricted rows caller) (is_restricted rows called) (post_for rows caller) (post_for rows called))
+    where
+      other : (c : Bool) (q : ℕ) → party_by (cond (not c) (Some q) None) ≡ cond (not c) (record { found = true; post = q }) no_party
+      other true q = refl
+      other false q = refl
 
-alone_found : (rows : List Record) (id : Identity) (p : Party) → p ≡ restricted_of rows (id ∷ id ∷ []) → p.found ≡ true
-    → (is_restricted rows id ≡ true) × (p ≡ record { found = true; post = post_for rows id })
-alone_found rows id p z = go (is_restricted rows id) refl
-  where
-    go : (b : Bool) → is_restricted rows id ≡ b → p.found ≡ true → (b ≡ true) × (p ≡ record { found = true; post = post_for rows id })
-    go true e h = (refl, z ∙ alone_is rows id ∙ rw e refl)
-    go false e h = let none : p ≡ no_party = z ∙ alone_is rows id ∙ rw e refl in not_both (sym (ap (λ (x : Party). x.found) none) ∙ h)
+      go : (a b : Bool) (p q : ℕ) → party_by (second_by (then_some a p) (then_some b q))
+          ≡ cond (both a (both b (not (eqb p q)))) (record { found = true; post = q }) no_party
+      go true true p q = other (eqb p q) q
+      go true false p q = refl
+      go false b p q = refl
 
-alone_not : (rows : List Record) (id : Identity) (p : Party) → p ≡ restricted_of rows (id ∷ id ∷ []) → p.found ≡ false → is_restricted rows id ≡ false
-alone_not rows id p z = go (is_restricted rows id) refl
-  where
-    go : (b : Bool) → is_restricted rows id ≡ b → p.found ≡ false → b ≡ false
-    go true e h = let there : p ≡ record { found = true; post = post_for rows id } = z ∙ alone_is rows id ∙ rw e refl in not_both (sym h ∙ ap (λ (x : Party). x.found) there)
-    go false e h = refl
+  pub second_there : is_some f ≡ true → not (option_eq eqb f g) ≡ true → party_by g ≡ second_of rows caller called
+  second_there h k = rw (h, k) at second_so
 
-module _ (rows : List Record) (caller called : Identity) (a b : Party) (first : a ≡ restricted_of rows (caller ∷ caller ∷ [])) (other : b ≡ restricted_of rows (called ∷ called ∷ [])) where
-  pub second_free : a.found ≡ false → no_party ≡ second_of rows caller called
-  unfolding second_of both
-  second_free h = rw (alone_not rows caller a first h) refl
+  pub second_same : is_some f ≡ true → not (option_eq eqb f g) ≡ false → no_party ≡ second_of rows caller called
+  second_same h k = rw (h, k) at second_so
 
-  pub second_alone : a.found ≡ true → b.found ≡ false → no_party ≡ second_of rows caller called
-  unfolding second_of both
-  second_alone h k = rw ((alone_found rows caller a first h).0, alone_not rows called b other k) refl
-
-  pub second_same : a.found ≡ true → b.found ≡ true → a.post ≡ b.post → no_party ≡ second_of rows caller called
-  unfolding second_of both
-  second_same h k e =
-      let f = alone_found rows caller a first h in
-      let g = alone_found rows called b other k in
-      let same : post_for rows caller ≡ post_for rows called = sym (ap (λ (x : Party). x.post) f.1) ∙ e ∙ ap (λ (x : Party). x.post) g.1 in
-      rw (f.0, g.0, eq-eqb (post_for rows caller) (post_for rows called) same) refl
-
-  pub second_there : a.found ≡ true → b.found ≡ true → (a.post ≡ b.post → ⊥) → b ≡ second_of rows caller called
-  unfolding second_of both
-  second_there h k d =
-      let f = alone_found rows caller a first h in
-      let g = alone_found rows called b other k in
-      let apart : post_for rows caller ≡ post_for rows called → ⊥ = λ e. d (ap (λ (x : Party). x.post) f.1 ∙ e ∙ sym (ap (λ (x : Party). x.post) g.1)) in
-      rw (f.0, g.0, ne_eqb (post_for rows caller) (post_for rows called) apart) g.1
+  pub second_free : is_some f ≡ false → no_party ≡ second_of rows caller called
+  second_free h = rw h at second_so
 
 -- what it says: both are restricted, and the called party's post, which it is, is another than the caller's
 pub record IsSecond (rows : List Record) (caller called : Identity) (post : ℕ) : Type 0 where

@@ -1,5 +1,5 @@
 -- The outcomes of ACTIVATE and DEACTIVATE, and the masks of their ACKs: document 01, "User records and waiting calls".
-use Rattle.std.specs.Prelude.{ℕ, Bool, false, not, cond, ◌||◌, List, [], ◌∷◌, map, eqb, ltb, get_or, length}
+use Rattle.std.specs.Prelude.{ℕ, Option, Some, None, Bool, false, not, cond, ◌||◌, List, [], ◌∷◌, map, eqb, ltb, get_or, length}
 use Rattle.bits.specs.Fields.{field_at}
 use Rattle.codec.specs.Codec.{both}
 use Rattle.profile.specs.Counting.{one}
@@ -8,17 +8,15 @@ use Rattle.message.specs.declared.Group.{Group}
 use Rattle.records.specs.declared.Record.{Record}
 use Rattle.records.specs.declared.Identity.{Identity}
 use Rattle.records.specs.declared.Sorted.{Sorted}
-use Rattle.records.specs.declared.search.Found.{Found}
-use Rattle.records.specs.declared.search.Found.TheVariants as found
 use Rattle.records.specs.Identities.{identities_of}
 use Rattle.records.specs.Records.{row_of, record_of}
 
 -- ---- outcomes: 0 accepted, 1 failure U, 2 failure N
 
 -- no record gives U, a record of another post N; where U = N (`same`) both failures are one
-abbrev pub outcome_by : List Record → ℕ → Bool → Found → ℕ
-outcome_by rows post same found.Nobody = 1
-outcome_by rows post same (found.At i) = cond (eqb (row_of rows i).post post) 0 (cond same 1 2)
+abbrev pub outcome_by : List Record → ℕ → Bool → Option ℕ → ℕ
+outcome_by rows post same None = 1
+outcome_by rows post same (Some i) = cond (eqb (row_of rows i).post post) 0 (cond same 1 2)
 
 unfoldable pub outcome_of : List Record → ℕ → Bool → Identity → ℕ
 outcome_of rows post same id = outcome_by rows post same (record_of rows id)

@@ -1,26 +1,27 @@
 // The user records, by value (document 01, "User records and waiting calls"): the record of an identity, and what a call learns from
 // the records. ACTIVATE and DEACTIVATE get the masks of their outcomes and which records to mark, INTERROGATE a state, set-up the restricted party's post.
 //
-// `rows` has room for 128 records; the first `count` are lent, and the others are never looked at. Every function takes every input,
-// also records that refusal 15 would name. The files go from small to large: identities, search, outcome.
+// `rows` has room for 128 records; the first `count` are lent, and the others are never looked at. No heap: so they are an array and a count
+// where they cross to desk and host; in here they are a slice. Every function takes every input, also records that refusal 15 would name.
+// The files go from small to large: identities, search, outcome.
 #![tactic(auto)]
 
 ghost use Rattle.std.specs.Prelude.{◌≡◌, [], ◌∷◌, take};
 ghost use Rattle.records.specs.Identities.{identity_of, identities_of};
-ghost use Rattle.records.specs.Records.{records_ok, state_of, restricted_of, second_of};
+ghost use Rattle.records.specs.Records.{records_ok, state_of, restricted_of, second_of, party_by};
 ghost use Rattle.records.specs.Outcomes.{outcomes_of, sorted_of};
 ghost use Rattle.records.specs.Marking.{marks_of, no_marks};
 ghost use Rattle.records.specs.Judging.{judged_of};
 
 use message::{Address, Group};
 use profile::{Air, Profile};
-use search::Found;
 
 mod identities;
 mod outcome;
 mod search;
 
-// `active` is the mark. A record that is not in use is never looked at.
+// `active` is the mark. A record that is not in use is never looked at. It is lent by the host with anything in it, so `in_use` is a flag: an
+// option, or numbers in a type of 24 bits, would ask more of who lends it.
 #[derive(Clone, Copy)]
 pub struct Record {
     pub in_use: bool,
@@ -36,7 +37,8 @@ pub struct Identity {
     pub extension: u32,
 }
 
-// The post of the first restricted party; where none is, `found` is false and the post 0.
+// The post of the first restricted party; where none is, `found` is false and the post 0. A struct and no option: definitions of
+// desk and history name its fields (`Spoken`, `second_of`).
 #[derive(Clone, Copy)]
 pub struct Party {
     pub found: bool,
@@ -44,7 +46,8 @@ pub struct Party {
 }
 
 // Of each outcome, 0 accepted, 1 failure U, 2 failure N: whether an identity has it, and the mask of those that do. Identity i,
-// from 0, is bit 63 − i. Where U = N both failures are 1.
+// from 0, is bit 63 − i. Where U = N both failures are 1. An outcome is the place in both arrays, as `sending` lays the ACKs; `send_acks` takes
+// every `some` beside every mask, so it is no Option of a mask.
 #[derive(Clone, Copy)]
 pub struct Sorted {
     pub some: [bool; 3],
@@ -66,45 +69,56 @@ pub struct Judged {
 }
 
 // The ground of refusal 15 does not hold: at most 128 are lent, and each in use has a post below `posts` and numbers of 24 bits.
+#[tactic(auto, unfolding(crate::specs::Records::records_ok, codec::specs::Codec::both))]
 pub fn records_ok(rows: [Record; 128], count: usize, posts: u8) -> bool
     ensures { result ≡ records_ok rows count posts }
 {
-    if count > Profile::RECORDS {
-        return false;
-    }
-    search::all_ok(rows, count, posts)
+    count <= Profile::RECORDS && search::all_ok(search::lent(&rows, count), posts)
 }
 
-// What INTERROGATE from a post answers: 0 no record, 1 another post's, 2 active, 3 not active.
+// What INTERROGATE from a post answers: 0 no record, 1 another post's, 2 active, 3 not active. A number, as `Answer::State` carries it.
 pub fn state_of(air: Air, rows: [Record; 128], count: usize, post: u8, address: Address) -> u8
     ensures { result ≡ state_of (take count rows) post (identity_of air address) }
 {
-    search::state(rows, count, post, identities::identity_of(air, address))
+    search::state(
+        search::lent(&rows, count),
+        post,
+        identities::identity_of(air, address),
+    )
 }
 
 // The post that a call is for: the caller's if the caller's record restricts it, else the called party's, if that does.
 pub fn restricted(rows: [Record; 128], count: usize, caller: Identity, called: Identity) -> Party
     ensures { result ≡ restricted_of (take count rows) (caller ∷ called ∷ []) }
 {
-    search::first_restricted(rows, count, [caller, called])
+    let lent = search::lent(&rows, count);
+    party_of(search::restricting(lent, caller).or(search::restricting(lent, called)))
 }
 
 // The post that is asked after that one: the called party's, if both records restrict the call and their posts differ.
 pub fn second(rows: [Record; 128], count: usize, caller: Identity, called: Identity) -> Party
     ensures { result ≡ second_of (take count rows) caller called }
 {
-    let first = restricted(rows, count, caller, caller);
-    let other = restricted(rows, count, called, called);
-    if first.found {} else {
-        return search::NO_PARTY;
+    let lent = search::lent(&rows, count);
+    let first = search::restricting(lent, caller);
+    let other = search::restricting(lent, called);
+    party_of(if first.is_some() && first != other {
+        other
+    } else {
+        None
+    })
+}
+
+fn party_of(post: Option<u8>) -> Party
+    ensures { result ≡ party_by post }
+{
+    match post {
+        Some(post) => Party { found: true, post },
+        None => Party {
+            found: false,
+            post: 0,
+        },
     }
-    if other.found {} else {
-        return search::NO_PARTY;
-    }
-    if first.post == other.post {
-        return search::NO_PARTY;
-    }
-    other
 }
 
 // What an ACTIVATE or DEACTIVATE of the group from a post comes to; the mark of the accepted ones becomes `to`. One walk over the
@@ -119,35 +133,30 @@ pub fn judged_of(
 ) -> Judged
     ensures { result ≡ judged_of to air group (take count rows) post }
 {
+    let lent = search::lent(&rows, count);
     let other = outcome::other_of(air);
-    let n = identities::count_of(air, group);
     let mut masks = [0u64; 3];
     let mut at = [false; 128];
-    let mut i: usize = 0;
-    while i < n {
+    let n = identities::count_of(air, group);
+    for i in 0..n {
         let id = identities::identity_at(air, group, i);
         let bit = outcome::bit_of(i);
-        i += 1;
-        match search::record_of(rows, count, id) {
-            Found::Nobody => {
+        match search::record_of(lent, id) {
+            None => {
                 masks[1] += bit;
             }
-            Found::At(k) => {
-                let r = rows[k];
-                if r.post == post {
-                    masks[0] += bit;
-                    at[k] = true;
-                } else {
-                    masks[other] += bit;
-                }
+            Some(k) if lent[k].post == post => {
+                masks[0] += bit;
+                at[k] = true;
+            }
+            Some(_) => {
+                masks[other] += bit;
             }
         }
     }
-    let sorted = outcome::sorted_by(masks);
-    let marks = Marks { at: at, mark: to };
     Judged {
-        sorted: sorted,
-        marks: marks,
+        sorted: outcome::sorted_by(masks),
+        marks: Marks { at, mark: to },
     }
 }
 
@@ -155,8 +164,7 @@ pub fn judged_of(
 pub fn sorted_of(air: Air, group: Group, rows: [Record; 128], count: usize, post: u8) -> Sorted
     ensures { result ≡ sorted_of (outcomes_of air group (take count rows) post) }
 {
-    let judged = judged_of(air, group, rows, count, post, false);
-    judged.sorted
+    judged_of(air, group, rows, count, post, false).sorted
 }
 
 // Of that the marks alone.
@@ -170,8 +178,7 @@ pub fn marks_of(
 ) -> Marks
     ensures { result ≡ marks_of to (take count rows) post (identities_of air group) }
 {
-    let judged = judged_of(air, group, rows, count, post, to);
-    judged.marks
+    judged_of(air, group, rows, count, post, to).marks
 }
 
 // None is changed.

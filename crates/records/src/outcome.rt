@@ -9,10 +9,7 @@ use profile::Air;
 pub(crate) fn other_of(air: Air) -> usize
     ensures { result ≡ cond (eqb air.unknown air.other) 1 2 }
 {
-    if air.unknown == air.other {
-        return 1;
-    }
-    2
+    if air.unknown == air.other { 1 } else { 2 }
 }
 
 // The bit of identity i in a mask: the first has the highest.
@@ -24,11 +21,12 @@ pub(crate) fn bit_of(i: usize) -> u64
 }
 
 // An outcome is there exactly if its mask is not 0.
+#[tactic(auto, unfolding(crate::specs::Outcomes::sorted_by))]
 pub(crate) fn sorted_by(mask: [u64; 3]) -> Sorted
     ensures { result ≡ sorted_by mask }
 {
     Sorted {
         some: [mask[0] != 0, mask[1] != 0, mask[2] != 0],
-        mask: mask,
+        mask,
     }
 }

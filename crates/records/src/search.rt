@@ -1,152 +1,74 @@
-// The record of an identity, by a search from record 0 on, and the questions that one search answers.
-ghost use Rattle.std.specs.Prelude.{◌≡◌, ◌≤◌, take};
-ghost use Rattle.records.specs.Records.{is, record_of, record_ok, all_ok, state_of, restricts, party_of, restricted_of};
+// The record of an identity, by a search from record 0 on, and the questions that one search answers. `rows` are the records lent.
+ghost use Rattle.std.specs.Prelude.{◌≡◌, take, option_map};
+ghost use Rattle.records.specs.Records.{is, row_of, record_of, record_ok, all_ok, state_of, restricting};
 
-use crate::{Identity, Party, Record};
+use crate::{Identity, Record};
 use profile::Profile;
 
-// A record's number.
-#[derive(Clone, Copy)]
-pub enum Found {
-    Nobody,
-    At(usize),
+// The records lent: the first `count` of the rows.
+pub(crate) fn lent(rows: &[Record; 128], count: usize) -> &[Record]
+    ensures { result.now ≡ take count rows.now }
+{
+    &rows[..count.min(Profile::RECORDS)]
 }
 
-pub(crate) const NO_PARTY: Party = Party {
-    found: false,
-    post: 0,
-};
-
 // The record is in use and has the identity.
+#[tactic(auto, unfolding(crate::specs::Records::is, codec::specs::Codec::both))]
 fn is_of(r: Record, id: Identity) -> bool
     ensures { result ≡ is r id }
 {
-    if r.in_use {
-        if r.ssi == id.ssi {
-            return r.extension == id.extension;
-        }
-    }
-    false
+    r.in_use && r.ssi == id.ssi && r.extension == id.extension
 }
 
-// The record of an identity: the lowest-numbered in use that has it.
-pub(crate) fn record_of(rows: [Record; 128], count: usize, id: Identity) -> Found
-    ensures { result ≡ record_of (take count rows) id }
+// The number of an identity's record: the lowest-numbered in use that has it.
+pub(crate) fn record_of(rows: &[Record], id: Identity) -> Option<usize>
+    ensures { result ≡ record_of rows.now id }
 {
-    let mut i: usize = 0;
-    let found = loop {
-        if i == Profile::RECORDS {
-            break Found::Nobody;
-        }
-        if i >= count {
-            break Found::Nobody;
-        }
-        if is_of(rows[i], id) {
-            break Found::At(i);
-        }
-        i += 1;
-    };
-    found
+    rows.iter().position(|r| is_of(*r, id))
+}
+
+// That record itself.
+fn holder(rows: &[Record], id: Identity) -> Option<Record>
+    ensures { result ≡ option_map (row_of rows.now) (record_of rows.now id) }
+{
+    rows.iter().find(|r| is_of(**r, id)).copied()
 }
 
 // ---- refusal 15
 
-pub(crate) fn all_ok(rows: [Record; 128], count: usize, posts: u8) -> bool
-    requires { count ≤ 128 }
-    ensures { result ≡ all_ok posts (take count rows) }
+pub(crate) fn all_ok(rows: &[Record], posts: u8) -> bool
+    ensures { result ≡ all_ok posts rows.now }
 {
-    let mut i: usize = 0;
-    while i < count {
-        let r = rows[i];
-        i += 1;
-        if record_ok(r, posts) {} else {
-            return false;
-        }
-    }
-    true
+    rows.iter().all(|r| record_ok(*r, posts))
 }
 
+#[tactic(auto, unfolding(crate::specs::Records::record_ok, codec::specs::Codec::both))]
 fn record_ok(row: Record, posts: u8) -> bool
     ensures { result ≡ record_ok posts row }
 {
-    if row.in_use {
-        if row.post >= posts {
-            return false;
-        }
-        if row.ssi > 0xFF_FFFF {
-            return false;
-        }
-        return row.extension <= 0xFF_FFFF;
-    }
-    true
+    !row.in_use || row.post < posts && row.ssi <= 0xFF_FFFF && row.extension <= 0xFF_FFFF
 }
 
 // ---- INTERROGATE
 
-pub(crate) fn state(rows: [Record; 128], count: usize, post: u8, id: Identity) -> u8
-    ensures { result ≡ state_of (take count rows) post id }
+#[tactic(auto, unfolding(crate::specs::Records::state_of))]
+pub(crate) fn state(rows: &[Record], post: u8, id: Identity) -> u8
+    ensures { result ≡ state_of rows.now post id }
 {
-    match record_of(rows, count, id) {
-        Found::Nobody => 0,
-        Found::At(i) => {
-            let r = rows[i];
-            if r.post != post {
-                return 1;
-            }
-            if r.active {
-                return 2;
-            }
-            3
-        }
+    match holder(rows, id) {
+        None => 0,
+        Some(r) if r.post != post => 1,
+        Some(r) if r.active => 2,
+        Some(_) => 3,
     }
 }
 
 // ---- set-up
 
-// A record restricts a call if its mark is set.
-fn is_restricting(r: Record) -> bool
-    ensures { result ≡ restricts r }
+// The post of an identity's record, if that restricts a call: its mark is set.
+pub(crate) fn restricting(rows: &[Record], id: Identity) -> Option<u8>
+    ensures { result ≡ restricting rows.now id }
 {
-    r.active
-}
-
-fn party_of(r: Record) -> Party
-    ensures { result ≡ party_of r }
-{
-    Party {
-        found: true,
-        post: r.post,
-    }
-}
-
-// The post of the first party whose record restricts: a search through the records for each party, left where one does.
-pub(crate) fn first_restricted(rows: [Record; 128], count: usize, parties: [Identity; 2]) -> Party
-    ensures { result ≡ restricted_of (take count rows) parties }
-{
-    let mut k: usize = 0;
-    let party = 'parties: loop {
-        if k >= 2 {
-            break 'parties NO_PARTY;
-        }
-        let id = parties[k];
-        k += 1;
-        let mut i: usize = 0;
-        loop {
-            if i == Profile::RECORDS {
-                continue 'parties;
-            }
-            if i >= count {
-                continue 'parties;
-            }
-            let r = rows[i];
-            if is_of(r, id) {
-                if is_restricting(r) {
-                    break 'parties party_of(r);
-                }
-                continue 'parties;
-            }
-            i += 1;
-        }
-    };
-    party
+    let r = holder(rows, id)?;
+    r.active.then_some(r.post)
 }

@@ -1,17 +1,13 @@
+use mathlib.Core.Path.{◌∙◌}
 use borrow.Author.Rules.{rules}
-use Rattle.records.proofs.RecordLaws.{ok_start, ok_more, ok_not, ok_end}
+use borrow.Author.Tests.{tests}
+use Rattle.std.proofs.lemmas.Iterator.{YieldsList-from_slice}
+use Rattle.std.proofs.lemmas.Iterator.Search.{all_from_yields_List}
+use Rattle.records.specs.Records.{record_ok}
+use Rattle.records.proofs.RecordLaws.{all_is}
 use Rattle.records.proofs.search.all_ok.Goals as goal
 
-pub loop-i-init : goal.loop-i-init
-loop-i-init c = (search rules, (search rules, (search rules, ok_start _ _ _)))
-
-pub loop-i-preserved : goal.loop-i-preserved
-loop-i-preserved c =
-    (search rules, (search rules, (search rules, ok_more _ _ _ _ _ c.loop-i.invariant.1.1.1 _ (search rules) (search rules) c.record_ok.ensures c.if-record_ok.true)))
-
-pub returns-else-record_ok : goal.returns-else-record_ok
-returns-else-record_ok c =
-    ok_not _ _ _ _ _ c.loop-i.invariant.1.1.1 _ (search rules) (search rules) c.record_ok.ensures c.if-record_ok.false
-
 pub returns : goal.returns
-returns c = ok_end _ _ _ _ _ c.loop-i.invariant.1.1.1 (search rules)
+returns c =
+    all_from_yields_List (record_ok c.args.posts) _ _ _ c.all.ensures.ran (YieldsList-from_slice c.args.rows.now cc) (λ x b q k. search (rules, tests))
+    ∙ all_is c.args.posts c.args.rows.now
