@@ -1,4 +1,3 @@
-pub mod AnswerLaws
 pub mod ReadLaws
 pub mod RowLaws
 pub mod WalkLaws

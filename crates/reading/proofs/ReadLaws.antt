@@ -1,13 +1,13 @@
 -- What the readers go by: bounds of what was read, a kind, the loops over addresses and areas, the mask in its place. Assumes nothing.
 use Prim.Native.Nat.{ℕ, suc, ◌+◌, ◌-◌, ◌*◌, ◌/◌, ◌%◌, ◌≤◌, ◌<◌, ◌^◌}
-use mathlib.Core.Path.{◌≡◌, refl, sym, ap, ◌∙◌}
+use mathlib.Core.Path.{◌≡◌, refl, sym, ◌∙◌}
 use mathlib.Core.Bool.{Bool, true, false, not, cond}
 use mathlib.Core.List.{List, ◌∷◌}
-use native.Mathlib.Nat.{sub-zero, zero-mul, lt_of_lt_of_le}
+use native.Mathlib.Nat.{zero-mul, lt_of_lt_of_le}
 use native.Mathlib.Numerals.{add-one}
 use native.Mathlib.Omega.{arith}
 use lib.Dec.{eqb}
-use lib.ListN.{set, replicate}
+use lib.ListN.{set}
 use lib.Pow.{pow_mono, shl_exact}
 use lib.Seq.{sets}
 use Rattle.bits.specs.Fields.{bit_at, field_of}
@@ -15,29 +15,30 @@ use Rattle.bits.proofs.FieldLaws.{field_is, field_below, field_split}
 use borrow.Author.Tests.{eqb-true}
 use Rattle.codec.specs.Stops.{short, refusal}
 use Rattle.codec.specs.Codec.{Codec, Read, got, no, bind, both, number, vec_read}
-use Rattle.codec.specs.Taking.{took_of, take_of}
+use Rattle.codec.specs.Taking.{take_of}
 use Rattle.codec.specs.declared.Stop.{Stop}
-use Rattle.codec.specs.declared.Took.{Took}
-use Rattle.codec.specs.declared.Took.TheVariants as took
 use Rattle.codec.proofs.RoundTrips.{read_found, number_lt}
 use Rattle.codec.proofs.TakeLaws.{take_number, take_past, take_there}
 use Rattle.profile.specs.Rules.{meaning_in}
 use Rattle.profile.specs.declared.Air.{Air}
 use Rattle.message.specs.Elements as element
 use Rattle.message.specs.Addresses.{is_kind, is_internal, kind_c}
-use Rattle.message.specs.Groups.{addresses_in, fifteen_c, range_c}
+use Rattle.message.specs.Groups.{addresses_in, range_c}
 use Rattle.message.proofs.GroupLaws.{good_range, range_allowed, few_addresses}
 use Rattle.message.specs.Messages.{is_known, is_carried, header_c}
 use Rattle.reading.specs.Parts.{no_kind, judged_of}
 
 -- ---- take, with a width that it can have
 
-module _ (e : ℕ) (l : List ℕ) (n at w : ℕ) (t : Took) (said : took_of t ≡ take_of e l n at w) where
-  pub took_number : w ≤ 64 → (number e w).read (bit_at l) n at ≡ took_of t
-  took_number h = sym (said ∙ take_number e l n at w h)
+module _ (e : ℕ) (l : List ℕ) (n at w : ℕ) where
+  pub took_number : (r : Read ℕ) → r ≡ take_of e l n at w → w ≤ 64 → r ≡ (number e w).read (bit_at l) n at
+  took_number r took h = took ∙ take_number e l n at w h
 
-  pub took_lt : (k v p : ℕ) → w ≤ k → k ≤ 64 → t ≡ took.Got v p → v < 2 ^ k
-  took_lt k v p h m g = lt_of_lt_of_le (number_lt e l n at w v p (took_number (omega arith) ∙ ap took_of g)) (pow_mono h)
+  pub took_lt : (v p k : ℕ) → got v p ≡ take_of e l n at w → w ≤ k → k ≤ 64 → v < 2 ^ k
+  took_lt v p k took h m = lt_of_lt_of_le (number_lt e l n at w v p (sym (took_number (got v p) took (omega arith)))) (pow_mono h)
+
+  pub word_fits : (v p : ℕ) → got v p ≡ take_of e l n at w → w ≤ 32 → v < 2 ^ 32
+  word_fits v p took h = took_lt v p 32 took h (omega arith)
 
 -- ---- a number of few bits, by its field
 
@@ -108,9 +109,9 @@ module _ (ss : ℕ) (l : List ℕ) (n at : ℕ) where
 
 -- ---- a range and a group that were read
 
-pub range_few : (air : Air) (none : Bool) (l : List ℕ) (n at r p : ℕ) → (range_c air none).read (bit_at l) n at ≡ got r p → addresses_in (meaning_in air.meanings r) ≤ 15
+pub range_few : (air : Air) (none : Bool) (l : List ℕ) (n at r p : ℕ) → got r p ≡ (range_c air none).read (bit_at l) n at → addresses_in (meaning_in air.meanings r) ≤ 15
 range_few air none l n at r p e =
-    few_addresses none (meaning_in air.meanings r) (range_allowed air none r (read_found (range_c air none) (good_range air none) l n at r p e).valid)
+    few_addresses none (meaning_in air.meanings r) (range_allowed air none r (read_found (range_c air none) (good_range air none) l n at r p (sym e)).valid)
 
 -- ---- a kind
 
@@ -136,33 +137,28 @@ kind_read false f n at = refl
 
 -- ---- a loop that reads k of C into fifteen places, one after the other
 
-module _ {A R : Type 0} (answer : Read (List A) → R) (C : Codec A) where
+module _ {A : Type 0} (C : Codec A) where
   -- what is left to read, into the places from i on of l
-  abbrev pub fill : List A → ℕ → Read (List A) → R
-  fill l i r = answer (bind r (λ xs q. got (sets l i xs) q))
+  abbrev pub fill : List A → ℕ → Read (List A) → Read (List A)
+  fill l i r = bind r (λ xs q. got (sets l i xs) q)
 
   fill_cons : (l : List A) (i : ℕ) (a : A) (r : Read (List A)) → fill l i (bind r (λ xs q. got (a ∷ xs) q)) ≡ fill (set l i a) (suc i) r
   fill_cons l i a (got xs q) = refl
   fill_cons l i a (no s) = refl
 
-  pub start : (f : ℕ → ℕ) (n at count : ℕ) (none : A) (is_none : A → Bool)
-      → answer ((fifteen_c none is_none C count).read f n at) ≡ fill (replicate 15 none) 0 (vec_read C (count - 0) f n at)
-  start f n at count none is_none = rw sub-zero
-
   module _ (f : ℕ → ℕ) (n : ℕ) (l : List A) (at count i : ℕ) (h : i < count) where
     more : count - i ≡ suc (count - (i + 1))
     more = omega arith
 
-    pub turn : (a : A) (p : ℕ) → C.read f n at ≡ got a p
-        → fill l i (vec_read C (count - i) f n at) ≡ fill (set l i a) (i + 1) (vec_read C (count - (i + 1)) f n p)
+    pub turn : (a : A) (p : ℕ) → got a p ≡ C.read f n at → fill l i (vec_read C (count - i) f n at) ≡ fill (set l i a) (i + 1) (vec_read C (count - (i + 1)) f n p)
     unfolding vec_read
-    turn a p e = rw (more, e, fill_cons l i a, ← add-one i)
+    turn a p e = rw (more, ← e, fill_cons l i a, ← add-one i)
 
-    pub turn_stop : (s : Stop) → C.read f n at ≡ no s → fill l i (vec_read C (count - i) f n at) ≡ answer (no s)
+    pub turn_stop : (s : Stop) → no s ≡ C.read f n at → fill l i (vec_read C (count - i) f n at) ≡ no s
     unfolding vec_read
-    turn_stop s e = rw (more, e)
+    turn_stop s e = rw (more, ← e)
 
-  pub turns_end : (f : ℕ → ℕ) (n : ℕ) (l : List A) (at count i : ℕ) → count ≤ i → fill l i (vec_read C (count - i) f n at) ≡ answer (got l at)
+  pub turns_end : (f : ℕ → ℕ) (n : ℕ) (l : List A) (at count i : ℕ) → count ≤ i → fill l i (vec_read C (count - i) f n at) ≡ got l at
   unfolding vec_read
   turns_end f n l at count i h = let z : count - i ≡ 0 = omega arith in rw z
 
@@ -176,3 +172,11 @@ aligned_none v n h e = let z : v ≡ 0 = zero_of (rw e at h) in rw z (sym (zero-
 
 pub aligned_some : (v n : ℕ) → v < 2 ^ n → n ≤ 64 → (v * 2 ^ (64 - n)) % 2 ^ 64 ≡ v * 2 ^ (64 - n)
 aligned_some v n h k = shl_exact n (64 - n) 64 h (omega arith)
+
+-- ---- what the proofs of a file go by
+
+pub ruleset element_laws = (number_short, number_there, field_fits, took_number, word_fits)
+
+pub ruleset ack_laws = (took_number, took_lt, aligned_none, aligned_some)
+
+pub ruleset header_laws = (header_no_ss, header_no_pdu, head_fits, header_read)

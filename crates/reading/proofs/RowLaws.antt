@@ -1,14 +1,17 @@
 -- A row's parts and options read one after the other. Assumes nothing.
-use Prim.Native.Nat.{ℕ, zero, suc, ◌+◌, ◌-◌, ◌≤◌, ◌<◌}
+use Prim.Native.Nat.{ℕ, zero, suc, ◌+◌, ◌-◌, ◌≤◌, ◌<◌, min}
 use mathlib.Core.Path.{◌≡◌, refl, sym, ap, ◌∙◌}
 use mathlib.Core.Bool.{Bool, true, false, not, cond, ◌||◌}
 use mathlib.Core.List.{List, [], ◌∷◌}
 use native.Mathlib.Nat.{sub-zero}
 use native.Mathlib.Numerals.{add-one}
 use native.Mathlib.Omega.{arith}
+use lib.Dec.{leb}
 use lib.ListN.{length, drop, get_or, drop_of_length-le}
 use lib.Seq.{drop-cons}
 use borrow.Author.Tests.{le-leb}
+use Rattle.std.proofs.lemmas.Bool.{leb-true, leb-false}
+use Rattle.std.proofs.Math.Nat.{min-eq_left, min-eq_right}
 use Rattle.bits.specs.Fields.{bit_at}
 use Rattle.codec.specs.Stops.{refusal}
 use Rattle.codec.specs.Codec.{Read, got, no, bind, number, pure, guard, choose}
@@ -35,6 +38,15 @@ pub word_number : (e k : ℕ) (l : List ℕ) (n at : ℕ) → up_to 32 e l n at 
 word_number e k l n at = rw (le-leb (width_of k) 32 (width_few k))
 
 -- ---- the loops over the slots
+
+-- a loop over the first k of w slots that is over
+module _ {P : Type 0} (k w m i : ℕ) (e : m ≡ min k w) (h : m ≤ i) (p : k ≤ i → P) (q : w ≤ i → P) where
+  over_by : (b : Bool) → leb k w ≡ b → P
+  over_by true t = let a : k ≤ w = leb-true k w t in p (omega (arith, min-eq_left a))
+  over_by false t = let a : w < k = leb-false k w t in let b : w ≤ k = omega arith in q (omega (arith, min-eq_right b))
+
+  pub over : P
+  over = over_by (leb k w) refl
 
 module _ (k : ℕ) (l : List Slot) (i : ℕ) where
   abbrev pub slot_here : Slot
@@ -65,8 +77,11 @@ module _ (k : ℕ) (l : List Slot) (i : ℕ) where
     parts_none zero = refl
     parts_none (suc j) = refl
 
-    pub parts_past : length l ≤ i → parts_read air v (k - i) (drop i l) f n at ≡ got v at
+    parts_past : length l ≤ i → parts_read air v (k - i) (drop i l) f n at ≡ got v at
     parts_past h = rw (drop_of_length-le l h) (parts_none (k - i))
+
+    pub parts_over : (w m : ℕ) → length l ≡ w → m ≡ min k w → m ≤ i → parts_read air v (k - i) (drop i l) f n at ≡ got v at
+    parts_over w m z e h = over k w m i e h parts_end (λ a. parts_past (rw z a))
 
     pub each_turn : (some b : Bool) → i < k → i < length l → (w : Value) (q : ℕ) → option_read air i v slot_here.part f n at ≡ got (b, w) q
         → each_read air i some v (k - i) (drop i l) f n at ≡ each_read air (i + 1) (some || b) w (k - (i + 1)) (drop (i + 1) l) f n q
@@ -86,8 +101,11 @@ module _ (k : ℕ) (l : List Slot) (i : ℕ) where
     each_none some zero = refl
     each_none some (suc j) = refl
 
-    pub each_past : (some : Bool) → length l ≤ i → each_read air i some v (k - i) (drop i l) f n at ≡ got (some, v) at
+    each_past : (some : Bool) → length l ≤ i → each_read air i some v (k - i) (drop i l) f n at ≡ got (some, v) at
     each_past some h = rw (drop_of_length-le l h) (each_none some (k - i))
+
+    pub each_over : (some : Bool) (w m : ℕ) → length l ≡ w → m ≡ min k w → m ≤ i → each_read air i some v (k - i) (drop i l) f n at ≡ got (some, v) at
+    each_over some w m z e h = over k w m i e h (each_end some) (λ a. each_past some (rw z a))
 
 module _ (air : Air) (v : Value) (k : ℕ) (l : List Slot) (f : ℕ → ℕ) (n at : ℕ) where
   pub parts_start : parts_read air v k l f n at ≡ parts_read air v (k - 0) (drop 0 l) f n at

@@ -13,7 +13,7 @@ use Rattle.codec.specs.Stops.{short, refusal}
 use Rattle.codec.specs.Codec.{Read, got, no, bind, both, number, pure, choose, vec_read}
 use Rattle.codec.specs.Options.{flag}
 use Rattle.codec.specs.declared.Stop.{Stop}
-use Rattle.codec.proofs.Good.{both_left, both_right, both_none, not_both}
+use Rattle.codec.proofs.Good.{both_left, both_right, not_both}
 use Rattle.profile.specs.Rules.{meaning_in}
 use Rattle.profile.specs.declared.Air.{Air}
 use Rattle.profile.specs.declared.Kind.{Kind}
@@ -39,7 +39,7 @@ use Rattle.message.specs.declared.Value.{Value}
 use Rattle.message.proofs.TableLaws.{each_row}
 use Rattle.reading.specs.Parts.{part_read, parts_read, option_read, each_read, behind_read, options_read}
 use Rattle.reading.specs.Walks.{type_in, keep, pass_of, address_walk, addresses_walk, ends_walk, list_by, list_walk, group_walk, part_walk, parts_walk, each_walk, behind_walk, options_walk, body_walk, whole_walk}
-use Rattle.reading.proofs.RowLaws.{slot_here, slots_more, slots_cut, body_row}
+use Rattle.reading.proofs.RowLaws.{over, slot_here, slots_more, slots_cut, body_row}
 
 -- where a reading ended
 abbrev past : {A : Type 0} → Read A → Read Unit
@@ -428,29 +428,29 @@ module _ (air : Air) (f : ℕ → ℕ) (n : ℕ) where
 -- ---- the loops
 
 module _ (external : Bool) (f : ℕ → ℕ) (n at count i : ℕ) where
-  pub addresses_turn : i < count → (p : ℕ) → address_walk external f n at ≡ got tt p → addresses_walk external (count - i) f n at ≡ addresses_walk external (count - (i + 1)) f n p
+  pub addresses_turn : i < count → (p : ℕ) → got tt p ≡ address_walk external f n at → addresses_walk external (count - i) f n at ≡ addresses_walk external (count - (i + 1)) f n p
   unfolding addresses_walk
-  addresses_turn h p e = rw (slots_more count [] i h, e)
+  addresses_turn h p e = rw (slots_more count [] i h, ← e)
 
-  pub addresses_stop : i < count → (s : Stop) → address_walk external f n at ≡ no s → addresses_walk external (count - i) f n at ≡ no s
+  pub addresses_stop : i < count → (s : Stop) → no s ≡ address_walk external f n at → addresses_walk external (count - i) f n at ≡ no s
   unfolding addresses_walk
-  addresses_stop h s e = rw (slots_more count [] i h, e)
+  addresses_stop h s e = rw (slots_more count [] i h, ← e)
 
   pub addresses_end : count ≤ i → addresses_walk external (count - i) f n at ≡ got tt at
   unfolding addresses_walk
   addresses_end h = let z : count - i ≡ 0 = omega arith in rw z
 
 module _ (c : ℕ) (l : List Slot) (i : ℕ) (air : Air) (k : ℕ) (f : ℕ → ℕ) (n at : ℕ) where
-  pub walk_turn : i < c → i < length l → (j q : ℕ) → part_walk air k (slot_here c l i).part f n at ≡ got j q
+  pub walk_turn : i < c → i < length l → (j q : ℕ) → got j q ≡ part_walk air k (slot_here c l i).part f n at
       → parts_walk air k (c - i) (drop i l) f n at ≡ parts_walk air j (c - (i + 1)) (drop (i + 1) l) f n q
   unfolding parts_walk
-  walk_turn h m j q e = rw (slots_more c l i h, slots_cut c l i m, e)
+  walk_turn h m j q e = rw (slots_more c l i h, slots_cut c l i m, ← e)
 
-  pub walk_stop : i < c → i < length l → (s : Stop) → part_walk air k (slot_here c l i).part f n at ≡ no s → parts_walk air k (c - i) (drop i l) f n at ≡ no s
+  pub walk_stop : i < c → i < length l → (s : Stop) → no s ≡ part_walk air k (slot_here c l i).part f n at → parts_walk air k (c - i) (drop i l) f n at ≡ no s
   unfolding parts_walk
-  walk_stop h m s e = rw (slots_more c l i h, slots_cut c l i m, e)
+  walk_stop h m s e = rw (slots_more c l i h, slots_cut c l i m, ← e)
 
-  pub walk_end : c ≤ i → parts_walk air k (c - i) (drop i l) f n at ≡ got k at
+  walk_end : c ≤ i → parts_walk air k (c - i) (drop i l) f n at ≡ got k at
   unfolding parts_walk
   walk_end h = let z : c - i ≡ 0 = omega arith in rw z
 
@@ -459,30 +459,33 @@ module _ (c : ℕ) (l : List Slot) (i : ℕ) (air : Air) (k : ℕ) (f : ℕ → 
   walk_none zero = refl
   walk_none (suc j) = refl
 
-  pub walk_past : length l ≤ i → parts_walk air k (c - i) (drop i l) f n at ≡ got k at
+  walk_past : length l ≤ i → parts_walk air k (c - i) (drop i l) f n at ≡ got k at
   walk_past h = rw (drop_of_length-le l h) (walk_none (c - i))
 
+  pub walk_over : (w m : ℕ) → length l ≡ w → m ≡ min c w → m ≤ i → parts_walk air k (c - i) (drop i l) f n at ≡ got k at
+  walk_over w m z e h = over c w m i e h walk_end (λ a. walk_past (rw z a))
+
   module _ (some : Bool) where
-    pub option_there : i < c → i < length l → (b : Bool) (p j q : ℕ) → (flag element.p_bit).read f n at ≡ got b p → b ≡ true → part_walk air k (slot_here c l i).part f n p ≡ got j q
+    pub option_there : i < c → i < length l → (p j q : ℕ) → got true p ≡ (flag element.p_bit).read f n at → got j q ≡ part_walk air k (slot_here c l i).part f n p
         → each_walk air k some (c - i) (drop i l) f n at ≡ each_walk air j true (c - (i + 1)) (drop (i + 1) l) f n q
     unfolding each_walk
-    option_there h m b p j q e y d = rw (slots_more c l i h, slots_cut c l i m, e, y, d)
+    option_there h m p j q e d = rw (slots_more c l i h, slots_cut c l i m, ← e, ← d)
 
-    pub option_absent : i < c → i < length l → (b : Bool) (p : ℕ) → (flag element.p_bit).read f n at ≡ got b p → b ≡ false
+    pub option_absent : i < c → i < length l → (p : ℕ) → got false p ≡ (flag element.p_bit).read f n at
         → each_walk air k some (c - i) (drop i l) f n at ≡ each_walk air k some (c - (i + 1)) (drop (i + 1) l) f n p
     unfolding each_walk
-    option_absent h m b p e y = rw (slots_more c l i h, slots_cut c l i m, e, y)
+    option_absent h m p e = rw (slots_more c l i h, slots_cut c l i m, ← e)
 
-    pub flag_stop : i < c → i < length l → (s : Stop) → (flag element.p_bit).read f n at ≡ no s → each_walk air k some (c - i) (drop i l) f n at ≡ no s
+    pub flag_stop : i < c → i < length l → (s : Stop) → no s ≡ (flag element.p_bit).read f n at → each_walk air k some (c - i) (drop i l) f n at ≡ no s
     unfolding each_walk
-    flag_stop h m s e = rw (slots_more c l i h, slots_cut c l i m, e)
+    flag_stop h m s e = rw (slots_more c l i h, slots_cut c l i m, ← e)
 
-    pub option_stop : i < c → i < length l → (b : Bool) (p : ℕ) (s : Stop) → (flag element.p_bit).read f n at ≡ got b p → b ≡ true → part_walk air k (slot_here c l i).part f n p ≡ no s
+    pub option_stop : i < c → i < length l → (p : ℕ) (s : Stop) → got true p ≡ (flag element.p_bit).read f n at → no s ≡ part_walk air k (slot_here c l i).part f n p
         → each_walk air k some (c - i) (drop i l) f n at ≡ no s
     unfolding each_walk
-    option_stop h m b p s e y d = rw (slots_more c l i h, slots_cut c l i m, e, y, d)
+    option_stop h m p s e d = rw (slots_more c l i h, slots_cut c l i m, ← e, ← d)
 
-    pub options_end : c ≤ i → each_walk air k some (c - i) (drop i l) f n at ≡ got some at
+    options_end : c ≤ i → each_walk air k some (c - i) (drop i l) f n at ≡ got some at
     unfolding each_walk
     options_end h = let z : c - i ≡ 0 = omega arith in rw z
 
@@ -491,8 +494,11 @@ module _ (c : ℕ) (l : List Slot) (i : ℕ) (air : Air) (k : ℕ) (f : ℕ → 
     options_none zero = refl
     options_none (suc j) = refl
 
-    pub options_past : length l ≤ i → each_walk air k some (c - i) (drop i l) f n at ≡ got some at
+    options_past : length l ≤ i → each_walk air k some (c - i) (drop i l) f n at ≡ got some at
     options_past h = rw (drop_of_length-le l h) (options_none (c - i))
+
+    pub options_over : (w m : ℕ) → length l ≡ w → m ≡ min c w → m ≤ i → each_walk air k some (c - i) (drop i l) f n at ≡ got some at
+    options_over w m z e h = over c w m i e h options_end (λ a. options_past (rw z a))
 
 -- ---- before the loop over the options
 
@@ -512,18 +518,6 @@ module _ (air : Air) (k c : ℕ) (l : List Slot) (f : ℕ → ℕ) (n at : ℕ) 
 -- ---- the public answer, by the length
 
 module _ (l : List ℕ) (n : ℕ) where
-  pub empty_bits : n < 1 → length_ok l n ≡ false
-  unfolding length_ok both
-  empty_bits h = rw (lt-leb 1 n h)
-
-  pub many_bits : 4096 < n → length_ok l n ≡ false
-  unfolding length_ok both
-  many_bits h = rw (le-leb 1 n (omega arith), lt-leb n 4096 h)
-
-  pub few_bytes : 8 * length l < n → length_ok l n ≡ false
-  unfolding length_ok
-  few_bytes h = rw (lt-leb n (8 * length l) h, both_none (leb n 4096), both_none (leb 1 n))
-
   pub length_good : 1 ≤ n → n ≤ 4096 → n ≤ 8 * length l → length_ok l n ≡ true
   unfolding length_ok both
   length_good h k m = rw (le-leb 1 n h, le-leb n 4096 k, le-leb n (8 * length l) m)
@@ -536,3 +530,7 @@ module _ (air : Air) (l : List ℕ) (n : ℕ) where
   pub type_walked : length_ok l n ≡ true → type_in (read_bits air l n) ≡ whole_walk air (bit_at l) n
   unfolding read_bits
   type_walked e = rw e (sym (walk_is air (bit_at l) n))
+
+-- ---- what the proofs of walk go by
+
+pub ruleset walk_laws = (pass_past, pass_there, walk_optionless, walk_optional)

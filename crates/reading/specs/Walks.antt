@@ -1,9 +1,10 @@
 -- Along a message without its value: where each thing on the air ends, or the refusal that reading gives. Of what was passed only so much is
 -- kept as a later part asks for: how many identities the users are.
-use Rattle.std.specs.Prelude.{ℕ, zero, suc, ◌+◌, ◌-◌, min, Bool, true, false, cond, List, [], ◌∷◌, eqb, leb}
-use Rattle.codec.specs.Stops.{short, refusal, no_stop}
+use Rattle.std.specs.Prelude.{ℕ, zero, suc, ◌+◌, ◌-◌, min, Bool, true, false, cond, List, [], ◌∷◌, eqb, leb, Result, Ok, Err}
+use Rattle.codec.specs.Stops.{short, refusal}
 use Rattle.codec.specs.Codec.{Read, got, no, bind}
 use Rattle.codec.specs.Options.{flag}
+use Rattle.codec.specs.declared.Stop.{Stop}
 use Rattle.profile.specs.Rules.{meaning_in}
 use Rattle.profile.specs.declared.Air.{Air}
 use Rattle.profile.specs.declared.Kind.{Kind}
@@ -21,36 +22,22 @@ use Rattle.message.specs.declared.Part.{Part}
 use Rattle.message.specs.declared.Part.TheVariants as part
 use Rattle.message.specs.declared.Slot.{Slot}
 use Rattle.message.specs.declared.Value.{Value}
-use Rattle.reading.specs.declared.walk.Step.{Step}
-use Rattle.reading.specs.declared.walk.Step.TheVariants as step
-use Rattle.reading.specs.declared.walk.Walk.{Walk}
-use Rattle.reading.specs.declared.walk.Walk.TheVariants as walk
-use Rattle.reading.specs.declared.walk.EachWalk.{EachWalk}
-use Rattle.reading.specs.declared.walk.EachWalk.TheVariants as each
-use Rattle.reading.specs.declared.TypeRead.{TypeRead}
 
 -- ---- what the code answers
 
-abbrev pub step_of : Step → Read Unit
-step_of (step.On p) = got tt p
-step_of (step.Refused s) = no s
-
-abbrev pub walk_of : Walk → Read ℕ
-walk_of (walk.On k p) = got k p
-walk_of (walk.Refused s) = no s
-
-abbrev pub each_walk_of : EachWalk → Read Bool
-each_walk_of (each.On b p) = got b p
-each_walk_of (each.Refused s) = no s
+-- a position alone
+abbrev pub step_of : Result ℕ Stop → Read Unit
+step_of (Ok p) = got tt p
+step_of (Err s) = no s
 
 -- the PDU type of what was read
 abbrev pub type_in : Read Value → Read ℕ
 type_in r = bind r (λ v p. got v.pdu p)
 
 -- the public answer
-unfoldable pub type_of : Read ℕ → TypeRead
-type_of (got t p) = record { found = true; stop = no_stop; pdu = t }
-type_of (no s) = record { found = false; stop = s; pdu = 0 }
+unfoldable pub type_of : Read ℕ → Result ℕ Stop
+type_of (got t p) = Ok t
+type_of (no s) = Err s
 
 -- ---- elements and addresses
 

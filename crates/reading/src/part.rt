@@ -1,27 +1,16 @@
 // One part of a message, read into the value so far.
-ghost use Rattle.std.specs.Prelude.{◌≡◌, min};
+#![tactic(auto, using(crate::proofs::RowLaws::word_number), unfolding(crate::specs::Parts::part_read))]
+
+ghost use Rattle.std.specs.Prelude.{◌≡◌};
 ghost use Rattle.bits.specs.Fields.{bit_at};
-ghost use Rattle.codec.specs.Codec.{got, no};
-ghost use Rattle.message.specs.Values.{no_value};
+ghost use Rattle.codec.specs.Taking.{outcome_of};
 ghost use Rattle.message.specs.declared.Part.TheVariants.{Number, User, Masked, Result, Dispatchers, Dispatcher, Interrogation, Sources, Destinations, Areas};
-ghost use Rattle.reading.specs.Answers.{body_of};
 ghost use Rattle.reading.specs.Parts.{part_read};
 
-use crate::ack::{MaskedTook, ResultTook, StateTook};
-use crate::address::AddressTook;
-use crate::element::WordTook;
 use crate::{ack, address, area, element, group};
 use codec::Stop;
 use message::{Part, Value};
 use profile::Air;
-
-#[derive(Clone, Copy)]
-pub struct Body {
-    pub found: bool,
-    pub stop: Stop,
-    pub next: usize,
-    pub value: Value,
-}
 
 pub(crate) fn read_part(
     air: Air,
@@ -30,21 +19,16 @@ pub(crate) fn read_part(
     buf: &[u8],
     bits: usize,
     at: usize,
-) -> Body
-    ensures { result ≡ body_of (part_read air value part (bit_at buf.now) bits at) }
+) -> Result<(Value, usize), Stop>
+    ensures { outcome_of result ≡ part_read air value part (bit_at buf.now) bits at }
 {
     match part {
-        Part::Nothing => carried(value, at),
+        Part::Nothing => Ok((value, at)),
         Part::Number(place) => number_part(air, value, place, buf, bits, at),
         // here and in no function of its own: what hands the value on copies it
         Part::Users => {
-            let u = group::read_group(air, false, false, buf, bits, at);
-            if u.found {
-                let users = u.group;
-                return carried(message::with_users(value, users), u.next);
-            }
-            let s = u.stop;
-            no_body(s)
+            let (users, p) = group::read_group(air, false, false, buf, bits, at)?;
+            Ok((message::with_users(value, users), p))
         }
         Part::User(place) => user_part(air, value, place, buf, bits, at),
         Part::Masked => mask_part(air, value, buf, bits, at),
@@ -58,154 +42,150 @@ pub(crate) fn read_part(
     }
 }
 
-fn number_part(air: Air, value: Value, place: u8, buf: &[u8], bits: usize, at: usize) -> Body
-    ensures { result ≡ body_of (part_read air value (Number place) (bit_at buf.now) bits at) }
+fn number_part(
+    air: Air,
+    value: Value,
+    place: u8,
+    buf: &[u8],
+    bits: usize,
+    at: usize,
+) -> Result<(Value, usize), Stop>
+    ensures { outcome_of result ≡ part_read air value (Number place) (bit_at buf.now) bits at }
 {
-    match element::word(
+    let (n, p) = element::word(
         message::element_of(place),
         buf,
         bits,
         at,
         message::width_of(place),
-    ) {
-        WordTook::Refused(s) => no_body(s),
-        WordTook::Got(n, p) => carried(message::with_number(value, place, n), p),
-    }
+    )?;
+    Ok((message::with_number(value, place, n), p))
 }
 
-fn user_part(air: Air, value: Value, place: u8, buf: &[u8], bits: usize, at: usize) -> Body
-    ensures { result ≡ body_of (part_read air value (User place) (bit_at buf.now) bits at) }
+fn user_part(
+    air: Air,
+    value: Value,
+    place: u8,
+    buf: &[u8],
+    bits: usize,
+    at: usize,
+) -> Result<(Value, usize), Stop>
+    ensures { outcome_of result ≡ part_read air value (User place) (bit_at buf.now) bits at }
 {
-    match address::read_address(false, buf, bits, at) {
-        AddressTook::Refused(s) => no_body(s),
-        AddressTook::Got(a, p) => carried(message::with_user(value, place, a), p),
-    }
+    let (a, p) = address::read_address(false, buf, bits, at)?;
+    Ok((message::with_user(value, place, a), p))
 }
 
-fn mask_part(air: Air, value: Value, buf: &[u8], bits: usize, at: usize) -> Body
-    ensures { result ≡ body_of (part_read air value Masked (bit_at buf.now) bits at) }
+// Users that were read are no more than 64.
+fn mask_part(
+    air: Air,
+    value: Value,
+    buf: &[u8],
+    bits: usize,
+    at: usize,
+) -> Result<(Value, usize), Stop>
+    ensures { outcome_of result ≡ part_read air value Masked (bit_at buf.now) bits at }
 {
-    let users = value.users;
-    match ack::read_masked(few(message::span_of(air, users)), buf, bits, at) {
-        MaskedTook::Refused(s) => no_body(s),
-        MaskedTook::Got(masked, mask, p) => carried(message::with_mask(value, masked, mask), p),
-    }
+    let ((masked, mask), p) = ack::read_masked(
+        message::span_of(air, value.users).min(64),
+        buf,
+        bits,
+        at,
+    )?;
+    Ok((message::with_mask(value, masked, mask), p))
 }
 
-// Users that were read have no more.
-pub(crate) fn few(count: usize) -> usize
-    ensures { result ≡ min count 64 }
+fn result_part(
+    air: Air,
+    value: Value,
+    buf: &[u8],
+    bits: usize,
+    at: usize,
+) -> Result<(Value, usize), Stop>
+    ensures { outcome_of result ≡ part_read air value Result (bit_at buf.now) bits at }
 {
-    if count < 64 {
-        return count;
-    }
-    64
+    let ((result, reason), p) = ack::read_result(buf, bits, at)?;
+    Ok((
+        message::with_result(value, u32::from(result), u32::from(reason)),
+        p,
+    ))
 }
 
-fn result_part(air: Air, value: Value, buf: &[u8], bits: usize, at: usize) -> Body
-    ensures { result ≡ body_of (part_read air value Result (bit_at buf.now) bits at) }
+// These and those below differ in what is set: one for all would take the setter as a closure, with a contract longer than they are.
+fn dispatchers_part(
+    air: Air,
+    value: Value,
+    buf: &[u8],
+    bits: usize,
+    at: usize,
+) -> Result<(Value, usize), Stop>
+    ensures { outcome_of result ≡ part_read air value Dispatchers (bit_at buf.now) bits at }
 {
-    match ack::read_result(buf, bits, at) {
-        ResultTook::Refused(s) => no_body(s),
-        ResultTook::Got(result, reason, p) => carried(
-            message::with_result(value, result as u32, reason as u32),
-            p,
-        ),
-    }
+    let (dispatchers, p) = group::read_group(air, true, false, buf, bits, at)?;
+    Ok((message::with_dispatchers(value, dispatchers), p))
 }
 
-fn dispatchers_part(air: Air, value: Value, buf: &[u8], bits: usize, at: usize) -> Body
-    ensures { result ≡ body_of (part_read air value Dispatchers (bit_at buf.now) bits at) }
+fn dispatcher_part(
+    air: Air,
+    value: Value,
+    buf: &[u8],
+    bits: usize,
+    at: usize,
+) -> Result<(Value, usize), Stop>
+    ensures { outcome_of result ≡ part_read air value Dispatcher (bit_at buf.now) bits at }
 {
-    let d = group::read_group(air, true, false, buf, bits, at);
-    if d.found {
-        let dispatchers = d.group;
-        return carried(message::with_dispatchers(value, dispatchers), d.next);
-    }
-    let s = d.stop;
-    no_body(s)
+    let (a, p) = address::read_address(false, buf, bits, at)?;
+    Ok((message::with_dispatcher(value, a), p))
 }
 
-fn dispatcher_part(air: Air, value: Value, buf: &[u8], bits: usize, at: usize) -> Body
-    ensures { result ≡ body_of (part_read air value Dispatcher (bit_at buf.now) bits at) }
+fn state_part(
+    air: Air,
+    value: Value,
+    buf: &[u8],
+    bits: usize,
+    at: usize,
+) -> Result<(Value, usize), Stop>
+    ensures { outcome_of result ≡ part_read air value Interrogation (bit_at buf.now) bits at }
 {
-    match address::read_address(false, buf, bits, at) {
-        AddressTook::Refused(s) => no_body(s),
-        AddressTook::Got(a, p) => carried(message::with_dispatcher(value, a), p),
-    }
+    let (state, p) = ack::read_state(buf, bits, at)?;
+    Ok((message::with_state(value, state), p))
 }
 
-fn state_part(air: Air, value: Value, buf: &[u8], bits: usize, at: usize) -> Body
-    ensures { result ≡ body_of (part_read air value Interrogation (bit_at buf.now) bits at) }
+fn sources_part(
+    air: Air,
+    value: Value,
+    buf: &[u8],
+    bits: usize,
+    at: usize,
+) -> Result<(Value, usize), Stop>
+    ensures { outcome_of result ≡ part_read air value Sources (bit_at buf.now) bits at }
 {
-    match ack::read_state(buf, bits, at) {
-        StateTook::Refused(s) => no_body(s),
-        StateTook::Got(state, p) => carried(message::with_state(value, state), p),
-    }
+    let (sources, p) = group::read_group(air, true, false, buf, bits, at)?;
+    Ok((message::with_sources(value, sources), p))
 }
 
-fn sources_part(air: Air, value: Value, buf: &[u8], bits: usize, at: usize) -> Body
-    ensures { result ≡ body_of (part_read air value Sources (bit_at buf.now) bits at) }
+fn destinations_part(
+    air: Air,
+    value: Value,
+    buf: &[u8],
+    bits: usize,
+    at: usize,
+) -> Result<(Value, usize), Stop>
+    ensures { outcome_of result ≡ part_read air value Destinations (bit_at buf.now) bits at }
 {
-    let g = group::read_group(air, true, false, buf, bits, at);
-    if g.found {
-        let sources = g.group;
-        return carried(message::with_sources(value, sources), g.next);
-    }
-    let s = g.stop;
-    no_body(s)
+    let (destinations, p) = group::read_group(air, true, true, buf, bits, at)?;
+    Ok((message::with_destinations(value, destinations), p))
 }
 
-fn destinations_part(air: Air, value: Value, buf: &[u8], bits: usize, at: usize) -> Body
-    ensures { result ≡ body_of (part_read air value Destinations (bit_at buf.now) bits at) }
+fn areas_part(
+    air: Air,
+    value: Value,
+    buf: &[u8],
+    bits: usize,
+    at: usize,
+) -> Result<(Value, usize), Stop>
+    ensures { outcome_of result ≡ part_read air value Areas (bit_at buf.now) bits at }
 {
-    let g = group::read_group(air, true, true, buf, bits, at);
-    if g.found {
-        let destinations = g.group;
-        return carried(message::with_destinations(value, destinations), g.next);
-    }
-    let s = g.stop;
-    no_body(s)
-}
-
-fn areas_part(air: Air, value: Value, buf: &[u8], bits: usize, at: usize) -> Body
-    ensures { result ≡ body_of (part_read air value Areas (bit_at buf.now) bits at) }
-{
-    let a = area::read_areas(air, buf, bits, at);
-    if a.found {
-        let areas = a.areas;
-        return carried(message::with_areas(value, areas), a.next);
-    }
-    let s = a.stop;
-    no_body(s)
-}
-
-pub(crate) fn carried(value: Value, next: usize) -> Body
-    ensures { result ≡ body_of (got value next) }
-{
-    Body {
-        found: true,
-        stop: codec::no_stop(),
-        next: next,
-        value: value,
-    }
-}
-
-pub(crate) fn no_body(s: Stop) -> Body
-    ensures { result ≡ body_of (no s) }
-{
-    let value = no_value();
-    Body {
-        found: false,
-        stop: s,
-        next: 0,
-        value: value,
-    }
-}
-
-// What stands beside a refusal: all zero.
-pub(crate) fn no_value() -> Value
-    ensures { result ≡ no_value }
-{
-    message::blank(0)
+    let (areas, p) = area::read_areas(air, buf, bits, at)?;
+    Ok((message::with_areas(value, areas), p))
 }

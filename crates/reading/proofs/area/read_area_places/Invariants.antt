@@ -1,17 +1,11 @@
-use Prim.Native.Nat.{◌-◌, ◌≤◌}
+use Prim.Native.Nat.{◌-◌}
 use mathlib.Core.Path.{◌≡◌}
-use lib.ListN.{length}
 use Rattle.bits.specs.Fields.{bit_at}
 use Rattle.codec.specs.Codec.{vec_read}
 use Rattle.message.specs.Areas.{area_c, area_places_c}
 use Rattle.reading.proofs.ReadLaws.{fill}
-use Rattle.reading.specs.Answers.{area_places_of}
 use Rattle.reading.proofs.area.read_area_places.Given as goal
 
 abbrev pub invariant-loop-i : goal.invariant-loop-i
-invariant-loop-i l = (l.i ≤ l.count)
-    × ((length l.list ≡ 15)
-    × (area_places_of ((area_places_c l.count).read (bit_at l.buf) l.bits l.at) ≡ fill area_places_of area_c l.list l.i (vec_read area_c (l.count - l.i) (bit_at l.buf) l.bits l.next)))
-
-abbrev pub decreases-loop-i : goal.decreases-loop-i
-decreases-loop-i l = l.count - l.i
+invariant-loop-i l =
+    (area_places_c l.count).read (bit_at l.buf) l.bits l.at ≡ fill area_c l.list l.i (vec_read area_c (l.count - l.i) (bit_at l.buf) l.bits l.next)

@@ -1,30 +1,24 @@
-use mathlib.Core.Path.{sym, ap, ◌∙◌}
-use borrow.Author.Rules.{rules}
-use Rattle.reading.proofs.AnswerLaws.{each_got, each_no}
-use Rattle.reading.proofs.RowLaws.{each_turn, each_stop, each_end, each_past, each_start}
-use Rattle.reading.specs.Answers.{each_of}
+use mathlib.Core.Bool.{◌||◌}
+use mathlib.Core.Path.{◌≡◌, sym, ◌∙◌}
+use native.Mathlib.Omega.{arith}
+use Rattle.std.proofs.lemmas.Result.{err_from_is_err_and}
+use Rattle.reading.proofs.RowLaws.{each_turn, each_stop, each_over}
 use Rattle.reading.proofs.option.read_each.Goals as goal
+use Rattle.reading.proofs.option.read_each.Goals.{then-some, else-some}
 
-pub loop-i-init : goal.loop-i-init
-loop-i-init c = (search rules, ap each_of (each_start _ _ _ _ _ _ _))
-
-pub returns-then-i-ge7 : goal.returns-then-i-ge7
-returns-then-i-ge7 c =
-    rw c.these.ensures (sym (c.loop-i.invariant.1 ∙ ap each_of (each_past _ _ _ _ _ _ _ _ _ (search rules))))
+pub returns-in_err-there : goal.returns-in_err-there
+returns-in_err-there c =
+    let p = err_from_is_err_and c.from_residual.result c.from_residual.ensures.1 in
+    rw (p.1, p.2) (sym (c.loop-i.invariant ∙ each_stop _ _ _ _ _ _ _ _ _ (omega arith) (omega arith) _ (sym c.in_err-there.ensures)))
 
 pub loop-i-preserved : goal.loop-i-preserved
-loop-i-preserved c = (
-  search rules,
-  rw c.either-some.ensures
-      (c.loop-i.invariant.1
-      ∙ ap each_of (each_turn _ _ _ _ _ _ _ _ _ _ (search rules) (search rules) _ _ (each_got _ c.read_option-o.result c.read_option-o.ensures c.if-o.true))),
-)
-
-pub returns-else-o : goal.returns-else-o
-returns-else-o c =
-    rw c.no_each.ensures
-    (sym (c.loop-i.invariant.1 ∙ ap each_of (each_stop _ _ _ _ _ _ _ _ _ (search rules) (search rules) _ (each_no _ c.read_option-o.result c.read_option-o.ensures c.if-o.false))))
+loop-i-preserved c =
+    let or : c.if-some.some ≡ c.loop-i.some || c.in_ok-there.there =
+    elim c.if-some.branch [
+      | then-some w ↦ rw (w.some-is, w.if-some.true)
+      | else-some w ↦ rw (w.some-is, w.if-some.false)
+    ] in
+    rw or (c.loop-i.invariant ∙ each_turn _ _ _ _ _ _ _ _ _ _ (omega arith) (omega arith) _ _ (sym c.in_ok-there.ensures))
 
 pub returns : goal.returns
-returns c =
-    rw c.these-2.ensures (sym (c.loop-i.invariant.1 ∙ ap each_of (each_end _ _ _ _ _ _ _ _ _ (search rules))))
+returns c = sym (c.loop-i.invariant ∙ each_over _ _ _ _ _ _ _ _ _ 7 _ (omega arith) c.min-i-end.ensures c.loop-i-test.false)

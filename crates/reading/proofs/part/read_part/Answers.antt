@@ -1,20 +1,21 @@
-use Rattle.reading.proofs.AnswerLaws.{group_got, group_no}
+use Rattle.std.proofs.lemmas.Result.{err_from_is_err_and}
 use Rattle.reading.proofs.RowLaws.{nothing_read, users_read}
 use Rattle.reading.proofs.part.read_part.Goals as goal
 
-pub returns-then-u : goal.returns-then-u
-returns-then-u c =
-    rw (c.carried-then-u.ensures, c.with_users.ensures, c.in-Users.is, users_read _ _ _ _ _, group_got _ c.read_group-u.result c.read_group-u.ensures c.if-u.true)
+pub returns-in_err-users-in-Users : goal.returns-in_err-users-in-Users
+returns-in_err-users-in-Users c =
+    let p = err_from_is_err_and c.from_residual.result c.from_residual.ensures.1 in
+    rw (p.1, p.2, c.in-Users.is, users_read _ _ _ _ _, ← c.in_err-users-in-Users.ensures)
 
 pub returns-in-Nothing : goal.returns-in-Nothing
-returns-in-Nothing c = rw (c.carried.ensures, c.in-Nothing.is, nothing_read _ _ _ _ _)
+returns-in-Nothing c = rw (c.in-Nothing.is, nothing_read _ _ _ _ _)
+
+pub returns-in_ok-users-in-Users : goal.returns-in_ok-users-in-Users
+returns-in_ok-users-in-Users c =
+    rw (c.with_users.ensures, c.in-Users.is, users_read _ _ _ _ _, ← c.in_ok-users-in-Users.ensures)
 
 pub returns-in-Number : goal.returns-in-Number
 returns-in-Number c = rw c.in-Number.is c.number_part.ensures
-
-pub returns-else-u : goal.returns-else-u
-returns-else-u c =
-    rw (c.no_body.ensures, c.in-Users.is, users_read _ _ _ _ _, group_no _ c.read_group-u.result c.read_group-u.ensures c.if-u.false)
 
 pub returns-in-User : goal.returns-in-User
 returns-in-User c = rw c.in-User.is c.user_part.ensures

@@ -1,20 +1,15 @@
-use mathlib.Core.Path.{sym, ap, ◌∙◌}
-use native.Mathlib.Nat.{sub-zero}
-use borrow.Author.Rules.{rules}
+use mathlib.Core.Path.{sym, ◌∙◌}
+use Rattle.std.proofs.lemmas.Result.{err_from_is_err_and}
 use Rattle.reading.proofs.WalkLaws.{addresses_turn, addresses_stop, addresses_end}
-use Rattle.reading.specs.Walks.{step_of}
 use Rattle.reading.proofs.walk.walk_addresses.Goals as goal
 
-pub loop-i-init : goal.loop-i-init
-loop-i-init c = (search rules, rw sub-zero)
-
-pub returns-in-Refused : goal.returns-in-Refused
-returns-in-Refused c =
-    sym (c.loop-i.invariant.1 ∙ addresses_stop _ _ _ _ _ _ (search rules) _ (sym c.walk_address.ensures ∙ ap step_of c.in-Refused.is))
+pub returns-in_err-next : goal.returns-in_err-next
+returns-in_err-next c =
+    let p = err_from_is_err_and c.from_residual.result c.from_residual.ensures.1 in
+    rw (p.1, p.2) (sym (c.loop-i.invariant ∙ addresses_stop _ _ _ _ _ _ c.loop-i-test.true _ c.in_err-next.ensures))
 
 pub loop-i-preserved : goal.loop-i-preserved
-loop-i-preserved c =
-    (search rules, c.loop-i.invariant.1 ∙ addresses_turn _ _ _ _ _ _ (search rules) _ (sym c.walk_address.ensures ∙ ap step_of c.in-On.is))
+loop-i-preserved c = c.loop-i.invariant ∙ addresses_turn _ _ _ _ _ _ c.loop-i-test.true _ c.in_ok-next.ensures
 
 pub returns : goal.returns
-returns c = sym (c.loop-i.invariant.1 ∙ addresses_end _ _ _ _ _ _ (search rules))
+returns c = sym (c.loop-i.invariant ∙ addresses_end _ _ _ _ _ _ c.loop-i-test.false)

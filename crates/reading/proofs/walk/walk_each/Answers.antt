@@ -1,38 +1,31 @@
-use mathlib.Core.Path.{sym, ap, ◌∙◌}
-use native.Mathlib.Nat.{sub-zero}
-use borrow.Author.Rules.{rules}
-use Rattle.reading.proofs.WalkLaws.{option_there, option_absent, flag_stop, option_stop, options_end, options_past}
-use Rattle.reading.specs.Answers.{flag_of}
-use Rattle.reading.specs.Walks.{walk_of}
+use mathlib.Core.Path.{sym, ◌∙◌}
+use native.Mathlib.Omega.{arith}
+use Rattle.std.proofs.lemmas.Result.{err_from_is_err_and}
+use Rattle.reading.proofs.WalkLaws.{option_there, option_absent, flag_stop, option_stop, options_over}
 use Rattle.reading.proofs.walk.walk_each.Goals as goal
+use Rattle.reading.proofs.walk.walk_each.Goals.{then-there+in_ok-k, else-there}
 
-pub loop-i-init : goal.loop-i-init
-loop-i-init c = (search rules, rw sub-zero)
+pub returns-in_err-there : goal.returns-in_err-there
+returns-in_err-there c =
+    let p = err_from_is_err_and c.from_residual.result c.from_residual.ensures.1 in
+    rw (p.1, p.2) (sym (c.loop-i.invariant ∙ flag_stop _ _ _ _ _ _ _ _ _ (omega arith) (omega arith) _ c.in_err-there.ensures))
 
-pub returns-then-i-ge7 : goal.returns-then-i-ge7
-returns-then-i-ge7 c = sym (c.loop-i.invariant.1 ∙ options_past _ _ _ _ _ _ _ _ _ (search rules))
-
-pub returns-in-Refused : goal.returns-in-Refused
-returns-in-Refused c =
-    sym (c.loop-i.invariant.1 ∙ flag_stop _ _ _ _ _ _ _ _ _ (search rules) (search rules) _ (sym c.bit.ensures ∙ ap flag_of c.in-Refused.is))
-
-pub returns-in-Refused-walk_part : goal.returns-in-Refused-walk_part
-returns-in-Refused-walk_part c =
-    sym (c.loop-i.invariant.1
-    ∙ option_stop _ _ _ _ _ _ _ _ _ (search rules) (search rules) _ _ _ (sym c.bit.ensures ∙ ap flag_of c.in-Got.is) c.if-there.true (sym c.walk_part.ensures ∙ ap walk_of c.in-Refused-walk_part.is))
-
-pub loop-i-preserved-in-On : goal.loop-i-preserved-in-On
-loop-i-preserved-in-On c = (
-  search rules,
-  c.loop-i.invariant.1
-      ∙ option_there _ _ _ _ _ _ _ _ _ (search rules) (search rules) _ _ _ _ (sym c.bit.ensures ∙ ap flag_of c.in-Got.is) c.if-there.true (sym c.walk_part.ensures ∙ ap walk_of c.in-On.is),
-)
+pub returns-in_err-k : goal.returns-in_err-k
+returns-in_err-k c =
+    let p = err_from_is_err_and c.from_residual-in_err-k.result c.from_residual-in_err-k.ensures.1 in
+    rw (p.1, p.2)
+    (sym (c.loop-i.invariant ∙ option_stop _ _ _ _ _ _ _ _ _ (omega arith) (omega arith) _ _ (rw c.if-there.true at c.in_ok-there.ensures) c.in_err-k.ensures))
 
 pub loop-i-preserved : goal.loop-i-preserved
-loop-i-preserved c = (
-  search rules,
-  c.loop-i.invariant.1 ∙ option_absent _ _ _ _ _ _ _ _ _ (search rules) (search rules) _ _ (sym c.bit.ensures ∙ ap flag_of c.in-Got.is) c.if-there.false,
-)
+loop-i-preserved c =
+    elim c.if-there.branch [
+      | then-there+in_ok-k w ↦
+          rw (w.span-is, w.some-is, w.next-is)
+          (c.loop-i.invariant ∙ option_there _ _ _ _ _ _ _ _ _ (omega arith) (omega arith) _ _ _ (rw w.if-there.true at c.in_ok-there.ensures) w.in_ok-k.ensures)
+      | else-there w ↦
+          rw (w.span-is, w.some-is, w.next-is)
+          (c.loop-i.invariant ∙ option_absent _ _ _ _ _ _ _ _ _ (omega arith) (omega arith) _ (rw w.if-there.false at c.in_ok-there.ensures))
+    ]
 
 pub returns : goal.returns
-returns c = sym (c.loop-i.invariant.1 ∙ options_end _ _ _ _ _ _ _ _ _ (search rules))
+returns c = sym (c.loop-i.invariant ∙ options_over _ _ _ _ _ _ _ _ _ 7 _ (omega arith) c.min-i-end.ensures c.loop-i-test.false)
