@@ -1,13 +1,12 @@
 -- A message laid in an area: what is written from the top bit of a byte on, with its spare bits zero. Assumes nothing.
-use Rattle.std.proofs.Common.{◌≡◌, ℕ, ◌+◌, ◌*◌, ◌/◌, ◌%◌, ◌^◌, ◌<◌, ◌≤◌, true, List, length, sym, refl, ap, ◌∙◌, arith, le-leb}
+use Rattle.std.proofs.Common.{◌≡◌, ℕ, ◌+◌, ◌*◌, ◌/◌, ◌%◌, ◌^◌, ◌<◌, ◌≤◌, List, Ok, Err, length, sym, refl, ap, ◌∙◌, arith, le-leb}
 use borrow.Author.Tests.{lt-leb}
 use Rattle.bits.specs.Puts.{put_bits, binary, spare, pad_of}
 use Rattle.bits.proofs.PutLaws.{put_append, pad_there}
-use Rattle.codec.specs.Stops.{refusal, no_stop}
+use Rattle.codec.specs.Stops.{refusal}
 use Rattle.codec.specs.declared.Stop.{Stop}
 use Rattle.writing.specs.Wrote.{Room, Wrote}
 use Rattle.writing.specs.Writing.{bytes_for, padded, lay_of, lay_in, laid, refused, written_of, area_of}
-use Rattle.writing.specs.declared.Written.{Written}
 use Rattle.writing.proofs.WroteLaws.{wrote_end}
 
 -- where the whole bytes lie in the area there is room for the bits
@@ -38,9 +37,9 @@ ends_at {bs = bs} w h = let small : 0 + length bs < 2 ^ 64 = omega arith in omeg
 
 -- ---- a refusal
 
-pub refusing : (l : List ℕ) (w : Written) (s t : Stop) → w ≡ written_of (refused s) → s ≡ t → (w ≡ written_of (refused t)) × (l ≡ area_of l (refused t))
-unfolding area_of
-refusing l w s t e d = (e ∙ ap (λ (x : Stop). written_of (refused x)) d, refl)
+pub refusing : (l : List ℕ) (s t : Stop) → s ≡ t → (Err s ≡ written_of (refused t)) × (l ≡ area_of l (refused t))
+unfolding written_of area_of
+refusing l s t d = (ap Err d, refl)
 
 -- ---- 14, or the message
 
@@ -53,11 +52,9 @@ unfolding lay_in
 lay_short l b bs h = rw (lt-leb (b + bytes_for (length bs)) (length l) h)
 
 module _ (l : List ℕ) (b : ℕ) (bs : List ℕ) (n : ℕ) (e : n ≡ length bs) where
-  pub no_room : (w : Written) (s : Stop) → length l < b + (n + 7) / 8 → w ≡ written_of (refused s) → s ≡ refusal 14
-      → (w ≡ written_of (lay_in l b bs)) × (l ≡ area_of l (lay_in l b bs))
-  no_room w s h d z = let short : lay_in l b bs ≡ refused (refusal 14) = lay_short l b bs (omega arith) in rw short (refusing l w s (refusal 14) d z)
+  pub no_room : (s : Stop) → length l < b + (n + 7) / 8 → s ≡ refusal 14 → (Err s ≡ written_of (lay_in l b bs)) × (l ≡ area_of l (lay_in l b bs))
+  no_room s h z = let short : lay_in l b bs ≡ refused (refusal 14) = lay_short l b bs (omega arith) in rw short (refusing l s (refusal 14) z)
 
-  pub all_laid : (m : List ℕ) (s : Stop) → b + (n + 7) / 8 ≤ length l → m ≡ lay_of l b bs → s ≡ no_stop
-      → (record { done = true; stop = s; bits = n } ≡ written_of (lay_in l b bs)) × (m ≡ area_of l (lay_in l b bs))
+  pub all_laid : (m : List ℕ) → b + (n + 7) / 8 ≤ length l → m ≡ lay_of l b bs → (Ok n ≡ written_of (lay_in l b bs)) × (m ≡ area_of l (lay_in l b bs))
   unfolding area_of written_of
-  all_laid m s h d z = let f : lay_in l b bs ≡ laid (lay_of l b bs) (length bs) = lay_fits l b bs (omega arith) in (rw (f, z, e) refl, rw f d)
+  all_laid m h d = let f : lay_in l b bs ≡ laid (lay_of l b bs) (length bs) = lay_fits l b bs (omega arith) in (rw (f, e) refl, rw f d)

@@ -1,6 +1,6 @@
 -- Laws of the parts that a writer goes through: what is left of a list, destinations, the state, the mask's number. Assumes nothing.
-use Rattle.std.proofs.Common.{◌≡◌, ℕ, ◌+◌, ◌-◌, ◌/◌, ◌^◌, ◌<◌, ◌≤◌, min, Bool, true, false, cond, eqb, List, [], ◌∷◌, ◌++◌, length, get_or, take, drop, sym, refl, ap, add-one, arith, drop_of_length-le, length-take, drop-cons, get_or-take}
-use native.Mathlib.Nat.{div-eq_of_lt}
+use Rattle.std.proofs.Common.{◌≡◌, ℕ, ◌+◌, ◌<◌, ◌≤◌, min, Bool, true, false, cond, eqb, List, [], ◌∷◌, ◌++◌, length, get_or, take, drop, refl, ap, add-one, drop_of_length-le, drop-cons}
+use Rattle.std.proofs.lemmas.List.{take_min}
 use Rattle.bits.specs.Puts.{binary}
 use Rattle.codec.specs.Codec.{Codec, number, pure, choose, vec_bits}
 use Rattle.profile.specs.Rules.{meaning_in}
@@ -14,20 +14,20 @@ use Rattle.message.specs.declared.Group.{Group}
 use Rattle.message.specs.declared.State.{State}
 use Rattle.writing.specs.Parts.{why_not_bits, if_accepted_bits}
 
--- the bits of those from i on, of the first count
-module _ {A : Type 0} (none : A) (C : Codec A) where
-  abbrev pub rest_of : List A → ℕ → ℕ → List ℕ
-  rest_of list count i = vec_bits C (drop i (take count list))
+-- the bits of those from i on
+module _ {A : Type 0} (C : Codec A) where
+  abbrev pub rest_of : List A → ℕ → List ℕ
+  rest_of items i = vec_bits C (drop i items)
 
-  pub rest_more : (list : List A) (count i : ℕ) → i < count → i < length list → rest_of list count i ≡ C.bits (get_or list i none) ++ rest_of list count (i + 1)
-  rest_more list count i h k =
-      let n : i < length (take count list) = simp length-take (omega arith) in
-      rw (add-one, drop-cons (take count list) i none n, get_or-take count list i none h)
+  pub rest_more : (none : A) (items : List A) (i : ℕ) → i < length items → rest_of items i ≡ C.bits (get_or items i none) ++ rest_of items (i + 1)
+  rest_more none items i h = rw (add-one, drop-cons items i none h)
 
-  pub rest_end : (list : List A) (count i : ℕ) → min count (length list) ≤ i → rest_of list count i ≡ []
-  rest_end list count i h =
-      let n : length (take count list) ≤ i = simp length-take (omega arith) in
-      rw (drop_of_length-le (take count list) n)
+  pub rest_end : (items : List A) (i : ℕ) → length items ≤ i → rest_of items i ≡ []
+  rest_end items i h = rw (drop_of_length-le items h)
+
+-- at most k of a list of k, where some are counted
+pub few_taken : {A : Type 0} (l : List A) (m n k : ℕ) → m ≡ min n k → length l ≡ k → take m l ≡ take n l
+few_taken l m n k e h = rw (e, ← h) (take_min n l)
 
 -- ---- destinations have the bits that any other addresses have
 
@@ -58,9 +58,3 @@ state_bits s = go (eqb s.result 1)
         ++ (cond b (binary 2 s.called) [] ++ cond b (binary 2 s.calling) []))))
     go true = refl
     go false = refl
-
--- ---- the mask
-
--- of no identity there is no mask bit
-pub first_none : (m n : ℕ) → m < 2 ^ 64 → n ≡ 0 → 0 ≡ m / 2 ^ (64 - n)
-first_none m n h e = rw e (sym (div-eq_of_lt h))

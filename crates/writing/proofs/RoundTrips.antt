@@ -3,13 +3,15 @@
 --     write_read   what `read` read, `write` writes as the same bits
 --     writes       a valid value is written wherever there is room for it
 -- Assumes nothing.
-use Rattle.std.proofs.Common.{◌≡◌, ℕ, ◌+◌, ◌*◌, ◌≤◌, Bool, true, false, cond, eqb, leb, List, ◌++◌, length, sym, refl, ap, ◌∙◌, subst, arith, length-append, eq-eqb, eqb-true, le-leb, leb-true}
+use Rattle.std.proofs.Common.{◌≡◌, ℕ, Result, Ok, ◌+◌, ◌*◌, ◌≤◌, Bool, true, false, cond, eqb, leb, List, ◌++◌, length, sym, refl, ap, ◌∙◌, subst, arith, length-append, eq-eqb, eqb-true, le-leb, leb-true}
+use Rattle.std.specs.Result.{is_ok}
 use Rattle.bits.specs.Fields.{bit_at}
 use Rattle.bits.specs.Puts.{put_bits, binary, spare}
 use Rattle.bits.proofs.PutLaws.{length_put, length_binary}
 use Rattle.bits.proofs.Stands.{Stands, stands_left, stands_agree, bits_join, put_stands}
 use Rattle.bits.proofs.RoundLaws.{binary_bits}
 use Rattle.codec.specs.Stops.{refusal, no_stop}
+use Rattle.codec.specs.declared.Stop.{Stop}
 use Rattle.codec.specs.Codec.{Codec, Read, got, no, bind, both}
 use Rattle.codec.proofs.Good.{Agree, Found, Good, both_right, not_both}
 use Rattle.codec.proofs.RoundTrips.{read_found}
@@ -20,20 +22,18 @@ use Rattle.message.specs.Reading.{whole, whole_of, length_ok, read_bits, read_of
 use Rattle.message.proofs.MessageLaws.{good_message}
 use Rattle.message.specs.declared.Value.{Value}
 use Rattle.reading.specs.Answers.{reading_of}
-use Rattle.reading.specs.declared.Reading.{Reading}
 use Rattle.validity.specs.Validity.{valid_of}
 use Rattle.writing.specs.Writing.{bits_of, bytes_for, padded, lay_of, lay_in, laid, refused, Write, write_valid, write_of, written_of, area_of}
-use Rattle.writing.specs.declared.Written.{Written}
 use Rattle.writing.proofs.LengthLaws.{message_some, message_most}
 
 -- ---- what the two functions promise
 
 -- `read`, on n bits of the bytes l, may answer r
-abbrev pub Reads : Profile → List ℕ → ℕ → Reading → Type 0
+abbrev pub Reads : Profile → List ℕ → ℕ → Result Value Stop → Type 0
 Reads p l n r = r ≡ reading_of (read_of p l n)
 
 -- `write`, of the value v into the area l, may answer w and leave the area m
-abbrev pub Writes : Profile → Value → List ℕ → List ℕ → Written → Type 0
+abbrev pub Writes : Profile → Value → List ℕ → List ℕ → Result ℕ Stop → Type 0
 Writes p v l m w = (w ≡ written_of (write_of p v l 0)) × (m ≡ area_of l (write_of p v l 0))
 
 -- ---- what was written
@@ -49,12 +49,12 @@ pub can_write : (p : Profile) (v : Value) (l : List ℕ) (b : ℕ) → Can p v l
 unfolding write_of write_valid lay_in
 can_write p v l b k = rw (k.passes, k.valid, le-leb (b + bytes_for (length (bits_of p.air v))) (length l) k.room)
 
-pub wrote_can : (p : Profile) (v : Value) (l : List ℕ) (b : ℕ) → (written_of (write_of p v l b)).done ≡ true → Can p v l b
+pub wrote_can : (p : Profile) (v : Value) (l : List ℕ) (b : ℕ) → is_ok (written_of (write_of p v l b)) ≡ true → Can p v l b
 unfolding write_of write_valid lay_in written_of
 wrote_can p v l b = go (profile_ok p) refl (valid_of p.air v) refl (leb (b + bytes_for (length (bits_of p.air v))) (length l)) refl
   where
     go : (x : Bool) → profile_ok p ≡ x → (y : Bool) → valid_of p.air v ≡ y → (z : Bool) → leb (b + bytes_for (length (bits_of p.air v))) (length l) ≡ z
-        → (written_of (cond x (cond y (cond z (laid (lay_of l b (bits_of p.air v)) (length (bits_of p.air v))) (refused (refusal 14))) (refused (refusal 22))) (refused (refusal 1)))).done ≡ true
+        → is_ok (written_of (cond x (cond y (cond z (laid (lay_of l b (bits_of p.air v)) (length (bits_of p.air v))) (refused (refusal 14))) (refused (refusal 22))) (refused (refusal 1)))) ≡ true
         → Can p v l b
     go false ex y ey z ez e = not_both e
     go true ex false ey z ez e = not_both e
@@ -104,23 +104,23 @@ laid_read p v l k =
     let st : Stands (bit_at (lay_of l 0 bs)) 0 bs = laid_message l p v k in
     rw (k.passes, le-leb 1 n some, le-leb n 4096 most, le-leb n (8 * length (lay_of l 0 bs)) held) (stands_read (message_c p.air) (good_message p.air) (bit_at (lay_of l 0 bs)) v k.valid st)
 
--- a valid value is written wherever there is room for it
-pub writes : (p : Profile) (v : Value) (l m : List ℕ) (w : Written) → Writes p v l m w → profile_ok p ≡ true → valid_of p.air v ≡ true
-    → bytes_for (length (bits_of p.air v)) ≤ length l → w.done ≡ true
+-- a valid value is written wherever there is room for it, in as many bits as it has
+pub writes : (p : Profile) (v : Value) (l m : List ℕ) (w : Result ℕ Stop) → Writes p v l m w → profile_ok p ≡ true → valid_of p.air v ≡ true
+    → bytes_for (length (bits_of p.air v)) ≤ length l → w ≡ Ok (length (bits_of p.air v))
 unfolding written_of
-writes p v l m w e passes valid room =
-    ap (λ (x : Written). x.done) e.0 ∙ ap (λ (x : Write). (written_of x).done) (can_write p v l 0 (record { passes = passes; valid = valid; room = omega arith }))
+writes p v l m w e passes valid room = e.0 ∙ ap (λ (x : Write). written_of x) (can_write p v l 0 (record { passes = passes; valid = valid; room = omega arith }))
 
 -- what was written is read as the value
-pub read_write : (p : Profile) (v : Value) (l m : List ℕ) (w : Written) (r : Reading) → Writes p v l m w → w.done ≡ true → Reads p m w.bits r
-    → r ≡ record { found = true; stop = no_stop; value = v }
+pub read_write : (p : Profile) (v : Value) (l m : List ℕ) (w : Result ℕ Stop) (n : ℕ) (r : Result Value Stop) → Writes p v l m w → w ≡ Ok n → Reads p m n r
+    → r ≡ Ok v
 unfolding written_of area_of reading_of
-read_write p v l m w r e done h =
-    let k : Can p v l 0 = wrote_can p v l 0 (ap (λ (x : Written). x.done) (sym e.0) ∙ done) in
+read_write p v l m w n r e done h =
+    let k : Can p v l 0 = wrote_can p v l 0 (ap (λ (x : Result ℕ Stop). is_ok x) (sym e.0 ∙ done)) in
     let c = can_write p v l 0 k in
     let em : m ≡ lay_of l 0 (bits_of p.air v) = e.1 ∙ ap (λ (x : Write). area_of l x) c in
-    let en : w.bits ≡ length (bits_of p.air v) = ap (λ (x : Written). x.bits) (e.0 ∙ ap (λ (x : Write). written_of x) c) in
-    h ∙ ap (λ (x : List ℕ). reading_of (read_of p x w.bits)) em ∙ ap (λ (n : ℕ). reading_of (read_of p (lay_of l 0 (bits_of p.air v)) n)) en ∙ ap (λ (x : Read Value). reading_of x) (laid_read p v l k)
+    let same : ◌≡◌ {A = Result ℕ Stop} (Ok n) (Ok (length (bits_of p.air v))) = sym done ∙ e.0 ∙ ap (λ (x : Write). written_of x) c in
+    let en : n ≡ length (bits_of p.air v) = cc in
+    h ∙ ap (λ (x : List ℕ). reading_of (read_of p x n)) em ∙ ap (λ (k : ℕ). reading_of (read_of p (lay_of l 0 (bits_of p.air v)) k)) en ∙ ap (λ (x : Read Value). reading_of x) (laid_read p v l k)
 
 -- ---- reading, then writing
 
@@ -164,32 +164,26 @@ read_was p l n v q = go (profile_ok p) refl (both (leb 1 n) (both (leb n 4096) (
         }
 
 -- the grounds of a reading that found something
-found_was : (p : Profile) (l : List ℕ) (n : ℕ) (x : Read Value) → read_of p l n ≡ x → (reading_of x).found ≡ true → Was p l n (reading_of x).value
+found_was : (p : Profile) (l : List ℕ) (n : ℕ) (v : Value) (x : Read Value) → read_of p l n ≡ x → reading_of x ≡ Ok v → Was p l n v
 unfolding reading_of
-found_was p l n (got v q) e f = read_was p l n v q e
-found_was p l n (no s) e f = not_both f
+found_was p l n v (got u q) e f = let uv : u ≡ v = cc in read_was p l n v q (e ∙ ap (λ (y : Value). got y q) uv)
+found_was p l n v (no s) e f = let z : ◌≡◌ {A = ℕ} 0 1 = cc in absurd (omega arith)
 
 -- what was read is written as the same bits, wherever there is room for them: it is written, has as many bits, and they agree
-pub write_read : (p : Profile) (l : List ℕ) (n : ℕ) (r : Reading) (a m : List ℕ) (w : Written) → Reads p l n r → r.found ≡ true
-    → bytes_for n ≤ length a → Writes p r.value a m w
-    → (w.done ≡ true) × ((w.bits ≡ n) × Agree (bit_at m) (bit_at l) n)
+pub write_read : (p : Profile) (l : List ℕ) (n : ℕ) (r : Result Value Stop) (v : Value) (a m : List ℕ) (w : Result ℕ Stop) → Reads p l n r → r ≡ Ok v
+    → bytes_for n ≤ length a → Writes p v a m w
+    → (w ≡ Ok n) × Agree (bit_at m) (bit_at l) n
 unfolding written_of area_of
-write_read p l n r a m w h f room e =
-    let v = (reading_of (read_of p l n)).value in
-    let rv : r.value ≡ v = ap (λ (x : Reading). x.value) h in
-    let k : Was p l n v = found_was p l n (read_of p l n) refl (ap (λ (x : Reading). x.found) (sym h) ∙ f) in
+write_read p l n r v a m w h f room e =
+    let k : Was p l n v = found_was p l n v (read_of p l n) refl (sym h ∙ f) in
     let bs = bits_of p.air v in
     let can : Can p v a 0 = record { passes = k.passes; valid = k.valid; room = omega (arith, k.long) } in
-    let c : write_of p r.value a 0 ≡ laid (lay_of a 0 bs) (length bs) = ap (λ (x : Value). write_of p x a 0) rv ∙ can_write p v a 0 can in
+    let c : write_of p v a 0 ≡ laid (lay_of a 0 bs) (length bs) = can_write p v a 0 can in
     let em : m ≡ lay_of a 0 bs = e.1 ∙ ap (λ (x : Write). area_of a x) c in
     let st : Stands (bit_at m) 0 bs = subst (λ (o : List ℕ). Stands (bit_at o) 0 bs) (sym em) (laid_message a p v can) in
-    let ew : w ≡ written_of (laid (lay_of a 0 bs) (length bs)) = e.0 ∙ ap (λ (x : Write). written_of x) c in (
-      ap (λ (x : Written). x.done) ew,
-      (ap (λ (x : Written). x.bits) ew ∙ k.long, λ i i<n. stands_agree (bit_at m) (bit_at l) 0 bs st k.stands i (omega arith) (omega (arith, k.long))),
-    )
+    let ew : w ≡ Ok (length bs) = e.0 ∙ ap (λ (x : Write). written_of x) c in
+    (ew ∙ ap (λ (k : ℕ). Ok k) k.long, λ i i<n. stands_agree (bit_at m) (bit_at l) 0 bs st k.stands i (omega arith) (omega (arith, k.long)))
 
 -- what was read is valid
-pub read_valid : (p : Profile) (l : List ℕ) (n : ℕ) (r : Reading) → Reads p l n r → r.found ≡ true → valid_of p.air r.value ≡ true
-read_valid p l n r h f =
-    subst (λ (v : Value). valid_of p.air v ≡ true) (ap (λ (x : Reading). x.value) (sym h))
-    (found_was p l n (read_of p l n) refl (ap (λ (x : Reading). x.found) (sym h) ∙ f)).valid
+pub read_valid : (p : Profile) (l : List ℕ) (n : ℕ) (r : Result Value Stop) (v : Value) → Reads p l n r → r ≡ Ok v → valid_of p.air v ≡ true
+read_valid p l n r v h f = (found_was p l n v (read_of p l n) refl (sym h ∙ f)).valid

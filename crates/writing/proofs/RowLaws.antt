@@ -1,6 +1,6 @@
 -- The bits of a row's parts and options, one after the other, and that these are the bits of the message's codec. Assumes nothing.
-use Rattle.std.proofs.Common.{◌≡◌, ℕ, zero, suc, ◌+◌, ◌-◌, ◌^◌, ◌<◌, ◌≤◌, min, Bool, true, false, not, List, [], ◌∷◌, ◌++◌, length, get_or, drop, sym, refl, ap, ◌∙◌, append_assoc, append-nil, add-one, arith}
-use native.Mathlib.Nat.{sub-zero}
+use Rattle.std.proofs.Common.{◌≡◌, ℕ, zero, suc, ◌+◌, ◌-◌, ◌^◌, ◌<◌, ◌≤◌, min, Bool, true, false, not, List, [], ◌∷◌, ◌++◌, length, get_or, take, drop, sym, refl, ap, ◌∙◌, append_assoc, append-nil, add-one, arith}
+use Rattle.std.specs.List.{list_any, range_with_len}
 use Rattle.bits.specs.Puts.{binary}
 use Rattle.codec.specs.Codec.{Codec, number, pure, guard, choose}
 use Rattle.codec.specs.Options.{is_there, flag, optional}
@@ -13,10 +13,11 @@ use Rattle.message.specs.declared.Part.{Part}
 use Rattle.message.specs.declared.Part.TheVariants as part
 use Rattle.message.specs.declared.Slot.{Slot}
 use Rattle.message.specs.declared.Value.{Value}
-use Rattle.message.proofs.SlotLaws.{slot_more, slot_end, slot_past, slot_start}
+use Rattle.message.proofs.SlotLaws.{slot_more, slot_end}
 use Rattle.writing.specs.Parts.{part_bits, behind, some_given, option_bits, each_bits, options_bits, parts_bits}
 use Rattle.writing.specs.Wrote.{Wrote}
-use Rattle.writing.proofs.WroteLaws.{Left, wrote_none, wrote_join, left_all, left_some, left_none, left_last}
+use Rattle.writing.proofs.PartLaws.{few_taken}
+use Rattle.writing.proofs.WroteLaws.{Left, wrote_none, wrote_join, left_some, left_none, left_last}
 
 -- ---- the row of a type is its codec
 
@@ -119,23 +120,22 @@ module _ (air : Air) (w : Value) (k : ℕ) (l : List Slot) (v : Value) (n : ℕ)
   pub options_absent : {o m : List ℕ} {at p : ℕ} → (n ≡ 0 → ⊥) → (b : Bool) → b ≡ some_given 0 n v → b ≡ false → Wrote o m at p (binary 1 0) → Wrote o m at p (options_bits air w (first_parts k l) v)
   options_absent z b e d a = rw (behind_bits z false (sym d ∙ e)) a
 
--- ---- the loop that looks for one that is there
+-- one of them is there, as `any` finds it
+pub any_given : (i k : ℕ) (v : Value) → list_any (λ j. given_at j v) (range_with_len i k) ≡ some_given i k v
+unfolding some_given
+any_given i zero v = refl
+any_given i (suc k) v = rw (add-one, any_given (suc i) k v)
 
-module _ (k i : ℕ) (v : Value) where
-  pub given_turn : i < k → given_at i v ≡ false → some_given i (k - i) v ≡ some_given (i + 1) (k - (i + 1)) v
-  unfolding some_given
-  given_turn h e = let n : k - i ≡ suc (k - (i + 1)) = omega arith in rw (n, e, add-one)
+-- ---- those of the first slots that are counted
 
-  pub given_found : i < k → given_at i v ≡ true → some_given i (k - i) v ≡ true
-  unfolding some_given
-  given_found h e = let n : k - i ≡ suc (k - (i + 1)) = omega arith in rw (n, e)
+all_first : (k : ℕ) (l : List Slot) → first_parts (length (take k l)) (take k l) ≡ first_parts k l
+unfolding first_parts
+all_first zero l = refl
+all_first (suc k) [] = refl
+all_first (suc k) (s ∷ l) = rw (all_first k l)
 
-  pub given_end : k ≤ i → some_given i (k - i) v ≡ false
-  unfolding some_given
-  given_end h = let z : k - i ≡ 0 = omega arith in rw z
-
-pub given_start : (k : ℕ) (v : Value) → some_given 0 k v ≡ some_given 0 (k - 0) v
-given_start k v = rw sub-zero
+pub first_taken : (l : List Slot) (m n k : ℕ) → m ≡ min n k → length l ≡ k → first_parts n l ≡ first_parts (length (take m l)) (take m l)
+first_taken l m n k e h = sym (rw (few_taken l m n k e h) (all_first n l))
 
 -- ---- the loop over the options
 
@@ -150,14 +150,6 @@ module _ {o m : List ℕ} {at p : ℕ} {bs : List ℕ} (air : Air) (w : Value) (
   unfolding each_bits
   each_end h e = left_none (rw (slot_end k l i h) at e)
 
-  pub each_past : length l ≤ i → Left o m at p bs (each_bits air i w (first_parts (k - i) (drop i l)) v) → Wrote o m at p bs
-  unfolding each_bits
-  each_past h e = left_none (rw (slot_past k l i h) at e)
-
-pub each_start : (air : Air) (w : Value) (k : ℕ) (l : List Slot) (v : Value) (o : List ℕ) (at : ℕ) → at < 2 ^ 64
-    → Left o o at at (each_bits air 0 w (first_parts k l) v) (each_bits air 0 w (first_parts (k - 0) (drop 0 l)) v)
-each_start air w k l v o at h = rw (sym (slot_start k l)) (left_all o at (each_bits air 0 w (first_parts k l) v) h)
-
 -- ---- the loop over the parts
 
 module _ {o m : List ℕ} {at p : ℕ} {bs : List ℕ} (air : Air) (w : Value) (k : ℕ) (l : List Slot) (i : ℕ) (qs : List Part) (v : Value) where
@@ -171,11 +163,3 @@ module _ {o m : List ℕ} {at p : ℕ} {bs : List ℕ} (air : Air) (w : Value) (
     pub parts_end : k ≤ i → Left o m at p bs (parts_bits air w (first_parts (k - i) (drop i l)) qs v) → Wrote o x at q bs
     unfolding parts_bits
     parts_end h e = left_last (rw (slot_end k l i h) at e) r
-
-    pub parts_past : length l ≤ i → Left o m at p bs (parts_bits air w (first_parts (k - i) (drop i l)) qs v) → Wrote o x at q bs
-    unfolding parts_bits
-    parts_past h e = left_last (rw (slot_past k l i h) at e) r
-
-pub parts_start : (air : Air) (w : Value) (k : ℕ) (l : List Slot) (qs : List Part) (v : Value) (o : List ℕ) (at : ℕ) → at < 2 ^ 64
-    → Left o o at at (parts_bits air w (first_parts k l) qs v) (parts_bits air w (first_parts (k - 0) (drop 0 l)) qs v)
-parts_start air w k l qs v o at h = rw (sym (slot_start k l)) (left_all o at (parts_bits air w (first_parts k l) qs v) h)

@@ -1,8 +1,8 @@
 -- Writing a message: document 01's order, 1, then 22, then 14. The bits go from the top bit of a byte on, the spare bits of the last
 -- byte are zero, and all other bytes stay.
-use Rattle.std.specs.Prelude.{ℕ, ◌+◌, ◌*◌, ◌/◌, true, false, cond, List, ◌++◌, length, nat_le}
+use Rattle.std.specs.Prelude.{ℕ, ◌+◌, ◌*◌, ◌/◌, cond, List, ◌++◌, length, nat_le, Result, Ok, Err}
 use Rattle.bits.specs.Puts.{put_bits, binary, spare}
-use Rattle.codec.specs.Stops.{refusal, no_stop}
+use Rattle.codec.specs.Stops.{refusal}
 use Rattle.profile.specs.Rules.{profile_ok}
 use Rattle.profile.specs.declared.Air.{Air}
 use Rattle.profile.specs.declared.Profile.{Profile}
@@ -10,7 +10,6 @@ use Rattle.message.specs.Messages.{message_c}
 use Rattle.message.specs.declared.Value.{Value}
 use Rattle.validity.specs.Validity.{valid_of}
 use Rattle.codec.specs.declared.Stop.{Stop}
-use Rattle.writing.specs.declared.Written.{Written}
 
 -- the bits of a message
 unfoldable pub bits_of : Air → Value → List ℕ
@@ -45,9 +44,9 @@ write_of p v l b = cond (profile_ok p) (write_valid p.air v l b) (refused (refus
 
 -- ---- what the code answers and leaves
 
-unfoldable pub written_of : Write → Written
-written_of (laid m n) = record { done = true; stop = no_stop; bits = n }
-written_of (refused s) = record { done = false; stop = s; bits = 0 }
+unfoldable pub written_of : Write → Result ℕ Stop
+written_of (laid m n) = Ok n
+written_of (refused s) = Err s
 
 -- a refusal leaves the area as it stood
 unfoldable pub area_of : List ℕ → Write → List ℕ

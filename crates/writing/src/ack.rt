@@ -29,10 +29,7 @@ fn first(mask: u64, count: usize) -> u64
     requires { count ≤ 64 }
     ensures { result ≡ mask / 2 ^ (64 - count) }
 {
-    if count == 0 {
-        return 0;
-    }
-    mask >> (64 - count)
+    if count == 0 { 0 } else { mask >> (64 - count) }
 }
 
 // A reason follows unless the result is 1.

@@ -3,13 +3,14 @@
 // `write` and `write_at` equal `write_of` (specs/Writing) for every profile, value and area: the answer and every byte. The files go
 // from small to large: element, address, group, area, ack, part, body. Each function writes one codec's bits and answers the next
 // position, whether the area holds them or not; so a first writing into no area gives the length, and 14 comes before any byte is
-// touched. The round trips with `read` are in proofs/RoundTrips.
+// touched. The round trips with `read` are in proofs/RoundTrips. That the value is valid is tested once, and asked of each after it; area and
+// position are handed on as two, as each contract (`Wrote`) states them.
 #![tactic(auto)]
 
 ghost use Rattle.std.specs.Prelude.{◌≡◌, ◌+◌, ◌≤◌, true, length};
 ghost use Rattle.validity.specs.Validity.{valid_of};
 ghost use Rattle.writing.specs.Wrote.{Wrote};
-ghost use Rattle.writing.specs.Writing.{bits_of, bytes_for, lay_of, lay_in, refused, write_valid, write_of, written_of, area_of};
+ghost use Rattle.writing.specs.Writing.{bits_of, bytes_for, lay_of, lay_in, write_valid, write_of, written_of, area_of};
 
 use codec::Stop;
 use message::Value;
@@ -23,16 +24,8 @@ mod element;
 mod group;
 mod part;
 
-// The message's length, or a refusal.
-#[derive(Clone, Copy)]
-pub struct Written {
-    pub done: bool,
-    pub stop: Stop,
-    pub bits: usize,
-}
-
-// The message from the first byte of the area on.
-pub fn write(profile: Profile, value: Value, out: &mut [u8]) -> Written
+// The message from the first byte of the area on: its length in bits, or a refusal.
+pub fn write(profile: Profile, value: Value, out: &mut [u8]) -> Result<usize, Stop>
     ensures { (result ≡ written_of (write_of profile value out.old 0))
         × (out.new ≡ area_of out.old (write_of profile value out.old 0)) }
 {
@@ -40,42 +33,37 @@ pub fn write(profile: Profile, value: Value, out: &mut [u8]) -> Written
 }
 
 // The message from the byte `start` of the area on.
-pub fn write_at(profile: Profile, value: Value, out: &mut [u8], start: u16) -> Written
+pub fn write_at(profile: Profile, value: Value, out: &mut [u8], start: u16) -> Result<usize, Stop>
     ensures { (result ≡ written_of (write_of profile value out.old start))
         × (out.new ≡ area_of out.old (write_of profile value out.old start)) }
 {
-    if profile::profile_ok(profile) {
-        return write_valid(profile, value, out, start);
+    if !profile::profile_ok(profile) {
+        return Err(codec::refuse(1));
     }
-    refused(codec::refuse(1))
+    write_valid(profile, value, out, start)
 }
 
-fn write_valid(profile: Profile, value: Value, out: &mut [u8], start: u16) -> Written
+fn write_valid(profile: Profile, value: Value, out: &mut [u8], start: u16) -> Result<usize, Stop>
     ensures { (result ≡ written_of (write_valid profile.air value out.old start))
         × (out.new ≡ area_of out.old (write_valid profile.air value out.old start)) }
 {
-    if validity::valid(profile, value) {
-        let air = profile.air;
-        return write_in(air, value, out, start);
+    if !validity::valid(profile, value) {
+        return Err(codec::refuse(22));
     }
-    refused(codec::refuse(22))
+    write_in(profile.air, value, out, start)
 }
 
-fn write_in(air: Air, value: Value, out: &mut [u8], start: u16) -> Written
+fn write_in(air: Air, value: Value, out: &mut [u8], start: u16) -> Result<usize, Stop>
     requires { valid_of air value ≡ true }
     ensures { (result ≡ written_of (lay_in out.old start (bits_of air value)))
         × (out.new ≡ area_of out.old (lay_in out.old start (bits_of air value))) }
 {
     let bits = length_of(air, value);
     if start as usize + (bits + 7) / 8 > out.len() {
-        return refused(codec::refuse(14));
+        return Err(codec::refuse(14));
     }
     lay(air, value, out, start);
-    Written {
-        done: true,
-        stop: codec::no_stop(),
-        bits: bits,
-    }
+    Ok(bits)
 }
 
 // How many bits the message has: where its writing ends that starts at 0, into no area to speak of.
@@ -83,7 +71,7 @@ fn length_of(air: Air, value: Value) -> usize
     requires { valid_of air value ≡ true }
     ensures { result ≡ length (bits_of air value) }
 {
-    let mut nowhere: [u8; 1] = [0; 1];
+    let mut nowhere = [0; 1];
     write_message(air, value, &mut nowhere, 0)
 }
 
@@ -102,14 +90,4 @@ fn write_message(air: Air, value: Value, out: &mut [u8], at: usize) -> usize
     let p = element::byte(out, at, 6, air.ss);
     let q = element::byte(out, p, 5, value.pdu);
     body::write_body(air, value, out, q)
-}
-
-fn refused(s: Stop) -> Written
-    ensures { result ≡ written_of (refused s) }
-{
-    Written {
-        done: false,
-        stop: s,
-        bits: 0,
-    }
 }

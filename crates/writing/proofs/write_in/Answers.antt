@@ -8,8 +8,8 @@ overflow_add-bits c = omega (arith, c.length_of-bits.ensures, message_most c.arg
 
 pub returns-then-start-bits : goal.returns-then-start-bits
 returns-then-start-bits c =
-    no_room _ _ _ _ c.length_of-bits.ensures _ _ (search rules) c.refused.ensures c.refuse.ensures
+    no_room _ _ _ _ c.length_of-bits.ensures _ (search rules) c.refuse.ensures
 
 pub returns : goal.returns
 returns c =
-    all_laid _ _ _ _ c.length_of-bits.ensures _ _ (search rules) c.lay.ensures c.no_stop.ensures
+    all_laid _ _ _ _ c.length_of-bits.ensures _ (search rules) c.lay.ensures

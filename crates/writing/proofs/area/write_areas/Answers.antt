@@ -7,4 +7,4 @@ use Rattle.writing.proofs.area.write_areas.Goals as goal
 pub returns : goal.returns
 unfolding areas_c range_c area_list_c number
 returns c =
-    wrote_join c.byte-p.ensures (rw (c.addresses_in.ensures, c.meaning_of.ensures) at c.write_places.ensures)
+    wrote_join c.byte-p.ensures (rw (c.addresses_in-count.ensures, c.meaning_of.ensures) at c.write_places.ensures)

@@ -6,4 +6,4 @@ use Rattle.writing.proofs.group.write_group.Goals as goal
 pub returns : goal.returns
 unfolding group_c range_c addresses_c number
 returns c =
-    wrote_join c.byte-p.ensures (rw (c.addresses_in.ensures, c.meaning_of.ensures) at c.write_places.ensures)
+    wrote_join c.byte-p.ensures (rw (c.addresses_in-count.ensures, c.meaning_of.ensures) at c.write_places.ensures)

@@ -1,13 +1,8 @@
-use Rattle.std.proofs.Common.{◌≡◌, ◌-◌, ◌≤◌, min, false, length}
-use Rattle.message.specs.Addresses.{nobody, address_c}
-use Rattle.message.specs.Groups.{places_c}
+use Rattle.std.proofs.Common.{false}
+use Rattle.message.specs.Addresses.{address_c}
 use Rattle.writing.proofs.PartLaws.{rest_of}
 use Rattle.writing.proofs.WroteLaws.{Left}
 use Rattle.writing.proofs.group.write_places.Given as goal
 
-abbrev pub invariant-loop-i : goal.invariant-loop-i
-invariant-loop-i l = (l.i ≤ l.many)
-    × ((length l.list ≡ 15) × ((l.many ≡ min l.count 15) × Left l.initial.out l.out l.at l.next ((places_c false l.count).bits l.list) (rest_of nobody (address_c false) l.list l.count l.i)))
-
-abbrev pub decreases-loop-i : goal.decreases-loop-i
-decreases-loop-i l = l.many - l.i
+abbrev pub invariant-loop-a : goal.invariant-loop-a
+invariant-loop-a l = Left l.initial.out l.out l.at l.next (rest_of (address_c false) l.a-items 0) (rest_of (address_c false) l.a-items l.a-index)
