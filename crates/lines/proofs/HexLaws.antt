@@ -202,3 +202,6 @@ module _ (l : List ℕ) (from : ℕ) where
       go : (b : Bool) → hex_up_to l from left ≡ b → hex_up_to l from left ≡ (hex_at l from).good
       go true k = k ∙ sym (ap (λ (r : Hex). r.good) (all_pairs h e f (up_to_each left k)))
       go false k = k ∙ sym (by_case (λ g. not_both (sym k ∙ up_to_all left (each_at (digits_at g)))))
+
+-- what all_hex answers rests on
+pub ruleset all_hex_laws = (hex_odd, hex_many, hex_tested)

@@ -3,3 +3,4 @@ pub mod HexLaws
 pub mod SayLaws
 pub mod KeepLaws
 pub mod NameLaws
+pub mod TextLaws

@@ -1,10 +1,12 @@
 -- What a reading that was found, and one that was refused, come to; what is said of a line after its bit length; and that the bits read
 -- from a room which has the bytes for them, and anything behind, say what the line says. Assumes nothing.
 use Rattle.std.proofs.Common.{◌≡◌, ℕ, ◌+◌, ◌-◌, ◌*◌, ◌/◌, ◌%◌, ◌^◌, ◌<◌, ◌≤◌, Bool, true, false, leb, List, length, get_or, take, sym, ap, ◌∙◌, arith, length-take-le, get_or-take}
+use Rattle.std.specs.Prelude.{Result, Ok, Err}
 use borrow.Author.Tests.{lt-leb}
 use Rattle.bits.specs.Fields.{bit_at}
 use Rattle.codec.specs.Codec.{Read, got, no, both}
 use Rattle.codec.specs.Stops.{refusal}
+use Rattle.codec.specs.declared.Stop.{Stop}
 use Rattle.codec.proofs.Good.{Agree, both_none}
 use Rattle.profile.specs.Sample.{sample}
 use Rattle.profile.specs.declared.Air.{Air}
@@ -15,7 +17,6 @@ use Rattle.message.specs.declared.Value.{Value}
 use Rattle.message.proofs.ReadingLaws.{past_unread}
 use Rattle.reading.specs.Walks.{type_in, type_of}
 use Rattle.reading.proofs.WalkLaws.{length_good}
-use Rattle.reading.specs.declared.TypeRead.{TypeRead}
 use Rattle.lines.specs.Shape.{no_bytes, no_hex, hex_at, line_with}
 use Rattle.lines.specs.Saying.{name_of, refused_of, stop_of, answer_of, say_of}
 use Rattle.lines.specs.Parsing.{pairs_in, Enough}
@@ -23,15 +24,15 @@ use Rattle.lines.proofs.HexLaws.{length_pairs, pair_at_lem, hex_room, hex_is, he
 
 -- ---- what a reading comes to
 
-pub said_found : (rd : Read Value) (r : TypeRead) → r ≡ type_of (type_in rd) → r.found ≡ true → answer_of rd ≡ name_of r.pdu
+pub said_found : (rd : Read Value) (t : ℕ) → Ok t ≡ type_of (type_in rd) → answer_of rd ≡ name_of t
 unfolding type_of answer_of
-said_found (got v p) r e h = rw e
-said_found (no s) r e h = let z : ◌≡◌ {A = Bool} false true = sym (ap (λ (x : TypeRead). x.found) e) ∙ h in cc
+said_found (got v p) t e = let z : t ≡ v.pdu = cc in rw z
+said_found (no s) t e = let z : ◌≡◌ {A = ℕ} 0 1 = cc in absurd (omega arith)
 
-pub said_refused : (rd : Read Value) (r : TypeRead) → r ≡ type_of (type_in rd) → r.found ≡ false → answer_of rd ≡ stop_of r.stop
+pub said_refused : (rd : Read Value) (t : Stop) → Err t ≡ type_of (type_in rd) → answer_of rd ≡ stop_of t
 unfolding type_of answer_of
-said_refused (got v p) r e h = let z : ◌≡◌ {A = Bool} true false = sym (ap (λ (x : TypeRead). x.found) e) ∙ h in cc
-said_refused (no s) r e h = rw e
+said_refused (got v p) t e = let z : ◌≡◌ {A = ℕ} 0 1 = cc in absurd (omega arith)
+said_refused (no s) t e = let z : t ≡ s = cc in rw z
 
 -- ---- reading where the length is in order
 
@@ -43,7 +44,7 @@ read_whole : (l : List ℕ) (n : ℕ) → 1 ≤ n → n ≤ 4096 → n ≤ 8 * l
 unfolding read_of
 read_whole l n some most held = rw sample_passes (bits_whole sample.air l n some most held)
 
-pub type_sample : (r : TypeRead) (p : Profile) (l : List ℕ) (n : ℕ) → p ≡ sample → r ≡ type_of (type_in (read_bits p.air l n)) → 1 ≤ n → n ≤ 4096 → n ≤ 8 * length l
+pub type_sample : (r : Result ℕ Stop) (p : Profile) (l : List ℕ) (n : ℕ) → p ≡ sample → r ≡ type_of (type_in (read_bits p.air l n)) → 1 ≤ n → n ≤ 4096 → n ≤ 8 * length l
     → r ≡ type_of (type_in (whole_of sample.air (bit_at l) n))
 type_sample r p l n e k some most held =
     k

@@ -1,15 +1,20 @@
 -- The shape of a line, byte by byte as the code's loops take it. Assumes nothing.
-use Rattle.std.proofs.Common.{◌≡◌, ℕ, zero, suc, ◌+◌, ◌-◌, ◌*◌, ◌%◌, ◌^◌, ◌<◌, ◌≤◌, Bool, true, false, cond, eqb, ltb, leb, List, [], ◌∷◌, length, get_or, drop, set, refl, ◌∙◌, subst, ⊎_elim, lt_of_lt_of_le, pow-suc, add-one, arith, drop_of_length-le, drop-cons, ltb-true, le-ltb, lt-ltb, le-leb, leb-true}
+use Rattle.std.proofs.Common.{◌≡◌, ℕ, Option, None, zero, suc, ◌+◌, ◌-◌, ◌*◌, ◌%◌, ◌^◌, ◌<◌, ◌≤◌, Bool, true, false, cond, eqb, ltb, leb, ◌&&◌, List, [], ◌∷◌, length, get_or, drop, set, refl, ◌∙◌, subst, ⊎_elim, lt_of_lt_of_le, pow-suc, add-one, arith, drop_of_length-le, drop-cons, ltb-true, le-ltb, lt-ltb, le-leb, leb-true}
 use native.Mathlib.Nat.{pow-le-pow_right}
 use borrow.Author.Tests.{lt-leb}
 use Rattle.bits.proofs.SetLaws.{lt_or}
 use Rattle.codec.specs.Codec.{both}
 use Rattle.codec.proofs.Good.{both_true, both_left, both_right}
 use Rattle.lines.specs.Shape.{is_digit, is_letter, hex_of, is_hex, no_bytes, no_hex, hex_then, hex_in, Line, other, line_with, after_digits, digits_then, line_of}
-use Rattle.lines.specs.Parsing.{letter_worth, no_head, Heads}
+use Rattle.lines.specs.Parsing.{letter_worth, Heads}
 use Rattle.lines.specs.declared.Head.{Head}
 
 -- ---- one byte
+
+pub both_is : (p q : Bool) → p && q ≡ both p q
+unfolding both
+both_is true q = refl
+both_is false q = refl
 
 pub digit_worth : (b : ℕ) → is_digit b ≡ true → hex_of b < 10
 unfolding hex_of is_digit
@@ -139,10 +144,8 @@ long_other l h = digits_long 0 0 l (omega arith) (omega arith)
 
 -- ---- the code's answers
 
-module _ (l : List ℕ) (r : Head) where
-  pub heads_none : r ≡ no_head → Heads r l other
-  unfolding no_head
-  heads_none e = record { is = rw e; inside = rw e (omega arith) }
+pub heads_none : (l : List ℕ) → Heads None l other
+heads_none l = record { is = refl; inside = omega arith }
 
-  pub heads_as : {m n : Line} → Heads r l m → m ≡ n → Heads r l n
-  heads_as p e = subst (λ (x : Line). Heads r l x) e p
+pub heads_as : (l : List ℕ) (r : Option Head) → {m n : Line} → Heads r l m → m ≡ n → Heads r l n
+heads_as l r p e = subst (λ (x : Line). Heads r l x) e p

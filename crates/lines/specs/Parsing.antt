@@ -1,5 +1,5 @@
 -- What the code's parts say of a line: the worth of a letter, how it begins, that it has the bytes that its bit length asks for, and the bytes decoded.
-use Rattle.std.specs.Prelude.{◌≡◌, ℕ, zero, suc, ◌+◌, ◌-◌, ◌*◌, ◌/◌, ◌%◌, ◌≤◌, Bool, true, false, cond, ◌&&◌, List, length, nat_lt, slice_index, slice_set}
+use Rattle.std.specs.Prelude.{◌≡◌, ℕ, zero, suc, ◌+◌, ◌-◌, ◌*◌, ◌/◌, ◌%◌, ◌≤◌, Option, Some, None, Bool, true, cond, ◌&&◌, List, length, nat_lt, slice_index, slice_set}
 use Rattle.lines.specs.Shape.{hex_of, is_hex, hex_at, Line, other, line_with}
 use Rattle.lines.specs.declared.Head.{Head}
 
@@ -11,16 +11,19 @@ letter_worth n = cond (nat_lt n 6) (n + 10) 16
 
 -- ---- the bit length and the space
 
-unfoldable pub no_head : Head
-no_head = record { good = false; bits = 0; next = 0 }
-
 -- what a line is that begins so
-abbrev pub headed : Head → List ℕ → Line
-headed r l = cond r.good (line_with r.bits (hex_at l r.next)) other
+abbrev pub headed : Option Head → List ℕ → Line
+headed None l = other
+headed (Some r) l = line_with r.bits (hex_at l r.next)
 
-pub record Heads (r : Head) (l : List ℕ) (line : Line) : Type 0 where
+-- where it goes on
+abbrev pub after_head : Option Head → ℕ
+after_head None = 0
+after_head (Some r) = r.next
+
+pub record Heads (r : Option Head) (l : List ℕ) (line : Line) : Type 0 where
   pub is : headed r l ≡ line
-  pub inside : r.next ≤ length l
+  pub inside : after_head r ≤ length l
 
 -- ---- the bytes
 

@@ -4,24 +4,26 @@
 // right shape has, and `said_kept` of these says what the whole line says, however long it is (proofs/KeepLaws).
 #![tactic(auto)]
 
-ghost use Rattle.std.specs.Prelude.{◌≡◌, ◌+◌, ◌*◌, ◌/◌, ◌<◌, ◌≤◌, length, take, drop};
+ghost use Rattle.std.specs.Prelude.{◌≡◌, ◌+◌, ◌*◌, ◌/◌, ◌<◌, ◌≤◌, ◌++◌, length, take, drop};
 ghost use Rattle.bits.specs.Fields.{bit_at};
 ghost use Rattle.profile.specs.Sample.{sample};
 ghost use Rattle.message.specs.Reading.{whole_of};
-ghost use Rattle.lines.specs.Shape.{is_digit, hex_of, no_hex, hex_at, line_with, after_digits, line_of};
-ghost use Rattle.lines.specs.Saying.{name_of, refused_of, digit_of, broke_at, broke_of, stop_of, answer_of, say_of, said_of, text_of};
-ghost use Rattle.lines.specs.Parsing.{letter_worth, no_head, Heads, hex_up_to, pairs_in, Enough};
+ghost use Rattle.lines.specs.Shape.{is_digit, hex_of, hex_at, line_with, after_digits, line_of};
+ghost use Rattle.lines.specs.Saying.{name_of, refused_of, digit_of, position_of, broke_of, zeros_before, stop_of, answer_of, say_of, said_of, text_of};
+ghost use Rattle.lines.specs.Parsing.{letter_worth, Heads, hex_up_to, pairs_in, Enough};
 
 use codec::Stop;
 
-// The first `len` of the bytes; the others are zero.
+// The first `len` of the bytes; the others are zero. (Fixed memory, no heap: `said` and `text_of` speak of it, and `listing` prints it.
+// Not one with `Text` of blocks: `text_of` of each crate's specs/ is of its own size.)
 #[derive(Clone, Copy)]
 pub struct Text {
     pub len: usize,
     pub bytes: [u8; 20],
 }
 
-// The first `count` of the bytes; the others are zero, and all are where it is not good.
+// The first `count` of the bytes; the others are zero, and all are where it is not good. (No Option: `hex_at` of specs/ and `script` speak
+// of this type, and its bytes are zero where it is not good.)
 #[derive(Clone, Copy)]
 pub struct Hex {
     pub good: bool,
@@ -29,10 +31,9 @@ pub struct Hex {
     pub bytes: [u8; 512],
 }
 
-// The bit length that a line begins with, and where the line goes on after the space; both are 0 where it begins in another way.
+// The bit length that a line begins with, and where the line goes on after the space.
 #[derive(Clone, Copy)]
 struct Head {
-    good: bool,
     bits: usize,
     next: usize,
 }
@@ -41,11 +42,10 @@ struct Head {
 pub fn said(line: &[u8]) -> Text
     ensures { result ≡ text_of (said_of line.now) }
 {
-    let head = head_of(line);
-    if head.good {
-        return said_after(line, head.next, head.bits);
+    match head_of(line) {
+        Some(head) => said_after(line, head.next, head.bits),
+        None => refused(3),
     }
-    refused(3)
 }
 
 // The same for a line of this bit length whose hex digits begin at a position. The bytes that they make go into a room of 64, which leaves
@@ -54,16 +54,7 @@ fn said_after(line: &[u8], from: usize, bits: usize) -> Text
     requires { from ≤ length line.now }
     ensures { result ≡ text_of (say_of (line_with bits (hex_at line.now from))) }
 {
-    if all_hex(line, from) {} else {
-        return refused(3);
-    }
-    if bits < 1 {
-        return refused(3);
-    }
-    if bits > 4096 {
-        return refused(3);
-    }
-    if (bits + 7) / 8 > (line.len() - from) / 2 {
+    if !all_hex(line, from) || bits < 1 || bits > 4096 || (bits + 7) / 8 > (line.len() - from) / 2 {
         return refused(3);
     }
     if bits > 448 {
@@ -94,18 +85,7 @@ fn said_in(line: &[u8], from: usize, bits: usize, room: &mut [u8]) -> Text
 pub fn said_kept(kept: blocks::Text) -> Text
     ensures { result ≡ text_of (said_of (take kept.len kept.bytes)) }
 {
-    let bytes = kept.bytes;
-    said_first(bytes, kept.len)
-}
-
-fn said_first(bytes: [u8; 1152], len: usize) -> Text
-    ensures { result ≡ text_of (said_of (take len bytes)) }
-{
-    let line: &[u8] = &bytes;
-    if len > 1152 {
-        return said(line);
-    }
-    said(&line[..len])
+    said(&kept.bytes[..kept.len.min(1152)])
 }
 
 // ---- what is printed
@@ -115,180 +95,51 @@ fn answered(room: &[u8], bits: usize) -> Text
     requires { (1 ≤ bits) × ((bits ≤ 4096) × (bits ≤ 8 * length room.now)) }
     ensures { result ≡ text_of (answer_of (whole_of sample.air (bit_at room.now) bits)) }
 {
-    let profile = profile::sample_profile();
-    let air = profile.air;
-    let r = reading::read_type(air, room, bits);
-    if r.found {
-        return named(r.pdu);
+    match reading::read_type(profile::sample_profile().air, room, bits) {
+        Ok(pdu) => named(pdu),
+        Err(stop) => stopped(stop),
     }
-    let stop = r.stop;
-    stopped(stop)
 }
 
 fn named(pdu: u8) -> Text
     ensures { result ≡ text_of (name_of pdu) }
 {
-    if pdu == 2 {
-        return ACTIVATE;
-    }
-    if pdu == 3 {
-        return ACTIVATE_ACK;
-    }
-    if pdu == 4 {
-        return DEACTIVATE;
-    }
-    if pdu == 5 {
-        return DEACTIVATE_ACK;
-    }
-    if pdu == 8 {
-        return INTERROGATE;
-    }
-    if pdu == 9 {
-        return INTERROGATE_ACK;
-    }
-    if pdu == 10 {
-        return INTERCEPTED;
-    }
-    if pdu == 11 {
-        return REQUEST;
-    }
-    if pdu == 12 {
-        return ACCEPT;
-    }
-    if pdu == 13 {
-        return ACCEPTED;
-    }
-    if pdu == 14 {
-        return CANCEL;
-    }
-    if pdu == 15 {
-        return DIVERT;
-    }
-    if pdu == 16 {
-        return DIVERTED;
-    }
-    if pdu == 17 {
-        return REJECT;
-    }
-    if pdu == 18 {
-        return REJECTED;
-    }
-    NO_NAME
+    text_from(name(pdu))
 }
 
-// No message that is read has such a type.
-const NO_NAME: Text = Text {
-    len: 0,
-    bytes: [0; 20],
-};
+#[tactic(auto, unfolding(crate::specs::Saying::name_of))]
+fn name(pdu: u8) -> &'static [u8]
+    ensures { (result.now ≡ name_of pdu) × (length result.now ≤ 20) }
+{
+    match pdu {
+        2 => b"ACTIVATE",
+        3 => b"ACTIVATE ACK",
+        4 => b"DEACTIVATE",
+        5 => b"DEACTIVATE ACK",
+        8 => b"INTERROGATE",
+        9 => b"INTERROGATE ACK",
+        10 => b"INTERCEPTED",
+        11 => b"REQUEST",
+        12 => b"ACCEPT",
+        13 => b"ACCEPTED",
+        14 => b"CANCEL",
+        15 => b"DIVERT",
+        16 => b"DIVERTED",
+        17 => b"REJECT",
+        18 => b"REJECTED",
+        // no message that is read has such a type
+        _ => b"",
+    }
+}
 
-const ACTIVATE: Text = Text {
-    len: 8,
-    bytes: [
-        b'A', b'C', b'T', b'I', b'V', b'A', b'T', b'E', 0, 0, 0, 0, 0, 0, 0, 0, 0, 0, 0, 0,
-    ],
-};
-
-const ACTIVATE_ACK: Text = Text {
-    len: 12,
-    bytes: [
-        b'A', b'C', b'T', b'I', b'V', b'A', b'T', b'E', b' ', b'A', b'C', b'K', 0, 0, 0, 0, 0, 0,
-        0, 0,
-    ],
-};
-
-const DEACTIVATE: Text = Text {
-    len: 10,
-    bytes: [
-        b'D', b'E', b'A', b'C', b'T', b'I', b'V', b'A', b'T', b'E', 0, 0, 0, 0, 0, 0, 0, 0, 0, 0,
-    ],
-};
-
-const DEACTIVATE_ACK: Text = Text {
-    len: 14,
-    bytes: [
-        b'D', b'E', b'A', b'C', b'T', b'I', b'V', b'A', b'T', b'E', b' ', b'A', b'C', b'K', 0, 0,
-        0, 0, 0, 0,
-    ],
-};
-
-const INTERROGATE: Text = Text {
-    len: 11,
-    bytes: [
-        b'I', b'N', b'T', b'E', b'R', b'R', b'O', b'G', b'A', b'T', b'E', 0, 0, 0, 0, 0, 0, 0, 0, 0,
-    ],
-};
-
-const INTERROGATE_ACK: Text = Text {
-    len: 15,
-    bytes: [
-        b'I', b'N', b'T', b'E', b'R', b'R', b'O', b'G', b'A', b'T', b'E', b' ', b'A', b'C', b'K',
-        0, 0, 0, 0, 0,
-    ],
-};
-
-const INTERCEPTED: Text = Text {
-    len: 11,
-    bytes: [
-        b'I', b'N', b'T', b'E', b'R', b'C', b'E', b'P', b'T', b'E', b'D', 0, 0, 0, 0, 0, 0, 0, 0, 0,
-    ],
-};
-
-const REQUEST: Text = Text {
-    len: 7,
-    bytes: [
-        b'R', b'E', b'Q', b'U', b'E', b'S', b'T', 0, 0, 0, 0, 0, 0, 0, 0, 0, 0, 0, 0, 0,
-    ],
-};
-
-const ACCEPT: Text = Text {
-    len: 6,
-    bytes: [
-        b'A', b'C', b'C', b'E', b'P', b'T', 0, 0, 0, 0, 0, 0, 0, 0, 0, 0, 0, 0, 0, 0,
-    ],
-};
-
-const ACCEPTED: Text = Text {
-    len: 8,
-    bytes: [
-        b'A', b'C', b'C', b'E', b'P', b'T', b'E', b'D', 0, 0, 0, 0, 0, 0, 0, 0, 0, 0, 0, 0,
-    ],
-};
-
-const CANCEL: Text = Text {
-    len: 6,
-    bytes: [
-        b'C', b'A', b'N', b'C', b'E', b'L', 0, 0, 0, 0, 0, 0, 0, 0, 0, 0, 0, 0, 0, 0,
-    ],
-};
-
-const DIVERT: Text = Text {
-    len: 6,
-    bytes: [
-        b'D', b'I', b'V', b'E', b'R', b'T', 0, 0, 0, 0, 0, 0, 0, 0, 0, 0, 0, 0, 0, 0,
-    ],
-};
-
-const DIVERTED: Text = Text {
-    len: 8,
-    bytes: [
-        b'D', b'I', b'V', b'E', b'R', b'T', b'E', b'D', 0, 0, 0, 0, 0, 0, 0, 0, 0, 0, 0, 0,
-    ],
-};
-
-const REJECT: Text = Text {
-    len: 6,
-    bytes: [
-        b'R', b'E', b'J', b'E', b'C', b'T', 0, 0, 0, 0, 0, 0, 0, 0, 0, 0, 0, 0, 0, 0,
-    ],
-};
-
-const REJECTED: Text = Text {
-    len: 8,
-    bytes: [
-        b'R', b'E', b'J', b'E', b'C', b'T', b'E', b'D', 0, 0, 0, 0, 0, 0, 0, 0, 0, 0, 0, 0,
-    ],
-};
+fn text_from(bytes: &[u8]) -> Text
+    requires { length bytes.now ≤ 20 }
+    ensures { result ≡ text_of bytes.now }
+{
+    let mut room = [0; 20];
+    let len = blocks::put(&mut room, 0, bytes);
+    Text { len, bytes: room }
+}
 
 // A refusal; with a 4 the position where the element that did not fit begins.
 fn stopped(stop: Stop) -> Text
@@ -303,118 +154,44 @@ fn stopped(stop: Stop) -> Text
 fn refused(number: u8) -> Text
     ensures { result ≡ text_of (refused_of number) }
 {
-    if number < 10 {
-        return Text {
-            len: 9,
-            bytes: [
-                b'r',
-                b'e',
-                b'f',
-                b'u',
-                b's',
-                b'e',
-                b'd',
-                b' ',
-                48 + number,
-                0,
-                0,
-                0,
-                0,
-                0,
-                0,
-                0,
-                0,
-                0,
-                0,
-                0,
-            ],
-        };
-    }
-    if number < 100 {
-        return Text {
-            len: 10,
-            bytes: [
-                b'r',
-                b'e',
-                b'f',
-                b'u',
-                b's',
-                b'e',
-                b'd',
-                b' ',
-                48 + number / 10,
-                48 + number % 10,
-                0,
-                0,
-                0,
-                0,
-                0,
-                0,
-                0,
-                0,
-                0,
-                0,
-            ],
-        };
-    }
-    Text {
-        len: 11,
-        bytes: [
-            b'r',
-            b'e',
-            b'f',
-            b'u',
-            b's',
-            b'e',
-            b'd',
-            b' ',
-            48 + number / 100,
-            48 + number / 10 % 10,
-            48 + number % 10,
-            0,
-            0,
-            0,
-            0,
-            0,
-            0,
-            0,
-            0,
-            0,
-        ],
-    }
+    numbered(b"refused ", usize::from(number))
 }
 
 fn broke(at: usize) -> Text
     ensures { result ≡ text_of (broke_of at) }
 {
-    if at < 10 {
-        return broke_at(14, digit(at), 0, 0, 0);
-    }
-    if at < 100 {
-        return broke_at(15, digit(at / 10), digit(at), 0, 0);
-    }
-    if at < 1000 {
-        return broke_at(16, digit(at / 100), digit(at / 10), digit(at), 0);
-    }
-    broke_at(
-        17,
-        digit(at / 1000),
-        digit(at / 100),
-        digit(at / 10),
-        digit(at),
-    )
+    numbered(b"refused 4 at ", at)
 }
 
-// The text of `len` bytes with these digits; 0 for each that it has not.
-fn broke_at(len: usize, a: u8, b: u8, c: u8, d: u8) -> Text
-    ensures { result ≡ broke_at len a b c d }
+// These words and the last four digits of a number, without zeros before it. By hand: no heap, and a text of twenty bytes (`text_of`).
+fn numbered(words: &[u8], number: usize) -> Text
+    requires { length words.now ≤ 16 }
+    ensures { result ≡ text_of (words.now ++ position_of number) }
 {
-    Text {
-        len: len,
-        bytes: [
-            b'r', b'e', b'f', b'u', b's', b'e', b'd', b' ', b'4', b' ', b'a', b't', b' ', a, b, c,
-            d, 0, 0, 0,
-        ],
+    let digits = [
+        digit(number / 1000),
+        digit(number / 100),
+        digit(number / 10),
+        digit(number),
+    ];
+    let mut bytes = [0; 20];
+    let at = blocks::put(&mut bytes, 0, words);
+    let len = blocks::put(&mut bytes, at, &digits[zeros_before(number)..]);
+    Text { len, bytes }
+}
+
+// How many of four digits stand before the first that a number has.
+fn zeros_before(number: usize) -> usize
+    ensures { result ≡ zeros_before number }
+{
+    if number >= 1000 {
+        0
+    } else if number >= 100 {
+        1
+    } else if number >= 10 {
+        2
+    } else {
+        3
     }
 }
 
@@ -422,57 +199,41 @@ fn broke_at(len: usize, a: u8, b: u8, c: u8, d: u8) -> Text
 fn digit(n: usize) -> u8
     ensures { result ≡ digit_of n }
 {
-    (n % 10) as u8 + 48
+    (n % 10) as u8 + b'0'
 }
 
 // ---- the shape of a line
 
 // The bit length, up to the first byte that is no digit.
-fn head_of(line: &[u8]) -> Head
+fn head_of(line: &[u8]) -> Option<Head>
     ensures { Heads result line.now (line_of line.now) }
 {
-    let mut bits: usize = 0;
-    let mut i: usize = 0;
-    while i < line.len() {
+    let mut bits = 0;
+    for i in 0..line.len() {
         let b = line[i];
-        if is_digit(b) {} else {
+        if !is_digit(b) {
             return after_digits(line, i, bits, b);
         }
         if i >= 4 {
-            return no_head();
+            return None;
         }
-        bits = bits * 10 + hex_digit(b) as usize;
-        i += 1;
+        bits = bits * 10 + usize::from(hex_digit(b));
     }
-    no_head()
+    None
 }
 
 // One space after the first digit.
-fn after_digits(line: &[u8], seen: usize, bits: usize, b: u8) -> Head
+fn after_digits(line: &[u8], seen: usize, bits: usize, b: u8) -> Option<Head>
     requires { seen < length line.now }
     ensures { Heads result line.now (after_digits seen bits b (drop (seen + 1) line.now)) }
 {
-    if b == 32 {
-        if seen < 1 {
-            return no_head();
-        }
-        return Head {
-            good: true,
-            bits: bits,
-            next: seen + 1,
-        };
+    if b != b' ' || seen < 1 {
+        return None;
     }
-    no_head()
-}
-
-fn no_head() -> Head
-    ensures { result ≡ no_head }
-{
-    Head {
-        good: false,
-        bits: 0,
-        next: 0,
-    }
+    Some(Head {
+        bits,
+        next: seen + 1,
+    })
 }
 
 // Pairs of upper-case hex digits from a position to the end, at most 512; not good where anything else stands there.
@@ -484,33 +245,36 @@ pub fn hex_at(line: &[u8], from: usize) -> Hex
         return Hex {
             good: true,
             count: 0,
-            bytes: bytes,
+            bytes,
         };
     }
-    if all_hex(line, from) {
-        let count = (line.len() - from) / 2;
-        decode(line, from, count, &mut bytes);
+    if !all_hex(line, from) {
         return Hex {
-            good: true,
-            count: count,
-            bytes: bytes,
+            good: false,
+            count: 0,
+            bytes,
         };
     }
-    no_hex()
+    let count = (line.len() - from) / 2;
+    decode(line, from, count, &mut bytes);
+    Hex {
+        good: true,
+        count,
+        bytes,
+    }
 }
 
 // Whether only hex digits stand from a position to the end, an even number and at most 1,024.
+#[tactic(auto, using(crate::proofs::HexLaws::all_hex_laws))]
 fn all_hex(line: &[u8], from: usize) -> bool
     requires { from ≤ length line.now }
     ensures { result ≡ (hex_at line.now from).good }
 {
     let n = line.len() - from;
-    if n % 2 == 0 {
-        if n <= 1024 {
-            return each_hex(line, from, n);
-        }
+    if n % 2 != 0 || n > 1024 {
+        return false;
     }
-    false
+    each_hex(line, from, n)
 }
 
 // Whether `count` bytes from a position on are hex digits. It looks at each, and leaves off at none: so the compiler can take many at a
@@ -520,10 +284,8 @@ fn each_hex(line: &[u8], from: usize, count: usize) -> bool
     ensures { result ≡ hex_up_to line.now from count }
 {
     let mut good = true;
-    let mut i: usize = 0;
-    while i < count {
-        good = good & (hex_digit(line[from + i]) < 16);
-        i += 1;
+    for i in 0..count {
+        good &= hex_digit(line[from + i]) < 16;
     }
     good
 }
@@ -533,51 +295,35 @@ fn decode(line: &[u8], from: usize, count: usize, room: &mut [u8])
     requires { (from + 2 * count ≤ length line.now) × (count ≤ length room.old) }
     ensures { room.new ≡ pairs_in room.old line.now from count }
 {
-    let mut k: usize = 0;
-    while k < count {
+    for k in 0..count {
         let x = hex_digit(line[from + 2 * k]);
         let y = hex_digit(line[from + 2 * k + 1]);
         room[k] = x % 16 * 16 + y % 16;
-        k += 1;
     }
 }
 
-fn no_hex() -> Hex
-    ensures { result ≡ no_hex }
-{
-    Hex {
-        good: false,
-        count: 0,
-        bytes: [0; 512],
-    }
-}
-
+#[tactic(auto, using(crate::proofs::ShapeLaws::both_is), unfolding(crate::specs::Shape::is_digit))]
 pub fn is_digit(b: u8) -> bool
     ensures { result ≡ is_digit b }
 {
-    if b < 48 {
-        return false;
-    }
-    b <= 57
+    b.is_ascii_digit()
 }
 
-// The worth of a hex digit, or 16. Digits and letters take one test each, since a byte below a range wraps round to above it.
+// The worth of a hex digit, or 16 (and no Option, as `hex_of` of specs/ has it: `each_hex` compares many at a time). Digits and letters take one test each, since a byte below a range wraps round to above it. (A match on
+// their ranges takes two: tried, some 100 instructions more for a line.)
 pub fn hex_digit(b: u8) -> u8
     ensures { result ≡ hex_of b }
 {
-    let past = std::num::wrapping_sub_u8(b, 48);
+    let past = b.wrapping_sub(b'0');
     if past < 10 {
         return past;
     }
-    letter_worth(std::num::wrapping_sub_u8(b, 65))
+    letter_worth(b.wrapping_sub(b'A'))
 }
 
 // The worth of the hex digit that stands so far past A, or 16.
 fn letter_worth(past: u8) -> u8
     ensures { result ≡ letter_worth past }
 {
-    if past < 6 {
-        return past + 10;
-    }
-    16
+    if past < 6 { past + 10 } else { 16 }
 }

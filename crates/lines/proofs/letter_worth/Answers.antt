@@ -6,6 +6,6 @@ pub returns-then-past-lt6 : goal.returns-then-past-lt6
 unfolding letter_worth
 returns-then-past-lt6 c = rw (lt-ltb c.args.past 6 (search rules))
 
-pub returns : goal.returns
+pub returns-else-past-lt6 : goal.returns-else-past-lt6
 unfolding letter_worth
-returns c = rw (le-ltb c.args.past 6 (search rules))
+returns-else-past-lt6 c = rw (le-ltb c.args.past 6 (search rules))
