@@ -1,11 +1,13 @@
 -- What `cad_read`, `cad_read_at` and `cad_write` answer and leave at each of their returns. Assumes nothing.
 use Rattle.std.proofs.Common.{◌≡◌, ℕ, ◌<◌, ◌≤◌, Bool, true, false, cond, leb, List, length, get_or, drop, replicate, sym, refl, ap, ◌∙◌, subst, arith, eq-eqb, ne_eqb, le-leb}
+use Rattle.std.specs.Prelude.{Result, Ok, Err, Option, IfSome}
+use Rattle.std.specs.Result.{result_err}
 use lib.Seq.{sets}
 use borrow.Author.Tests.{lt-leb}
 use Rattle.codec.specs.Stops.{refusal, no_stop}
 use Rattle.codec.specs.declared.Stop.{Stop}
 use Rattle.codec.specs.Codec.{Read, got, no, both}
-use Rattle.codec.proofs.Good.{not_both, both_right}
+use Rattle.codec.proofs.Good.{both_right}
 use Rattle.profile.specs.Rules.{profile_ok}
 use Rattle.profile.specs.declared.Profile.{Profile}
 use Rattle.message.specs.Reading.{read_bits, read_of}
@@ -13,10 +15,7 @@ use Rattle.message.specs.declared.Value.{Value}
 use Rattle.message.proofs.BreakLaws.{position_most}
 use Rattle.reading.specs.Answers.{reading_of}
 use Rattle.reading.specs.Walks.{type_in, type_of}
-use Rattle.reading.specs.declared.Reading.{Reading}
-use Rattle.reading.specs.declared.TypeRead.{TypeRead}
 use Rattle.writing.specs.Writing.{Write, laid, refused, write_of, written_of, area_of}
-use Rattle.writing.specs.declared.Written.{Written}
 use Rattle.validity.specs.Validity.{valid_of}
 use Rattle.writing.proofs.RoundTrips.{read_valid}
 use Rattle.layouts.specs.Profiles.{air_from, is_profile, passes, profile_from}
@@ -32,22 +31,23 @@ use Rattle.console.specs.Console.{room_for, cad_read, Refused, read_number, read
 abbrev ReadLeaves : Stop → List ℕ → List ℕ → Read Value → Type 0
 ReadLeaves s l a x = (s ≡ read_stop x) × (a ≡ read_area l x)
 
-module _ (l : List ℕ) (r : Reading) where
-  found_short : (x : Read Value) → r ≡ reading_of x → r.found ≡ true → length l < value_size → ReadLeaves (refusal 14) l l (room_for (length l) x)
+module _ (l : List ℕ) where
+  found_short : (x : Read Value) (v : Value) → reading_of x ≡ Ok v → length l < value_size → ReadLeaves (refusal 14) l l (room_for (length l) x)
   unfolding reading_of room_for read_stop read_area
-  found_short (got v q) e f h = rw (lt-leb value_size (length l) h) (refl, refl)
-  found_short (no s) e f h = not_both (sym (ap (λ (y : Reading). y.found) e) ∙ f)
+  found_short (got u q) v e h = rw (lt-leb value_size (length l) h) (refl, refl)
+  found_short (no s) v e h = let z : ◌≡◌ {A = ℕ} 0 1 = cc in absurd (omega arith)
 
-  found_room : (x : Read Value) → r ≡ reading_of x → r.found ≡ true → value_size ≤ length l → (a : List ℕ) → a ≡ sets l 0 (value_bytes r.value)
+  found_room : (x : Read Value) (v : Value) → reading_of x ≡ Ok v → value_size ≤ length l → (a : List ℕ) → a ≡ sets l 0 (value_bytes v)
       → ReadLeaves no_stop l a (room_for (length l) x)
   unfolding reading_of room_for read_stop read_area
-  found_room (got v q) e f h a w = rw (le-leb value_size (length l) h) (refl, w ∙ ap (λ (y : Reading). sets l 0 (value_bytes y.value)) e)
-  found_room (no s) e f h a w = not_both (sym (ap (λ (y : Reading). y.found) e) ∙ f)
+  found_room (got u q) v e h a w =
+      let z : v ≡ u = cc in rw (le-leb value_size (length l) h) (refl, w ∙ ap (λ (y : Value). sets l 0 (value_bytes y)) z)
+  found_room (no s) v e h a w = let z : ◌≡◌ {A = ℕ} 0 1 = cc in absurd (omega arith)
 
-  found_not : (x : Read Value) → r ≡ reading_of x → r.found ≡ false → ReadLeaves r.stop l l (room_for (length l) x)
+  found_not : (x : Read Value) (s : Stop) → reading_of x ≡ Err s → ReadLeaves s l l (room_for (length l) x)
   unfolding reading_of room_for read_stop read_area
-  found_not (got v q) e f = not_both (sym f ∙ ap (λ (y : Reading). y.found) e)
-  found_not (no s) e f = (ap (λ (y : Reading). y.stop) e, refl)
+  found_not (got u q) s e = let z : ◌≡◌ {A = ℕ} 0 1 = cc in absurd (omega arith)
+  found_not (no t) s e = let z : s ≡ t = cc in (z, refl)
 
 module _ (profile message : List ℕ) (n : ℕ) (l : List ℕ) where
   -- by the contract of `read_into`
@@ -69,21 +69,21 @@ module _ (profile message : List ℕ) (n : ℕ) (l : List ℕ) where
   unfolding cad_read_stop cad_read_area cad_read passes both read_stop read_area
   read_1 e = rw e (refl, refl)
 
-  module _ (ok : is_profile profile ≡ true) (p : Profile) (is : p ≡ profile_from profile) (r : Reading) (said : r ≡ reading_of (read_of p message n)) where
-    same : reading_of (read_of p message n) ≡ reading_of (read_of (profile_from profile) message n)
-    same = ap (λ (x : Profile). reading_of (read_of x message n)) is
+  module _ (ok : is_profile profile ≡ true) (p : Profile) (is : p ≡ profile_from profile) (r : Result Value Stop) (said : r ≡ reading_of (read_of p message n)) where
+    same : reading_of (read_of (profile_from profile) message n) ≡ r
+    same = sym (said ∙ ap (λ (x : Profile). reading_of (read_of x message n)) is)
 
-    pub read_14 : r.found ≡ true → length l < value_size → CadStop (refusal 14) l
+    pub read_14 : (v : Value) → r ≡ Ok v → length l < value_size → CadStop (refusal 14) l
     unfolding cad_read_stop cad_read_area
-    read_14 f h = rw (by_shape ok) (found_short l r (read_of (profile_from profile) message n) (said ∙ same) f h)
+    read_14 v f h = rw (by_shape ok) (found_short l (read_of (profile_from profile) message n) v (same ∙ f) h)
 
-    pub read_0 : r.found ≡ true → value_size ≤ length l → (a : List ℕ) → a ≡ sets l 0 (value_bytes r.value) → CadStop no_stop a
+    pub read_0 : (v : Value) → r ≡ Ok v → value_size ≤ length l → (a : List ℕ) → a ≡ sets l 0 (value_bytes v) → CadStop no_stop a
     unfolding cad_read_stop cad_read_area
-    read_0 f h a w = rw (by_shape ok) (found_room l r (read_of (profile_from profile) message n) (said ∙ same) f h a w)
+    read_0 v f h a w = rw (by_shape ok) (found_room l (read_of (profile_from profile) message n) v (same ∙ f) h a w)
 
-    pub read_no : r.found ≡ false → CadStop r.stop l
+    pub read_no : (s : Stop) → r ≡ Err s → CadStop s l
     unfolding cad_read_stop cad_read_area
-    read_no f = rw (by_shape ok) (found_not l r (read_of (profile_from profile) message n) (said ∙ same) f)
+    read_no s f = rw (by_shape ok) (found_not l (read_of (profile_from profile) message n) s (same ∙ f))
 
   -- ---- what was laid as it was read
 
@@ -97,19 +97,23 @@ module _ (profile message : List ℕ) (n : ℕ) (l : List ℕ) where
   unfolding cad_read_stop cad_read_area read_stop read_area
   refused_leaves s h = rw (h (length l)) (refl, refl)
 
-  pub none_refused : (s : Stop) → s ≡ no_stop → (s.number ≡ 0 → ⊥) → Refused profile message n s
-  unfolding no_stop
-  none_refused s e h = absurd (h (ap (λ (y : Stop). y.number) e))
+  module _ (ok : passes profile ≡ true) (t : Stop) (said : type_of (type_in (read_bits (air_from profile) message n)) ≡ Err t) where
+    stopped : (x : Read Value) → type_of (type_in x) ≡ Err t → (k : ℕ) → room_for k x ≡ no t
+    unfolding type_of room_for
+    stopped (got v p) e k = let z : ◌≡◌ {A = ℕ} 0 1 = cc in absurd (omega arith)
+    stopped (no s) e k = let z : s ≡ t = cc in ap (λ (y : Stop). no y) z
 
-  module _ (ok : passes profile ≡ true) (t : TypeRead) (said : t ≡ type_of (type_in (read_bits (air_from profile) message n))) (h : t.stop.number ≡ 0 → ⊥) where
-    stopped : (x : Read Value) → t ≡ type_of (type_in x) → (k : ℕ) → room_for k x ≡ no t.stop
-    unfolding type_of room_for no_stop
-    stopped (got v p) e k = absurd (h (ap (λ (y : TypeRead). y.stop.number) e))
-    stopped (no s) e k = ap (λ (y : TypeRead). no y.stop) (sym e)
-
-    pub walk_refused : Refused profile message n t.stop
+    walk_refused : Refused profile message n t
     unfolding cad_read
     walk_refused k = rw (ok, by_passes ok) (stopped (read_bits (air_from profile) message n) said k)
+
+  pub err_refused : passes profile ≡ true → (r : Result ℕ Stop) → type_of (type_in (read_bits (air_from profile) message n)) ≡ r → (o : Option Stop) → o ≡ result_err r
+      → IfSome o (λ s. Refused profile message n s)
+  err_refused ok r said o e = rw e (go r said)
+    where
+      go : (r : Result ℕ Stop) → type_of (type_in (read_bits (air_from profile) message n)) ≡ r → IfSome (result_err r) (λ s. Refused profile message n s)
+      go (Ok t) said = tt
+      go (Err s) said = walk_refused ok s said
 
   module _ (ok : passes profile ≡ true) (area : List ℕ) (x : Reads (air_from profile) message n area) where
     found_so : read_of (profile_from profile) message n ≡ got x.value n
@@ -121,10 +125,7 @@ module _ (profile message : List ℕ) (n : ℕ) (l : List ℕ) where
 
     valid_so : valid_of (air_from profile) x.value ≡ true
     unfolding reading_of profile_from
-    valid_so =
-        let r = reading_of (read_of (profile_from profile) message n) in
-        let there : r ≡ reading_of (got x.value n) = ap (λ (y : Read Value). reading_of y) found_so in
-        subst (λ (v : Value). valid_of (air_from profile) v ≡ true) (ap (λ (y : Reading). y.value) there) (read_valid (profile_from profile) message n r refl (ap (λ (y : Reading). y.found) there))
+    valid_so = read_valid (profile_from profile) message n (reading_of (read_of (profile_from profile) message n)) x.value refl (ap (λ (y : Read Value). reading_of y) found_so)
 
     type_there : get_or area 0 0 ≡ x.value.pdu
     unfolding value_bytes
@@ -149,6 +150,10 @@ module _ (profile message : List ℕ) (n : ℕ) (l : List ℕ) where
   pub read_number_lem : (s : Stop) → s ≡ cad_read_stop profile message n l → s.number ≡ cad_read_of profile message n l
   unfolding cad_read_stop cad_read_of
   read_number_lem s e = ap (λ (t : Stop). t.number) e ∙ number_of (cad_read profile message n (length l))
+
+  pub laid_number : no_stop ≡ cad_read_stop profile message n l → 0 ≡ cad_read_of profile message n l
+  unfolding no_stop
+  laid_number e = read_number_lem no_stop e
 
   plain_low : (c : ℕ) → (refusal c).at ≤ 4096
   unfolding refusal
@@ -194,22 +199,31 @@ module _ (profile message : List ℕ) (n : ℕ) (l : List ℕ) where
     unfolding cad_read_element tells
     left_element other x = rw (← e, ne_eqb s.number 4 other)
 
+  module _ (e : no_stop ≡ cad_read_stop profile message n l) (x : ℕ) where
+    pub laid_position : x ≡ cad_read_position profile message n l x
+    unfolding no_stop
+    laid_position = left_position no_stop e (λ z. absurd (omega (arith, z))) x
+
+    pub laid_element : x ≡ cad_read_element profile message n l x
+    unfolding no_stop
+    laid_element = left_element no_stop e (λ z. absurd (omega (arith, z))) x
+
 -- ---- writing
 
 -- the answer c, the area a and the length b afterwards, where l and b₀ stood, are those of a writing x
 abbrev pub WriteLeaves : ℕ → List ℕ → List ℕ → ℕ → ℕ → Write → Type 0
 WriteLeaves c l a b₀ b x = (c ≡ write_number x) × ((a ≡ area_of l x) × (b ≡ write_bits b₀ x))
 
-module _ (l a : List ℕ) (b : ℕ) (w : Written) where
-  pub done_leaves : (x : Write) → w ≡ written_of x → a ≡ area_of l x → w.done ≡ true → WriteLeaves 0 l a b w.bits x
+module _ (l a : List ℕ) (b : ℕ) (w : Result ℕ Stop) where
+  pub done_leaves : (x : Write) (k : ℕ) → w ≡ written_of x → a ≡ area_of l x → w ≡ Ok k → WriteLeaves 0 l a b k x
   unfolding written_of write_number write_bits
-  done_leaves (laid m n) e h d = (refl, (h, ap (λ (y : Written). y.bits) e))
-  done_leaves (refused s) e h d = not_both (sym (ap (λ (y : Written). y.done) e) ∙ d)
+  done_leaves (laid m n) k e h d = let z : k ≡ n = cc in (refl, (h, z))
+  done_leaves (refused s) k e h d = let z : ◌≡◌ {A = ℕ} 0 1 = cc in absurd (omega arith)
 
-  not_leaves : (x : Write) → w ≡ written_of x → a ≡ area_of l x → w.done ≡ false → WriteLeaves w.stop.number l a b b x
+  not_leaves : (x : Write) (t : Stop) → w ≡ written_of x → a ≡ area_of l x → w ≡ Err t → WriteLeaves t.number l a b b x
   unfolding written_of write_number write_bits
-  not_leaves (laid m n) e h d = not_both (sym d ∙ ap (λ (y : Written). y.done) e)
-  not_leaves (refused s) e h d = (ap (λ (y : Written). y.stop.number) e, (h, refl))
+  not_leaves (laid m n) t e h d = let z : ◌≡◌ {A = ℕ} 0 1 = cc in absurd (omega arith)
+  not_leaves (refused s) t e h d = let z : t ≡ s = cc in (ap (λ (y : Stop). y.number) z, (h, refl))
 
 module _ (profile value l : List ℕ) (b₀ : ℕ) where
   -- by the contract of `cad_write`
@@ -225,16 +239,16 @@ module _ (profile value l : List ℕ) (b₀ : ℕ) where
   write_22 e f = rw (e, f) (refl, (refl, refl))
 
   module _ (ok : passes profile ≡ true) (shape : is_value value ≡ true) (p : Profile) (is : p ≡ profile_from profile) (v : Value) (are : v ≡ value_from value)
-      (w : Written) (a : List ℕ) (said : (w ≡ written_of (write_of p v l 0)) × (a ≡ area_of l (write_of p v l 0))) where
+      (w : Result ℕ Stop) (a : List ℕ) (said : (w ≡ written_of (write_of p v l 0)) × (a ≡ area_of l (write_of p v l 0))) where
     same_write : write_of p v l 0 ≡ write_of (profile_from profile) (value_from value) l 0
     same_write = ap (λ (x : Profile). write_of x v l 0) is ∙ ap (λ (x : Value). write_of (profile_from profile) x l 0) are
 
-    pub write_0 : w.done ≡ true → CadWrite 0 a w.bits
+    pub write_0 : (k : ℕ) → w ≡ Ok k → CadWrite 0 a k
     unfolding cad_write_of cad_write_area cad_write_bits cad_write
-    write_0 d =
-        rw (ok, shape) (done_leaves l a b₀ w _ (said.0 ∙ ap (λ (x : Write). written_of x) same_write) (said.1 ∙ ap (λ (x : Write). area_of l x) same_write) d)
+    write_0 k d =
+        rw (ok, shape) (done_leaves l a b₀ w _ k (said.0 ∙ ap (λ (x : Write). written_of x) same_write) (said.1 ∙ ap (λ (x : Write). area_of l x) same_write) d)
 
-    pub write_no : w.done ≡ false → CadWrite w.stop.number a b₀
+    pub write_no : (t : Stop) → w ≡ Err t → CadWrite t.number a b₀
     unfolding cad_write_of cad_write_area cad_write_bits cad_write
-    write_no d =
-        rw (ok, shape) (not_leaves l a b₀ w _ (said.0 ∙ ap (λ (x : Write). written_of x) same_write) (said.1 ∙ ap (λ (x : Write). area_of l x) same_write) d)
+    write_no t d =
+        rw (ok, shape) (not_leaves l a b₀ w _ t (said.0 ∙ ap (λ (x : Write). written_of x) same_write) (said.1 ∙ ap (λ (x : Write). area_of l x) same_write) d)

@@ -1,6 +1,6 @@
 -- A message that was drawn is what `cad_write` lays, if it is read back as the value's bytes, has zeros in its spare bits, and finds room:
 -- the round trip says which bits are laid, and the bytes that hold them are copied. Assumes nothing.
-use Rattle.std.proofs.Common.{◌≡◌, ℕ, zero, suc, ◌+◌, ◌-◌, ◌*◌, ◌/◌, ◌%◌, ◌^◌, ◌<◌, ◌≤◌, Bool, true, false, ◌&&◌, eqb, List, [], ◌∷◌, ◌++◌, length, get_or, take, set, sym, refl, ap, ◌∙◌, subst, inr, ⊎_elim, arith, length-append, length-set, take_all, get_or-set_other, get_or-set_same, ext_get_or, pow_pos, eqb-true}
+use Rattle.std.proofs.Common.{◌≡◌, ℕ, zero, suc, ◌+◌, ◌-◌, ◌*◌, ◌/◌, ◌%◌, ◌^◌, ◌<◌, ◌≤◌, Bool, true, false, ◌&&◌, eqb, List, [], ◌∷◌, ◌++◌, length, get_or, take, set, sym, refl, ap, ◌∙◌, subst, inr, ⊎_elim, arith, length-append, take_all, get_or-set_same, ext_get_or, pow_pos, eqb-true}
 use native.Mathlib.Nat.{zero-div}
 use lib.Pow.{low, field, shl-shr}
 use lib.Seq.{set_out}
@@ -18,13 +18,15 @@ use Rattle.message.specs.declared.Value.{Value}
 use Rattle.message.proofs.MessageLaws.{good_message}
 use Rattle.profile.specs.declared.Profile.{Profile}
 use Rattle.validity.specs.Validity.{valid_of}
+use Rattle.std.specs.Prelude.{Result, Ok, Err, is_err, ⊤}
+use Rattle.std.specs.Result.{is_ok}
 use Rattle.writing.specs.Writing.{Write, laid, refused, bits_of, bytes_for, padded, lay_of, write_of, written_of, area_of}
 use Rattle.writing.proofs.RoundTrips.{Can, can_write, wrote_can, laid_length}
 use Rattle.layouts.specs.Profiles.{profile_from}
 use Rattle.layouts.specs.Values.{value_size, value_from}
-use Rattle.console.specs.Console.{cad_read_area, cad_read_stop, cad_write, cad_write_of, cad_write_area, cad_write_bits, write_number, write_bits}
+use Rattle.console.specs.Console.{stop_of, cad_read_area, cad_read_stop, cad_write, cad_write_of, cad_write_area, cad_write_bits, write_number, write_bits}
 use Rattle.console.specs.Drawing.{Alike, Copied, ReadsBack, Drawn}
-use Rattle.console.proofs.CallLaws.{CadWrite, read_number_lem}
+use Rattle.console.proofs.CallLaws.{CadWrite, laid_number}
 use Rattle.console.proofs.RoundTrips.{c_read_write, Went, went_laid, went}
 
 -- ---- bytes, and the bits in them
@@ -80,7 +82,7 @@ spare_bits l at h e =
     let top : x * 2 ^ k / 2 ^ k % 2 ^ j ≡ 0 = sym (field (x * 2 ^ k) j k) ∙ ap (λ (y : ℕ). y / 2 ^ k) gone ∙ zero-div (2 ^ k) in
     sym rest ∙ ap (λ (y : ℕ). y % 2 ^ j) (sym (shl-shr x k)) ∙ top
 
--- ---- bytes that are compared, and bytes that are copied
+-- ---- bytes that are compared
 
 pub alike_none : (a b : List ℕ) (from : ℕ) → Alike a b from from
 alike_none a b from j h k = absurd (omega arith)
@@ -96,23 +98,6 @@ alike_end a b from i to h e j g k = h j g (omega arith)
 pub alike_all : (a b : List ℕ) (m n : ℕ) → Alike a b 0 m → Alike a b m n → length a ≡ n → length b ≡ n → (a ≡ b) × (length a ≡ n)
 alike_all a b m n h k ea eb =
     (ext_get_or 0 a b (ea ∙ sym eb) (λ j x. ⊎_elim (λ (y : j < m). h j (omega arith) y) (λ (y : m ≤ j). k j y (omega arith)) (lt_or j m)), ea)
-
-pub copied_none : (l from : List ℕ) → Copied l from 0 l
-copied_none l from = record { long = refl; front = λ j h. absurd (omega arith); bytes = λ j h. absurd (omega arith); rest = λ j h. refl }
-
-pub copied_more : (l from m : List ℕ) (i : ℕ) → Copied l from i m → i < length m → get_or from i 0 < 256 → Copied l from (i + 1) (set m i (get_or from i 0))
-copied_more l from m i c h small =
-    record {
-      long = length-set m i (get_or from i 0) ∙ c.long;
-      front =
-          λ j k.
-          ⊎_elim (λ (e : j ≡ i). rw (e, get_or-set_same m i (get_or from i 0) 0 h)) (λ n. get_or-set_other m i j (get_or from i 0) 0 n ∙ c.front j (below j k n)) (eq_or j i);
-      bytes = λ j k. ⊎_elim (λ (e : j ≡ i). rw e small) (λ n. c.bytes j (below j k n)) (eq_or j i);
-      rest = λ j k. get_or-set_other m i j (get_or from i 0) 0 (λ e. omega arith) ∙ c.rest j (omega arith);
-    }
-  where
-    below : (j : ℕ) → j < i + 1 → (j ≡ i → ⊥) → j < i
-    below j k n = omega arith
 
 -- ---- what is laid, byte by byte
 
@@ -181,7 +166,7 @@ module _ (profile value l from : List ℕ) (n : ℕ) (back : ReadsBack profile v
     by_laid : (a : List ℕ) (k : ℕ) → write_of p v l 0 ≡ laid a k → k ≡ n → Agree (bit_at a) (bit_at from) n → laid a k ≡ laid m n
     unfolding written_of bits_of valid_of area_of write_bits
     by_laid a k e kn agree =
-        let can : Can p v l 0 = wrote_can p v l 0 (ap (λ (x : Write). (written_of x).done) e) in
+        let can : Can p v l 0 = wrote_can p v l 0 (ap (λ (x : Write). is_ok (written_of x)) e) in
         let bs = bits_of p.air v in
         let same : laid a k ≡ laid (lay_of l 0 bs) (length bs) = sym e ∙ can_write p v l 0 can in
         let ea : a ≡ lay_of l 0 bs = ap (λ (x : Write). area_of l x) same in
@@ -208,12 +193,13 @@ module _ (profile value l from : List ℕ) (n : ℕ) (back : ReadsBack profile v
         go (refused s) e c = let z : suc n ≡ n = sym (ap (λ (x : Write). write_bits (suc n) x) e) ∙ (trip (suc n)).1.0 in absurd (omega arith)
 
 -- what was read into an area and stands there as the value's bytes
-pub reads_back : (profile value message : List ℕ) (n : ℕ) (old new : List ℕ) (s : Stop) → s ≡ cad_read_stop profile message n old
-    → new ≡ cad_read_area profile message n old → s.number ≡ 0 → (value ≡ new) × (length value ≡ value_size) → ReadsBack profile value message n
-reads_back profile value message n old new s e a z same =
+pub reads_back : (profile value message : List ℕ) (n : ℕ) (old new : List ℕ) (r : Result ⊤ Stop) → stop_of r ≡ cad_read_stop profile message n old
+    → new ≡ cad_read_area profile message n old → is_err r ≡ false → (value ≡ new) × (length value ≡ value_size) → ReadsBack profile value message n
+reads_back profile value message n old new (Err s) e a z same = not_both (sym z)
+reads_back profile value message n old new (Ok done) e a z same =
     record {
       area = old;
-      read = sym (read_number_lem profile message n old s e) ∙ z;
+      read = sym (laid_number profile message n old e);
       bytes = ap (λ (x : List ℕ). take value_size x) (sym (same.0 ∙ a)) ∙ take_all value_size value (omega (arith, same.1));
     }
 

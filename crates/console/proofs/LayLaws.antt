@@ -1,7 +1,10 @@
 -- What the functions go by that lay a message as it is read. Assumes nothing.
-use Rattle.std.proofs.Common.{◌≡◌, ℕ, zero, suc, ◌+◌, ◌-◌, ◌*◌, ◌/◌, ◌%◌, ◌^◌, ◌<◌, ◌≤◌, min, Bool, true, false, eqb, leb, List, [], ◌∷◌, length, get_or, take, drop, set, replicate, sym, refl, ap, ◌∙◌, subst, mod-eq_of_lt, zero-mul, add-one, arith, length-set, take-append-drop, length-take-le, get_or-drop, take_all, take-suc, drop-drop, shl_lt, shr-shr, eq-eqb, ne_eqb, eqb-true, le-leb, leb-false, leb-true}
+use Rattle.std.proofs.Common.{◌≡◌, ℕ, zero, suc, ◌+◌, ◌-◌, ◌*◌, ◌/◌, ◌%◌, ◌^◌, ◌<◌, ◌≤◌, min, Bool, true, false, ◌&&◌, eqb, leb, List, ◌++◌, length, get_or, take, drop, set, replicate, sym, refl, ap, ◌∙◌, subst, mod-eq_of_lt, zero-mul, arith, length-set, take-append-drop, length-take-le, length-drop, get_or-drop, take_all, drop-drop, shl_lt, shr-shr, eq-eqb, ne_eqb, eqb-true, le-leb, leb-false, leb-true}
 use native.Mathlib.Nat.{zero-div}
-use lib.Seq.{sets}
+use lib.Seq.{sets, sets-eq}
+use borrow.Rule.Slice.PartMut.{put_mid}
+use Rattle.std.proofs.lemmas.List.{length-replicate}
+use Rattle.std.proofs.lemmas.Slice.{put_mid-paste}
 use borrow.Author.Tests.{lt-leb, eqb-false}
 use Rattle.bits.specs.Fields.{bit_at, field_at, field_of, eight_of}
 use Rattle.bits.proofs.FieldLaws.{bit_lt, field_lt, field_split, field_front, field_past, field_is, eight_there}
@@ -12,7 +15,6 @@ use Rattle.message.specs.declared.Address.{Address}
 use Rattle.layouts.specs.Bytes.{number_from}
 use Rattle.layouts.specs.Values.{address_from}
 use Rattle.layouts.proofs.ByteLaws.{byte_here, sets_append}
-use Rattle.layouts.proofs.ListLaws.{zeros_turn}
 use Rattle.layouts.proofs.PartLaws.{mark_at}
 
 -- ---- bits
@@ -82,14 +84,6 @@ module _ (l : List ℕ) (at : ℕ) (h : 8 ≤ length l) where
 pub triple_is : (l : List ℕ) (at x y z : ℕ) → x ≡ get_or l at 0 → y ≡ get_or l (at + 1) 0 → z ≡ get_or l (at + 2) 0 → x * 65536 + y * 256 + z ≡ number_from 3 (drop at l)
 unfolding number_from
 triple_is l at x y z e f g = rw (byte_here l at, get_or-drop at l 1 0, get_or-drop at l 2 0, ← e, ← f, ← g) (omega arith)
-
--- a loop that stores zeros, one more at each turn
-pub zero_next : (l m : List ℕ) (from i : ℕ) → from ≤ i → m ≡ sets l from (replicate (i - from) 0) → set m i 0 ≡ sets l from (replicate (i + 1 - from) 0)
-zero_next l m from i h e =
-    let k = i - from in
-    let here : i ≡ from + k = omega arith in
-    let more : suc k ≡ i + 1 - from = omega arith in
-    ap (λ (x : List ℕ). set x i 0) e ∙ ap (λ (n : ℕ). set (sets l from (replicate k 0)) n 0) here ∙ sym (zeros_turn l from k) ∙ ap (λ (n : ℕ). sets l from (replicate n 0)) more
 
 -- ---- the ends of a range
 
@@ -205,14 +199,33 @@ state_stored a x y i j c d m₁ m₂ m₃ m e₁ e₂ e₃ e =
       whole,
     )
 
--- ---- an area copied
+-- ---- tests
 
-pub copy_turn : (l m a : List ℕ) (i : ℕ) → i < length a → m ≡ sets l 0 (take i a) → set m i (get_or a i 0) ≡ sets l 0 (take (i + 1) a)
-copy_turn l m a i h e =
-    let long : length (take i a) ≡ i = length-take-le i a (omega arith) in
-    let here : 0 + length (take i a) ≡ i = omega (arith, long) in
-    ap (λ (x : List ℕ). set x i (get_or a i 0)) e
-    ∙ sym (ap (λ (x : List ℕ). sets l 0 x) (ap (λ (n : ℕ). take n a) (add-one i) ∙ take-suc a i 0 h) ∙ sets_append l 0 (take i a) (get_or a i 0 ∷ []) ∙ ap (λ (n : ℕ). set (sets l 0 (take i a)) n (get_or a i 0)) here)
+pub and_both : (a b : Bool) → a && b ≡ both a b
+unfolding both
+and_both true b = refl
+and_both false b = refl
+
+-- ---- a part of a slice that is written at once
+
+pub front_put : (l m xs : List ℕ) (k : ℕ) → k ≤ length l → m ≡ xs → length xs ≡ k → m ++ drop k l ≡ sets l 0 xs
+front_put l m xs k h e n =
+    let long : k ≡ 0 + length xs = omega (arith, n) in
+    ap (λ (x : List ℕ). x ++ drop k l) e ∙ ap (λ (x : ℕ). xs ++ drop x l) long ∙ sym (sets-eq xs l 0 (omega (arith, n)))
+
+pub part_put : (l m xs : List ℕ) (i k : ℕ) → i + k ≤ length l → m ≡ xs → length xs ≡ k → put_mid i k l m ≡ sets l i xs
+part_put l m xs i k h e n =
+    put_mid-paste i k l m xs k e refl (sym n)
+    ∙ ap (λ (x : List ℕ). take i l ++ x ++ drop (i + k) l) (take_all k xs (omega (arith, n)))
+    ∙ ap (λ (x : ℕ). take i l ++ xs ++ drop (i + x) l) (sym n)
+    ∙ sym (sets-eq xs l i (omega (arith, n)))
+
+pub zeros_put : (l m : List ℕ) (i e : ℕ) → i ≤ e → e ≤ length l → m ≡ replicate (length (take (e - i) (drop i l))) 0 → put_mid i (e - i) l m ≡ sets l i (replicate (e - i) 0)
+zeros_put l m i e h k so =
+    let long : length (take (e - i) (drop i l)) ≡ e - i = length-take-le (e - i) (drop i l) (omega (arith, length-drop i l)) in
+    part_put l m (replicate (e - i) 0) i (e - i) (omega arith) (so ∙ ap (λ (n : ℕ). replicate n 0) long) (length-replicate (e - i) 0)
+
+-- ---- an area copied
 
 pub copied_all : (l m a : List ℕ) → length a ≡ 471 → m ≡ sets l 0 (take 471 a) → m ≡ sets l 0 a
 copied_all l m a h e = e ∙ ap (λ (x : List ℕ). sets l 0 x) (take_all 471 a (omega (arith, h)))

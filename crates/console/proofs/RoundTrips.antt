@@ -5,24 +5,24 @@
 use Rattle.std.proofs.Common.{◌≡◌, ℕ, ◌+◌, ◌≤◌, Bool, true, false, cond, leb, List, length, take, sym, refl, ap, ◌∙◌, leb-true}
 use lib.Seq.{sets}
 use Rattle.bits.specs.Fields.{bit_at}
-use Rattle.codec.specs.Stops.{refusal, no_stop, published}
+use Rattle.codec.specs.Stops.{refusal, published}
 use Rattle.codec.specs.Codec.{Read, got, no}
 use Rattle.codec.proofs.Good.{Agree, not_both, both_left}
 use Rattle.codec.specs.declared.Stop.{Stop}
 use Rattle.profile.specs.Rules.{profile_ok}
 use Rattle.profile.specs.declared.Profile.{Profile}
+use Rattle.std.specs.Prelude.{Ok}
 use Rattle.message.specs.Reading.{read_of}
 use Rattle.message.proofs.StopLaws.{read_published}
 use Rattle.message.specs.declared.Value.{Value}
 use Rattle.reading.specs.Answers.{reading_of}
-use Rattle.reading.specs.declared.Reading.{Reading}
 use Rattle.validity.specs.Validity.{valid_of}
 use Rattle.writing.specs.Writing.{bits_of, bytes_for, lay_of, lay_in, Write, laid, refused, write_valid, write_of, written_of, area_of}
 use Rattle.writing.proofs.RoundTrips.{read_write, write_read, read_valid}
 use Rattle.layouts.specs.Profiles.{passes, profile_from}
 use Rattle.layouts.specs.Values.{value_size, value_bytes, value_from, is_value}
 use Rattle.console.specs.Console.{room_for, cad_read, read_number, read_area, cad_read_of, cad_read_area, cad_write, write_number, write_bits, cad_write_of, cad_write_area, cad_write_bits}
-use Rattle.console.proofs.CallLaws.{read_0, read_number_lem, done_leaves}
+use Rattle.console.proofs.CallLaws.{read_0, laid_number, done_leaves}
 use Rattle.layouts.proofs.RowLaws.{AreBytes}
 use Rattle.layouts.proofs.LayoutLaws.{value_there, value_back, value_taken, area_value}
 
@@ -149,12 +149,12 @@ module _ (profile : List ℕ) where
     unfolding cad_write_of cad_write_area cad_write_bits cad_write reading_of
     was_back v q w =
         let reads = ap (λ (y : Read Value). reading_of y) (sym w.read) in
-        let valid : valid_of p.air v ≡ true = read_valid p message n (reading_of (got v q)) reads refl in
+        let valid : valid_of p.air v ≡ true = read_valid p message n (reading_of (got v q)) v reads refl in
         let x = write_of p v l 0 in
-        let trip = write_read p message n (reading_of (got v q)) l (area_of l x) (written_of x) reads refl room (refl, refl) in
-        let done = done_leaves l (area_of l x) b (written_of x) x refl refl trip.0 in
+        let trip = write_read p message n (reading_of (got v q)) v l (area_of l x) (written_of x) reads refl room (refl, refl) in
+        let done = done_leaves l (area_of l x) b (written_of x) x n refl refl trip.0 in
         rw (area_value p.air v area valid w.room, w.ok, value_taken p.air v valid, value_back p.air v valid)
-        (sym done.0, (sym done.1.1 ∙ trip.1.0, trip.1.1))
+        (sym done.0, (sym done.1.1, trip.1))
 
     pub c_read_write : cad_read_of profile message n area ≡ 0 → WritesBack (take value_size (cad_read_area profile message n area))
     unfolding cad_read_of cad_read_area read_number read_area
@@ -172,15 +172,15 @@ module _ (profile : List ℕ) where
     IsReadBack message n = (cad_read_of profile message n area ≡ 0) × (cad_read_area profile message n area ≡ sets area 0 value)
 
     laid_back : (a : List ℕ) (n : ℕ) → WroteBy value l a n → IsReadBack a n
-    unfolding written_of area_of no_stop passes
+    unfolding written_of area_of passes
     laid_back a n w =
         let v = value_from value in
         let r = reading_of (read_of p a n) in
-        let trip : r ≡ record { found = true; stop = no_stop; value = v } =
-        read_write p v l a (written_of (laid a n)) r (ap (λ (x : Write). written_of x) (sym w.write), ap (λ (x : Write). area_of l x) (sym w.write)) refl refl in
-        let back : value_bytes r.value ≡ value = ap (λ (x : Reading). value_bytes x.value) trip ∙ value_there value are w.shape in
-        let found = read_0 profile a n area (both_left _ _ w.ok) p refl r refl (ap (λ (x : Reading). x.found) trip) room (sets area 0 (value_bytes r.value)) refl in
-        (sym (read_number_lem profile a n area no_stop found.0), sym found.1 ∙ ap (λ (x : List ℕ). sets area 0 x) back)
+        let trip : r ≡ Ok v =
+        read_write p v l a (written_of (laid a n)) n r (ap (λ (x : Write). written_of x) (sym w.write), ap (λ (x : Write). area_of l x) (sym w.write)) refl refl in
+        let back : value_bytes v ≡ value = value_there value are w.shape in
+        let found = read_0 profile a n area (both_left _ _ w.ok) p refl r refl v trip room (sets area 0 (value_bytes v)) refl in
+        (sym (laid_number profile a n area found.0), sym found.1 ∙ ap (λ (x : List ℕ). sets area 0 x) back)
 
     pub c_write_read : cad_write_of profile value l ≡ 0 → IsReadBack (cad_write_area profile value l) (cad_write_bits profile value l b)
     unfolding cad_write_of cad_write_area cad_write_bits write_number write_bits area_of

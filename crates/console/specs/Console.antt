@@ -1,6 +1,6 @@
 -- The C interface: what `cad_read`, `cad_read_at` and `cad_write` answer and leave. 0, or the refusal's number; a refusal leaves everything but
 -- the two numbers that tell of a 4.
-use Rattle.std.specs.Prelude.{◌≡◌, ℕ, cond, List, length, ◌==◌, nat_le}
+use Rattle.std.specs.Prelude.{◌≡◌, ℕ, cond, List, length, ◌==◌, nat_le, Result, Ok, Err, ⊤}
 use Rattle.std.proofs.lemmas.List.Edits.{sets}
 use Rattle.codec.specs.Stops.{refusal, no_stop}
 use Rattle.codec.specs.declared.Stop.{Stop}
@@ -34,6 +34,11 @@ read_number (no s) = s.number
 unfoldable pub read_stop : Read Value → Stop
 read_stop (got v p) = no_stop
 read_stop (no s) = s
+
+-- by what reads into an area: the refusal, or none where the value's bytes are laid
+abbrev pub stop_of : Result ⊤ Stop → Stop
+stop_of (Ok done) = no_stop
+stop_of (Err s) = s
 
 -- the value's bytes from byte 0 on; what the area has beyond them stays
 unfoldable pub read_area : List ℕ → Read Value → List ℕ

@@ -1,24 +1,20 @@
-// Bytes that are compared and copied: what is asked of a message that was drawn, and its going out (specs/Drawing).
-ghost use Rattle.std.specs.Prelude.{◌≡◌, ◌-◌, ◌%◌, ◌≤◌, true, length};
+// Bytes that are compared, copied and zeroed. The first four are what is asked of a message that was drawn, and its going out (specs/Drawing).
+ghost use Rattle.std.specs.Prelude.{◌≡◌, ◌-◌, ◌%◌, ◌≤◌, true, length, take, replicate};
+ghost use Rattle.std.proofs.lemmas.List.Edits.{sets};
 ghost use Rattle.bits.specs.Fields.{bit_at, field_at};
 ghost use Rattle.console.specs.Drawing.{Alike, Copied};
 
-use crate::{number, values};
+use crate::values;
 
-// Both are the bytes of one value. The first 464 go sixteen at a time, which leaves seven.
+// Both are the bytes of one value. The first 464 go sixteen at a time, which leaves seven: `a == b` takes 80
+// instructions more, an eighth of what writing ACCEPTED takes (docs/DESIGN-PASS.md).
 pub(crate) fn same_bytes(a: &[u8], b: &[u8]) -> bool
     ensures { result ≡ true → (a.now ≡ b.now) × (length a.now ≡ 471) }
 {
-    if a.len() != values::BYTES {
+    if a.len() != values::BYTES || b.len() != values::BYTES {
         return false;
     }
-    if b.len() != values::BYTES {
-        return false;
-    }
-    if same_run(a, b, 0, 464) {
-        return same_run(a, b, 464, values::BYTES);
-    }
-    false
+    same_run(a, b, 0, 464) && same_run(a, b, 464, values::BYTES)
 }
 
 // It looks at each byte, and leaves off at none: so the compiler can take many at a time.
@@ -27,10 +23,8 @@ fn same_run(a: &[u8], b: &[u8], from: usize, to: usize) -> bool
     ensures { result ≡ true → Alike a.now b.now from to }
 {
     let mut same = true;
-    let mut i = from;
-    while i < to {
+    for i in from..to {
         same = same & (a[i] == b[i]);
-        i += 1;
     }
     same
 }
@@ -41,18 +35,21 @@ pub(crate) fn spare_zero(l: &[u8], at: usize) -> bool
 {
     let i = at / 8;
     if i < l.len() {
-        return number::wide(l[i]) << (56 + at % 8) == 0;
+        return u64::from(l[i]) << (56 + at % 8) == 0;
     }
     false
 }
 
 pub(crate) fn copy_bytes(out: &mut [u8], from: &[u8], count: usize)
     requires { (count ≤ length out.old) × (count ≤ length from.now) }
-    ensures { Copied out.old from.now count out.new }
+    ensures { (out.new ≡ sets out.old 0 (take count from.now)) × Copied out.old from.now count out.new }
 {
-    let mut i: usize = 0;
-    while i < count {
-        out[i] = from[i];
-        i += 1;
-    }
+    out[..count].copy_from_slice(&from[..count]);
+}
+
+pub(crate) fn zero_run(out: &mut [u8], from: usize, end: usize)
+    requires { (from ≤ end) × (end ≤ length out.old) }
+    ensures { out.new ≡ sets out.old from (replicate (end - from) 0) }
+{
+    out[from..end].fill(0);
 }

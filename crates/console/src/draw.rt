@@ -18,12 +18,10 @@ pub(crate) fn draw(profile: &[u8], value: &[u8], out: &mut [u8]) -> usize
 {
     let pdu = number::byte_at(value, 0);
     let ss = number::byte_at(profile, 0);
-    let at = put(out, 0, 11, number::wide(ss) << 58 | number::wide(pdu) << 53);
+    let at = put(out, 0, 11, u64::from(ss) << 58 | u64::from(pdu) << 53);
     let row = message::row_of(pdu);
-    let parts = row.parts;
-    let at = draw_parts(profile, value, parts, row.count, out, at);
-    let optional = row.optional;
-    draw_options(profile, value, optional, row.options, out, at) % 4096
+    let at = draw_parts(profile, value, row.parts, row.count, out, at);
+    draw_options(profile, value, row.optional, row.options, out, at) % 4096
 }
 
 fn draw_parts(
@@ -35,15 +33,11 @@ fn draw_parts(
     at: usize,
 ) -> usize {
     let mut next = at;
-    let mut i: usize = 0;
-    while i < count as usize {
+    for i in 0..count as usize {
         if i >= 6 {
             return next;
         }
-        let slot = parts[i];
-        let part = slot.part;
-        next = draw_part(profile, value, part, out, next);
-        i += 1;
+        next = draw_part(profile, value, parts[i].part, out, next);
     }
     next
 }
@@ -64,15 +58,11 @@ fn draw_options(
         return put_bit(out, at, false);
     }
     let mut next = put_bit(out, at, true);
-    let mut i: usize = 0;
-    while i < count as usize {
+    for i in 0..count as usize {
         if i >= 7 {
             return next;
         }
-        let slot = optional[i];
-        let part = slot.part;
-        next = draw_option(profile, value, i, part, out, next);
-        i += 1;
+        next = draw_option(profile, value, i, optional[i].part, out, next);
     }
     next
 }
@@ -93,10 +83,7 @@ fn draw_option(
 }
 
 fn none_given(value: &[u8]) -> bool {
-    if number::byte_at(value, 121) != 0 {
-        return false;
-    }
-    bits::eight(value, 228) >> 16 == 0
+    number::byte_at(value, 121) == 0 && bits::eight(value, 228) >> 16 == 0
 }
 
 fn given_at(value: &[u8], option: usize) -> bool {
@@ -131,17 +118,13 @@ fn draw_number(value: &[u8], place: u8, out: &mut [u8], at: usize) -> usize {
 }
 
 fn number_at(value: &[u8], place: u8) -> u64 {
-    if place == message::IDENTIFIER_AT {
-        return bits::eight(value, 119) >> 48;
+    match place {
+        message::IDENTIFIER_AT => bits::eight(value, 119) >> 48,
+        message::CAUSE_AT => u64::from(number::byte_at(value, 118)),
+        message::MNI_AT => bits::eight(value, 234) >> 40,
+        // areas, basic services and types, in their places' order
+        _ => u64::from(number::byte_at(value, after(232, place as usize))),
     }
-    if place == message::CAUSE_AT {
-        return number::wide(number::byte_at(value, 118));
-    }
-    if place == message::MNI_AT {
-        return bits::eight(value, 234) >> 40;
-    }
-    // areas, basic services and types, in their places' order
-    number::wide(number::byte_at(value, after(232, place as usize)))
 }
 
 fn user_at(place: u8) -> usize {
@@ -153,7 +136,7 @@ fn user_at(place: u8) -> usize {
 
 fn draw_group(profile: &[u8], value: &[u8], from: usize, out: &mut [u8], at: usize) -> usize {
     let range = number::byte_at(value, from);
-    let next = put(out, at, 4, number::wide(range) << 60);
+    let next = put(out, at, 4, u64::from(range) << 60);
     draw_list(value, after(from, 1), count_of(profile, range), out, next)
 }
 
@@ -170,11 +153,10 @@ fn meaning_of(profile: &[u8], range: u8) -> Meaning {
 // and makes one load and one store of eight.
 fn draw_list(value: &[u8], from: usize, count: usize, out: &mut [u8], at: usize) -> usize {
     let mut next = at;
-    let mut held = number::wide(number::byte_at(out, at / 8)) << 56;
+    let mut held = u64::from(number::byte_at(out, at / 8)) << 56;
     let mut p = from;
     let mut word = bits::eight(value, p);
-    let mut left = count;
-    while left > 0 {
+    for _ in 0..count {
         let width = address_bits(word);
         held = held | first_bits(word << 6, width) >> (next % 8);
         put_eight(out, next / 8, held);
@@ -182,7 +164,6 @@ fn draw_list(value: &[u8], from: usize, count: usize, out: &mut [u8], at: usize)
         next = after(next, width);
         p = after(p, 7);
         word = bits::eight(value, p);
-        left -= 1;
     }
     next
 }
@@ -226,15 +207,14 @@ fn draw_mask(profile: &[u8], value: &[u8], out: &mut [u8], at: usize) -> usize {
 // How many identities the users are.
 fn span_of(profile: &[u8], value: &[u8]) -> usize {
     let meaning = meaning_of(profile, number::byte_at(value, 1));
-    let kind = meaning.kind;
-    match kind {
+    match meaning.kind {
         Kind::FirstLast => span(bits::eight(value, 3) >> 40, bits::eight(value, 10) >> 40),
         Kind::Listed => meaning.count as usize,
-        Kind::Nobody => 0,
-        Kind::Reserved => 0,
+        Kind::Nobody | Kind::Reserved => 0,
     }
 }
 
+// Its own, since a value's bytes may hold any numbers: cut to what a mask has.
 fn span(first: u64, last: u64) -> usize {
     if last < first {
         return 0;
@@ -244,51 +224,29 @@ fn span(first: u64, last: u64) -> usize {
 
 fn draw_result(value: &[u8], out: &mut [u8], at: usize) -> usize {
     if number::byte_at(value, 116) == 0 {
-        return put(out, at, 8, number::wide(number::byte_at(value, 117)) << 56);
+        return put(out, at, 8, u64::from(number::byte_at(value, 117)) << 56);
     }
     put_bit(out, at, true)
 }
 
 fn draw_state(value: &[u8], out: &mut [u8], at: usize) -> usize {
     if number::byte_at(value, 116) == 0 {
-        return put(out, at, 4, number::wide(number::byte_at(value, 117)) << 60);
+        return put(out, at, 4, u64::from(number::byte_at(value, 117)) << 60);
     }
     let next = put_bit(out, at, true);
-    let next = put(
-        out,
-        next,
-        1,
-        number::wide(number::byte_at(value, 241)) << 63,
-    );
-    let next = put(
-        out,
-        next,
-        1,
-        number::wide(number::byte_at(value, 242)) << 63,
-    );
-    let next = put(
-        out,
-        next,
-        2,
-        number::wide(number::byte_at(value, 240)) << 62,
-    );
-    put(
-        out,
-        next,
-        2,
-        number::wide(number::byte_at(value, 239)) << 62,
-    )
+    let next = put(out, next, 1, u64::from(number::byte_at(value, 241)) << 63);
+    let next = put(out, next, 1, u64::from(number::byte_at(value, 242)) << 63);
+    let next = put(out, next, 2, u64::from(number::byte_at(value, 240)) << 62);
+    put(out, next, 2, u64::from(number::byte_at(value, 239)) << 62)
 }
 
 fn draw_areas(profile: &[u8], value: &[u8], out: &mut [u8], at: usize) -> usize {
     let range = number::byte_at(value, 455);
-    let mut next = put(out, at, 4, number::wide(range) << 60);
+    let mut next = put(out, at, 4, u64::from(range) << 60);
     let mut p: usize = 456;
-    let mut left = count_of(profile, range);
-    while left > 0 {
-        next = put(out, next, 4, number::wide(number::byte_at(value, p)) << 60);
+    for _ in 0..count_of(profile, range) {
+        next = put(out, next, 4, u64::from(number::byte_at(value, p)) << 60);
         p = after(p, 1);
-        left -= 1;
     }
     next
 }
@@ -297,16 +255,13 @@ fn draw_areas(profile: &[u8], value: &[u8], out: &mut [u8], at: usize) -> usize 
 
 // So many of a word's first bits, from a position on: the position after them. The word's other bits are 0, and so become what follows.
 fn put(out: &mut [u8], at: usize, width: usize, word: u64) -> usize {
-    let held = number::wide(number::byte_at(out, at / 8)) << 56;
+    let held = u64::from(number::byte_at(out, at / 8)) << 56;
     put_eight(out, at / 8, held | word >> (at % 8));
     after(at, width)
 }
 
 fn put_bit(out: &mut [u8], at: usize, bit: bool) -> usize {
-    if bit {
-        return put(out, at, 1, 1 << 63);
-    }
-    put(out, at, 1, 0)
+    put(out, at, 1, u64::from(bit) << 63)
 }
 
 // A position further on. It does not wrap in a message, and whether it does is nothing to prove.
@@ -314,23 +269,14 @@ fn after(at: usize, width: usize) -> usize {
     std::num::wrapping_add_usize(at, width)
 }
 
-// Nothing where they are not all there.
+// Nothing where they are not all there. (As `number::put_run` does; nothing is proved here but that they are.)
 fn put_eight(out: &mut [u8], at: usize, word: u64) {
-    if out.len() < 8 {
-        return;
-    }
-    if at > out.len() - 8 {
+    if out.len() < 8 || at > out.len() - 8 {
         return;
     }
     let mut rest = word;
-    let mut k: usize = 8;
-    while k > 0 {
-        k -= 1;
-        out[at + k] = byte(rest);
-        rest = rest / 256;
+    for k in (0..8).rev() {
+        out[at + k] = (rest % 256) as u8;
+        rest /= 256;
     }
-}
-
-fn byte(word: u64) -> u8 {
-    (word % 256) as u8
 }

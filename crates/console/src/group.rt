@@ -1,5 +1,5 @@
-// A group laid as it is read: the range, its addresses, zeros in the places beyond. 0 where `reading` has to say what is refused.
-ghost use Rattle.std.specs.Prelude.{◌≡◌, ◌+◌, ◌-◌, ◌*◌, ◌<◌, ◌≤◌, length, drop, replicate, ◌≢◌};
+// A group laid as it is read: the range, its addresses, zeros in the places beyond. None where `reading` has to say what is refused.
+ghost use Rattle.std.specs.Prelude.{◌≡◌, ◌+◌, ◌-◌, ◌*◌, ◌<◌, ◌≤◌, length, drop, IfSome};
 ghost use Rattle.std.proofs.lemmas.List.Edits.{sets};
 ghost use Rattle.bits.specs.Fields.{bit_at};
 ghost use Rattle.message.specs.Groups.{range_ok};
@@ -9,82 +9,78 @@ ghost use Rattle.layouts.proofs.PartLaws.{Addresses, AnyGroup};
 ghost use Rattle.layouts.proofs.RunLaws.{Stored};
 ghost use Rattle.layouts.proofs.PlaceLaws.{Places};
 
-use crate::{number, word};
+use crate::values::BYTES;
+use crate::{bytes, number, word};
 
-// Users alone, at byte 1, may not be "none".
+// Users alone, at byte 1, may not be "none". By the meaning's byte in a row of ifs, here, in `lay_areas` and in `span_in`: must-fail/programs.edit
+// and programs_2.edit name `m < 16` and `m == 0`.
 pub(crate) fn lay_group(
     profile: &[u8],
     buf: &[u8],
     at: usize,
-    area: &mut [u8],
+    area: &mut [u8; BYTES],
     place: usize,
-) -> usize
-    requires { (length area.old ≡ 471) × ((place + 106 < 471) × (at ≤ 5000)) }
-    ensures { (length area.new ≡ 471)
-        × ((result ≢ 0) → AnyGroup (air_from profile.now) buf.now at area.old area.new place result) }
+) -> Option<usize>
+    requires { (place + 106 < 471) × (at ≤ 5000) }
+    ensures { IfSome result (λ n. AnyGroup (air_from profile.now) buf.now at area.old area.new place n) }
 {
     let range = word::four(buf, at);
     let m = number::byte_at(profile, 6 + range as usize) as usize;
     number::put_byte(area, place, range as u8);
     if m == 0 {
-        return 0;
+        return None;
     }
     if m < 16 {
         return lay_places(buf, at + 4, m, area, place + 1);
     }
     if m == 16 {
         if place == 1 {
-            return 0;
+            return None;
         }
         return lay_places(buf, at + 4, 0, area, place + 1);
     }
     if m > 17 {
-        return 0;
+        return None;
     }
+    // handed on as it is: `?` here takes 15 instructions more (521 for 506 at worked case 8)
     let next = lay_places(buf, at + 4, 2, area, place + 1);
     if ends_ok(area, place + 1) {
         return next;
     }
-    0
+    None
 }
 
 // So many addresses in fifteen places.
-fn lay_places(buf: &[u8], at: usize, count: usize, area: &mut [u8], p: usize) -> usize
-    requires { (length area.old ≡ 471) × ((p + 105 < 471) × ((count ≤ 15) × (at ≤ 6000))) }
-    ensures { (length area.new ≡ 471)
-        × ((result ≢ 0) → Places (bit_at buf.now) count at area.old area.new p result) }
+fn lay_places(
+    buf: &[u8],
+    at: usize,
+    count: usize,
+    area: &mut [u8; BYTES],
+    p: usize,
+) -> Option<usize>
+    requires { (p + 105 < 471) × ((count ≤ 15) × (at ≤ 6000)) }
+    ensures { IfSome result (λ n. Places (bit_at buf.now) count at area.old area.new p n) }
 {
     if count == 0 {
-        zero_run(area, p, p + 105);
-        return at;
+        bytes::zero_run(area, p, p + 105);
+        return Some(at);
     }
-    let next = lay_addresses(buf, at, count, area, p);
-    zero_run(area, p + 7 * count, p + 105);
-    next
+    let next = lay_addresses(buf, at, count, area, p)?;
+    bytes::zero_run(area, p + 7 * count, p + 105);
+    Some(next)
 }
 
-pub(crate) fn zero_run(out: &mut [u8], from: usize, end: usize)
-    requires { (from ≤ end) × (end ≤ length out.old) }
-    ensures { out.new ≡ sets out.old from (replicate (end - from) 0) }
-{
-    let mut i = from;
-    while i < end {
-        out[i] = 0;
-        i += 1;
-    }
-}
-
-// Each goes out as eight bytes: the last is overwritten by the next address, or put back.
+// Each goes out as eight bytes: the last is overwritten by the next address, or put back. The loop goes by the byte, and not by `for`:
+// the byte is what says which address is the last, after which no more is looked ahead.
 pub(crate) fn lay_addresses(
     buf: &[u8],
     at: usize,
     count: usize,
-    area: &mut [u8],
+    area: &mut [u8; BYTES],
     place: usize,
-) -> usize
-    requires { (length area.old ≡ 471) × ((place + 7 * count < 471) × (at ≤ 6000)) }
-    ensures { (length area.new ≡ 471)
-        × ((result ≢ 0) → Addresses (bit_at buf.now) count at area.old area.new place result) }
+) -> Option<usize>
+    requires { (place + 7 * count < 471) × (at ≤ 6000) }
+    ensures { IfSome result (λ n. Addresses (bit_at buf.now) count at area.old area.new place n) }
 {
     if buf.len() < 8 {
         return lay_alone(buf, at, count, area, place);
@@ -95,59 +91,56 @@ pub(crate) fn lay_addresses(
     let mut p = place;
     let mut held = word::window(buf, at) * 2;
     while p < end {
-        let step = lay_kind(area, p, held);
-        if step == 0 {
-            return 0;
-        }
-        next += step;
+        next += lay_kind(area, p, held)?;
         p += 7;
         if p >= end {
             area[end] = keep;
-            return next;
+            return Some(next);
         }
         held = word::ahead(buf, next);
     }
-    0
+    None
 }
 
 // In fewer than eight bytes there is no room for two.
-fn lay_alone(buf: &[u8], at: usize, count: usize, area: &mut [u8], place: usize) -> usize
-    requires { (length area.old ≡ 471) × ((place + 7 * count < 471) × (at ≤ 6000)) }
-    ensures { (length area.new ≡ 471)
-        × ((result ≢ 0) → Addresses (bit_at buf.now) count at area.old area.new place result) }
+fn lay_alone(
+    buf: &[u8],
+    at: usize,
+    count: usize,
+    area: &mut [u8; BYTES],
+    place: usize,
+) -> Option<usize>
+    requires { (place + 7 * count < 471) × (at ≤ 6000) }
+    ensures { IfSome result (λ n. Addresses (bit_at buf.now) count at area.old area.new place n) }
 {
     if count == 1 {
         let end = place + 7;
         let keep = area[end];
-        let step = lay_kind(area, place, word::window(buf, at) * 2);
-        if step == 0 {
-            return 0;
-        }
+        let step = lay_kind(area, place, word::window(buf, at) * 2)?;
         area[end] = keep;
-        return at + step;
+        return Some(at + step);
     }
-    0
+    None
 }
 
 // One address: how many bits it has. Its 50 bits are held, above one byte more.
-fn lay_kind(area: &mut [u8], p: usize, held: u64) -> usize
-    requires { p + 8 ≤ length area.old }
-    ensures { (length area.new ≡ length area.old)
-        × ((result ≢ 0) → Stored area.old area.new p held result) }
+fn lay_kind(area: &mut [u8; BYTES], p: usize, held: u64) -> Option<usize>
+    requires { p + 8 ≤ 471 }
+    ensures { IfSome result (λ n. Stored area.old area.new p held n) }
 {
     number::put_run(area, p, 8, held);
     let kind = held >> 56;
     if kind == 2 {
-        return 50;
+        return Some(50);
     }
     if kind == 1 {
         number::put_run(area, p + 4, 4, 0);
-        return 26;
+        return Some(26);
     }
-    0
+    None
 }
 
-// One kind, one extension, first not after last, at most 64 identities.
+// One kind, one extension, first not after last, at most 64 identities: a law for each return, which one `&&` would have behind its joins.
 fn ends_ok(l: &[u8], p: usize) -> bool
     requires { p + 14 ≤ length l.now }
     ensures { result ≡ range_ok (address_from (drop p l.now)) (address_from (drop (p + 7) l.now)) }

@@ -3,10 +3,10 @@
 // nothing that was lent but the two numbers that tell of a 4. `console_c` exports the three functions to C.
 #![tactic(auto)]
 
-ghost use Rattle.std.specs.Prelude.{◌≡◌, true, false, ◌≢◌};
+ghost use Rattle.std.specs.Prelude.{◌≡◌, true, false, IfSome};
 ghost use Rattle.codec.specs.Stops.{no_stop};
 ghost use Rattle.console.specs.Drawing.{ReadsBack, Drawn};
-ghost use Rattle.console.specs.Console.{Refused, cad_read_stop, cad_read_of, cad_read_area, cad_read_position, cad_read_element, cad_write_of, cad_write_area, cad_write_bits};
+ghost use Rattle.console.specs.Console.{Refused, stop_of, cad_read_stop, cad_read_of, cad_read_area, cad_read_position, cad_read_element, cad_write_of, cad_write_area, cad_write_bits};
 
 use codec::Stop;
 
@@ -26,8 +26,10 @@ pub fn cad_read(profile: &[u8], message: &[u8], bits: usize, value: &mut [u8]) -
     ensures { (result ≡ cad_read_of profile.now message.now bits value.old)
         × (value.new ≡ cad_read_area profile.now message.now bits value.old) }
 {
-    let s = read_into(profile, message, bits, value);
-    s.number as u32
+    match read_into(profile, message, bits, value) {
+        Ok(()) => 0,
+        Err(stop) => stop.number as u32,
+    }
 }
 
 // The same; with a 4 also where the element that did not fit begins, and which one it is.
@@ -44,39 +46,41 @@ pub fn cad_read_at(
         × ((position.new ≡ cad_read_position profile.now message.now bits value.old position.old)
         × (element.new ≡ cad_read_element profile.now message.now bits value.old element.old))) }
 {
-    let s = read_into(profile, message, bits, value);
-    if s.number == 4 {
-        *position = s.at as u32;
-        *element = s.element as u32;
-        return 4;
+    match read_into(profile, message, bits, value) {
+        Ok(()) => 0,
+        Err(stop) => {
+            if stop.number == 4 {
+                *position = stop.at as u32;
+                *element = stop.element as u32;
+                return 4;
+            }
+            stop.number as u32
+        }
     }
-    s.number as u32
 }
 
-fn read_into(profile: &[u8], message: &[u8], bits: usize, value: &mut [u8]) -> Stop
-    ensures { (result ≡ cad_read_stop profile.now message.now bits value.old)
+// Ok: the value's bytes are laid.
+fn read_into(profile: &[u8], message: &[u8], bits: usize, value: &mut [u8]) -> Result<(), Stop>
+    ensures { (stop_of result ≡ cad_read_stop profile.now message.now bits value.old)
         × (value.new ≡ cad_read_area profile.now message.now bits value.old) }
 {
     if read_quickly(profile, message, bits, value) {
-        return codec::no_stop();
+        return Ok(());
     }
-    let stop = refused_quickly(profile, message, bits);
-    if stop.number > 0 {
-        return stop;
+    if let Some(stop) = refused_quickly(profile, message, bits) {
+        return Err(stop);
     }
     read_slowly(profile, message, bits, value)
 }
 
-// What a message is refused with, by the walk that keeps no value. 0: that is for the long way to say.
-fn refused_quickly(profile: &[u8], message: &[u8], bits: usize) -> Stop
-    ensures { (result.number ≢ 0) → Refused profile.now message.now bits result }
+// What a message is refused with, by the walk that keeps no value. None: that is for the long way to say.
+fn refused_quickly(profile: &[u8], message: &[u8], bits: usize) -> Option<Stop>
+    ensures { IfSome result (λ stop. Refused profile.now message.now bits stop) }
 {
-    if profiles::passes(profile) {
-        let t = reading::read_type(profiles::air_from(profile), message, bits);
-        let stop = t.stop;
-        return stop;
+    if !profiles::passes(profile) {
+        return None;
     }
-    codec::no_stop()
+    reading::read_type(profiles::air_from(profile), message, bits).err()
 }
 
 // What can be laid as it is read. False: nothing has changed, and `reading` has to say what is refused, if anything.
@@ -90,7 +94,7 @@ fn read_quickly(profile: &[u8], message: &[u8], bits: usize, value: &mut [u8]) -
         return false;
     }
     if profiles::passes(profile) {
-        let mut area = [0u8; 471];
+        let mut area = [0u8; values::BYTES];
         if lay::lay(profile, message, bits, &mut area) {
             values::put_area(value, &area);
             return true;
@@ -100,26 +104,20 @@ fn read_quickly(profile: &[u8], message: &[u8], bits: usize, value: &mut [u8]) -
 }
 
 // Every message and every refusal.
-fn read_slowly(profile: &[u8], message: &[u8], bits: usize, value: &mut [u8]) -> Stop
-    ensures { (result ≡ cad_read_stop profile.now message.now bits value.old)
+fn read_slowly(profile: &[u8], message: &[u8], bits: usize, value: &mut [u8]) -> Result<(), Stop>
+    ensures { (stop_of result ≡ cad_read_stop profile.now message.now bits value.old)
         × (value.new ≡ cad_read_area profile.now message.now bits value.old) }
 {
     // whether it keeps the rules is for `read` to say, which answers 1 too
-    if profiles::is_profile(profile) {} else {
-        return codec::refuse(1);
+    if !profiles::is_profile(profile) {
+        return Err(codec::refuse(1));
     }
-    let r = reading::read(profiles::profile_from(profile), message, bits);
-    let s = r.stop;
-    let found = r.found;
-    if !found {
-        return s;
-    }
+    let read = reading::read(profiles::profile_from(profile), message, bits)?;
     if value.len() < values::BYTES {
-        return codec::refuse(14);
+        return Err(codec::refuse(14));
     }
-    let v = r.value;
-    values::put_value(value, v);
-    codec::no_stop()
+    values::put_value(value, read);
+    Ok(())
 }
 
 // Writes the message of the value's bytes from the first byte of `message` on, and its length into `bits`.
@@ -142,25 +140,27 @@ fn write_slowly(profile: &[u8], value: &[u8], message: &mut [u8], bits: &mut usi
         × ((message.new ≡ cad_write_area profile.now value.now message.old)
         × (bits.new ≡ cad_write_bits profile.now value.now message.old bits.old)) }
 {
-    if profiles::passes(profile) {
-        if values::is_value(value) {
-            let p = profiles::profile_from(profile);
-            let v = values::value_from(value);
-            let w = writing::write(p, v, message);
-            if w.done {
-                *bits = w.bits;
-                return 0;
-            }
-            let s = w.stop;
-            return s.number as u32;
-        }
+    if !profiles::passes(profile) {
+        return 1;
+    }
+    if !values::is_value(value) {
         return 22;
     }
-    1
+    match writing::write(
+        profiles::profile_from(profile),
+        values::value_from(value),
+        message,
+    ) {
+        Ok(length) => {
+            *bits = length;
+            0
+        }
+        Err(stop) => stop.number as u32,
+    }
 }
 
 // Draws the value's message and lets it out where it is read back as just this value, has zeros in its spare bits, and finds room: its
-// length, or 0 where all stays.
+// length, or 0 where all stays. (0 and no Option: `Drawn` of specs/ is of the length, and says what 0 leaves.)
 fn write_drawn(profile: &[u8], value: &[u8], message: &mut [u8]) -> usize
     ensures { Drawn profile.now value.now message.old message.new result }
 {
@@ -183,8 +183,7 @@ fn reads_back(profile: &[u8], value: &[u8], message: &[u8], bits: usize) -> bool
     ensures { result ≡ true → ReadsBack profile.now value.now message.now bits }
 {
     let mut area = [0u8; values::BYTES];
-    let s = read_into(profile, message, bits, &mut area);
-    if s.number != 0 {
+    if read_into(profile, message, bits, &mut area).is_err() {
         return false;
     }
     bytes::same_bytes(value, &area)

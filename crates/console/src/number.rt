@@ -8,12 +8,10 @@ ghost use Rattle.layouts.specs.Bytes.{number_from, number_bytes};
 pub(crate) fn byte_at(l: &[u8], i: usize) -> u8
     ensures { result ≡ slice_index l.now i }
 {
-    if i < l.len() {
-        return l[i];
-    }
-    0
+    l.get(i).copied().unwrap_or(0)
 }
 
+// Two bytes or three fit a u32, which a count that is handed over does not say.
 pub(crate) fn two_at(l: &[u8], at: usize) -> u32
     requires { at ≤ 4096 }
     ensures { result ≡ number_from 2 (drop at l.now) }
@@ -33,18 +31,10 @@ pub(crate) fn number_at(l: &[u8], at: usize, count: usize) -> u64
     ensures { (result ≡ number_from count (drop at l.now)) × (result < 2 ^ (8 * count)) }
 {
     let mut v: u64 = 0;
-    let mut k: usize = 0;
-    while k < count {
-        v = v * 256 + wide(byte_at(l, at + k));
-        k += 1;
+    for k in 0..count {
+        v = v * 256 + u64::from(byte_at(l, at + k));
     }
     v
-}
-
-pub(crate) fn wide(x: u8) -> u64
-    ensures { (result ≡ x) × (result < 256) }
-{
-    x as u64
 }
 
 // None of so many bytes is over the most.
@@ -52,11 +42,8 @@ pub(crate) fn are_up_to(l: &[u8], at: usize, count: usize, most: u8) -> bool
     requires { (at ≤ 4096) × (count ≤ 64) }
     ensures { result ≡ every count (λ r. nat_le (slice_index l.now (at + r)) most) }
 {
-    let mut r: usize = 0;
-    while r < count {
-        let b = byte_at(l, at + r);
-        r += 1;
-        if b > most {
+    for r in 0..count {
+        if byte_at(l, at + r) > most {
             return false;
         }
     }
@@ -76,11 +63,7 @@ pub(crate) fn put_byte(out: &mut [u8], at: usize, b: u8)
 pub(crate) fn put_flag(out: &mut [u8], at: usize, b: bool)
     ensures { out.new ≡ slice_set out.old at (one b) }
 {
-    if b {
-        put_byte(out, at, 1);
-        return;
-    }
-    put_byte(out, at, 0);
+    put_byte(out, at, u8::from(b));
 }
 
 // Its low byte.
@@ -95,26 +78,22 @@ pub(crate) fn put_number(out: &mut [u8], at: usize, count: usize, v: u64)
     requires { (at ≤ 4096) × (count ≤ 8) }
     ensures { out.new ≡ sets out.old at (number_bytes count v) }
 {
-    let mut k = count;
     let mut rest = v;
-    while k > 0 {
-        k -= 1;
+    for k in (0..count).rev() {
         put_byte(out, at + k, (rest % 256) as u8);
-        rest = rest / 256;
+        rest /= 256;
     }
 }
 
-// The same in bytes that are there.
+// The same in bytes that are there, with no test for each.
 pub(crate) fn put_run(out: &mut [u8], at: usize, count: usize, v: u64)
     requires { at + count ≤ length out.old }
     ensures { out.new ≡ sets out.old at (number_bytes count v) }
 {
-    let mut k = count;
     let mut rest = v;
-    while k > 0 {
-        k -= 1;
+    for k in (0..count).rev() {
         out[at + k] = (rest % 256) as u8;
-        rest = rest / 256;
+        rest /= 256;
     }
 }
 
@@ -123,5 +102,5 @@ pub(crate) fn triple(l: &[u8], at: usize) -> u64
     requires { at + 3 ≤ length l.now }
     ensures { (result ≡ number_from 3 (drop at l.now)) × (result < 2 ^ 24) }
 {
-    wide(l[at]) * 65536 + wide(l[at + 1]) * 256 + wide(l[at + 2])
+    u64::from(l[at]) * 65536 + u64::from(l[at + 1]) * 256 + u64::from(l[at + 2])
 }

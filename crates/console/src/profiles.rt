@@ -9,6 +9,7 @@ ghost use Rattle.layouts.specs.Profiles.{share_from, air_from, shares_from, prof
 use crate::number;
 use profile::{Air, Kind, Meaning, Profile, Share, Shares};
 
+// What the arrays below are filled with first; `profile` has the same two for itself alone.
 const RESERVED: Meaning = Meaning {
     kind: Kind::Reserved,
     count: 0,
@@ -19,19 +20,18 @@ const NO_SHARE: Share = Share {
     ceiling: 0,
 };
 
-// The bytes are a profile's, and it keeps every rule. They are looked at where they lie.
+// The bytes are a profile's, and it keeps every rule. They are looked at where they lie. The length is tested here once, and stands in each
+// contract below: what C lends is a slice of any length. By an `if`: behind the join of a longer `&&` the length is not known (tried).
 pub(crate) fn passes(l: &[u8]) -> bool
     ensures { result ≡ passes l.now }
 {
     if l.len() == 41 {
-        if air_passes(l) {
-            return shares_pass(l);
-        }
-        return false;
+        return air_passes(l) && shares_pass(l);
     }
     false
 }
 
+// Two returns: a chain of `&&` leaves goals over its join, where the law on an air that is kept does not fit.
 fn air_passes(l: &[u8]) -> bool
     requires { length l.now ≡ 41 }
     ensures { result ≡ air_ok (air_from l.now) }
@@ -46,25 +46,14 @@ fn air_passes(l: &[u8]) -> bool
 }
 
 // The reasons, U and N and INTERROGATE ACK's two; then the meanings.
+#[tactic(auto, unfolding(codec::specs::Codec::both))]
 fn reasons_pass(l: &[u8]) -> bool
     requires { length l.now ≡ 41 }
     ensures { result ≡ both (nat_le (slice_index l.now 4) 127) (both (nat_le (slice_index l.now 5) 127)
         (both (nat_le (slice_index l.now 39) 7) (both (nat_le (slice_index l.now 40) 7)
         (every 16 (λ r. leb (slice_index l.now (6 + r)) 17))))) }
 {
-    if l[4] > 127 {
-        return false;
-    }
-    if l[5] > 127 {
-        return false;
-    }
-    if l[39] > 7 {
-        return false;
-    }
-    if l[40] > 7 {
-        return false;
-    }
-    meanings_known(l)
+    l[4] <= 127 && l[5] <= 127 && l[39] <= 7 && l[40] <= 7 && meanings_known(l)
 }
 
 // The loop has no other end, so that all sixteen are compared at once.
@@ -73,23 +62,19 @@ fn meanings_known(l: &[u8]) -> bool
     ensures { result ≡ every 16 (λ r. leb (slice_index l.now (6 + r)) 17) }
 {
     let mut known = true;
-    let mut r: usize = 0;
-    while r < Air::RANGES {
-        known = still_known(known, l[6 + r]);
-        r += 1;
+    for r in 0..Air::RANGES {
+        known = known & is_meaning(l[6 + r]);
     }
     known
 }
 
-fn still_known(known: bool, meaning: u8) -> bool
-    ensures { result ≡ both known (nat_le meaning 17) }
+fn is_meaning(byte: u8) -> bool
+    ensures { result ≡ nat_le byte 17 }
 {
-    if meaning > 17 {
-        return false;
-    }
-    known
+    byte <= 17
 }
 
+// A row of ifs: each test has a law of its own, and one `&&` would have all of them behind its joins.
 fn shares_pass(l: &[u8]) -> bool
     requires { length l.now ≡ 41 }
     ensures { result ≡ both (spare_zero (take 39 l.now)) (shares_ok (shares_from l.now)) }
@@ -113,17 +98,14 @@ fn rows_pass(l: &[u8], posts: usize) -> bool
 {
     let mut rest = rows_total(l);
     let mut all: u32 = 0;
-    let mut p: usize = 0;
-    while p < posts {
-        let reserved = word(l[23 + 2 * p]);
-        let ceiling = word(l[24 + 2 * p]);
-        p += 1;
-        if share_passes(reserved, ceiling) {
-            all += reserved;
-            rest -= reserved + ceiling;
-        } else {
+    for p in 0..posts {
+        let reserved = u32::from(l[23 + 2 * p]);
+        let ceiling = u32::from(l[24 + 2 * p]);
+        if !share_passes(reserved, ceiling) {
             return false;
         }
+        all += reserved;
+        rest -= reserved + ceiling;
     }
     if rest != 0 {
         return false;
@@ -137,32 +119,20 @@ fn rows_total(l: &[u8]) -> u32
     ensures { result ≡ sum 16 (λ k. slice_index l.now (23 + k)) }
 {
     let mut total: u32 = 0;
-    let mut k: usize = 0;
-    while k < 16 {
-        total += word(l[23 + k]);
-        k += 1;
+    for k in 0..16 {
+        total += u32::from(l[23 + k]);
     }
     total
 }
 
+#[tactic(auto, unfolding(profile::specs::Rules::share_ok, codec::specs::Codec::both))]
 fn share_passes(reserved: u32, ceiling: u32) -> bool
     ensures { result ≡ share_ok (record { reserved = reserved; ceiling = ceiling }) }
 {
-    if ceiling < 1 {
-        return false;
-    }
-    if ceiling as usize > Shares::PLACES {
-        return false;
-    }
-    reserved <= ceiling
+    1 <= ceiling && ceiling as usize <= Shares::PLACES && reserved <= ceiling
 }
 
-fn word(x: u8) -> u32
-    ensures { (result ≡ x) × (result < 256) }
-{
-    x as u32
-}
-
+// The length first and by itself: must-fail/programs_2.edit names the line, and the slice of 39 bytes stands on it.
 pub(crate) fn is_profile(l: &[u8]) -> bool
     ensures { result ≡ is_profile l.now }
 {
@@ -180,12 +150,10 @@ fn spare_zero(l: &[u8]) -> bool
     ensures { result ≡ spare_zero l.now }
 {
     let posts = number::byte_at(l, 22) as usize;
-    let mut i = 23 + 2 * posts;
-    while i < l.len() {
+    for i in 23 + 2 * posts..l.len() {
         if l[i] != 0 {
             return false;
         }
-        i += 1;
     }
     true
 }
@@ -193,11 +161,9 @@ fn spare_zero(l: &[u8]) -> bool
 pub(crate) fn profile_from(l: &[u8]) -> Profile
     ensures { result ≡ profile_from l.now }
 {
-    let air = air_from(l);
-    let shares = shares_from(l);
     Profile {
-        air: air,
-        shares: shares,
+        air: air_from(l),
+        shares: shares_from(l),
     }
 }
 
@@ -205,16 +171,13 @@ pub(crate) fn air_from(l: &[u8]) -> Air
     ensures { result ≡ air_from l.now }
 {
     let mut meanings = [RESERVED; 16];
-    let mut r: usize = 0;
-    while r < Air::RANGES {
-        let m = profile::meaning_from(number::byte_at(l, 6 + r));
-        meanings[r] = m;
-        r += 1;
+    for r in 0..Air::RANGES {
+        meanings[r] = profile::meaning_from(number::byte_at(l, 6 + r));
     }
     Air {
         ss: number::byte_at(l, 0),
         home: number::three_at(l, 1),
-        meanings: meanings,
+        meanings,
         unknown: number::byte_at(l, 4),
         other: number::byte_at(l, 5),
         unrecorded: number::byte_at(l, 39),
@@ -226,15 +189,12 @@ fn shares_from(l: &[u8]) -> Shares
     ensures { result ≡ shares_from l.now }
 {
     let mut share = [NO_SHARE; 8];
-    let mut p: usize = 0;
-    while p < Shares::POSTS {
-        let s = share_at(l, 23 + 2 * p);
-        share[p] = s;
-        p += 1;
+    for p in 0..Shares::POSTS {
+        share[p] = share_at(l, 23 + 2 * p);
     }
     Shares {
         posts: number::byte_at(l, 22),
-        share: share,
+        share,
     }
 }
 

@@ -5,7 +5,7 @@ ghost use Rattle.message.specs.Values.{no_lists};
 ghost use Rattle.layouts.specs.Bytes.{rows_bytes};
 ghost use Rattle.layouts.specs.Values.{address_bytes, address_from, group_bytes, group_from, byte_bytes, areas_bytes, areas_from, first_bytes, more_bytes, type_bytes, lists_bytes, lists_from, value_bytes, value_from, is_value};
 
-use crate::number;
+use crate::{bytes, number};
 use message::{Address, Areas, Group, Lists, Value};
 
 // So many bytes has a value.
@@ -13,80 +13,59 @@ pub(crate) const BYTES: usize = 471;
 
 // ---- from bytes
 
+#[tactic(auto, unfolding(layouts::specs::Values::is_value, codec::specs::Codec::both))]
 pub(crate) fn is_value(l: &[u8]) -> bool
     ensures { result ≡ is_value l.now }
 {
-    if l.len() != BYTES {
-        return false;
-    }
-    if number::byte_at(l, 107) > 1 {
-        return false;
-    }
-    if number::byte_at(l, 121) > 1 {
-        return false;
-    }
-    number::are_up_to(l, 228, 6, 1)
+    l.len() == BYTES
+        && number::byte_at(l, 107) <= 1
+        && number::byte_at(l, 121) <= 1
+        && number::are_up_to(l, 228, 6, 1)
 }
 
 pub(crate) fn value_from(l: &[u8]) -> Value
     ensures { result ≡ value_from l.now }
 {
-    let users = group_at(l, 1);
-    let dispatchers = group_at(l, 122);
-    let identifier = number::two_at(l, 119);
-    let cause = number::byte_at(l, 118) as u32;
-    let result = number::byte_at(l, 116) as u32;
-    let reason = number::byte_at(l, 117) as u32;
-    let mni = number::three_at(l, 234);
-    let calling_area = number::byte_at(l, 237) as u32;
-    let called_area = number::byte_at(l, 238) as u32;
-    let calling_service = number::byte_at(l, 239) as u32;
-    let called_service = number::byte_at(l, 240) as u32;
-    let activation = number::byte_at(l, 241) as u32;
-    let interception = number::byte_at(l, 242) as u32;
-    let lists = lists_from(l);
-    let first = number::byte_at(l, 121) == 1;
-    let second = number::byte_at(l, 228) == 1;
-    let third = number::byte_at(l, 229) == 1;
-    let fourth = number::byte_at(l, 230) == 1;
-    let fifth = number::byte_at(l, 231) == 1;
-    let sixth = number::byte_at(l, 232) == 1;
-    let seventh = number::byte_at(l, 233) == 1;
     Value {
         pdu: number::byte_at(l, 0),
         numbers: [
-            identifier,
-            cause,
-            result,
-            reason,
-            mni,
-            calling_area,
-            called_area,
-            calling_service,
-            called_service,
-            activation,
-            interception,
+            number::two_at(l, 119),
+            u32::from(number::byte_at(l, 118)), // the cause
+            u32::from(number::byte_at(l, 116)), // the result
+            u32::from(number::byte_at(l, 117)), // the reason
+            number::three_at(l, 234),
+            u32::from(number::byte_at(l, 237)), // the calling's area
+            u32::from(number::byte_at(l, 238)), // the called's area
+            u32::from(number::byte_at(l, 239)), // the calling's basic service
+            u32::from(number::byte_at(l, 240)), // the called's basic service
+            u32::from(number::byte_at(l, 241)), // the activation type
+            u32::from(number::byte_at(l, 242)), // the interception type
             0,
         ],
-        users: users,
+        users: group_at(l, 1),
         masked: number::byte_at(l, 107) == 1,
         mask: number::number_at(l, 108, 8),
-        given: [first, second, third, fourth, fifth, sixth, seventh],
-        dispatchers: dispatchers,
-        lists: lists,
+        given: [
+            number::byte_at(l, 121) == 1,
+            number::byte_at(l, 228) == 1,
+            number::byte_at(l, 229) == 1,
+            number::byte_at(l, 230) == 1,
+            number::byte_at(l, 231) == 1,
+            number::byte_at(l, 232) == 1,
+            number::byte_at(l, 233) == 1,
+        ],
+        dispatchers: group_at(l, 122),
+        lists: lists_from(l),
     }
 }
 
 fn lists_from(l: &[u8]) -> Lists
     ensures { result ≡ lists_from l.now }
 {
-    let sources = group_at(l, 243);
-    let destinations = group_at(l, 349);
-    let areas = areas_at(l, 455);
     Lists {
-        sources: sources,
-        destinations: destinations,
-        areas: areas,
+        sources: group_at(l, 243),
+        destinations: group_at(l, 349),
+        areas: areas_at(l, 455),
     }
 }
 
@@ -95,10 +74,8 @@ fn areas_at(l: &[u8], at: usize) -> Areas
     ensures { result ≡ areas_from (drop at l.now) }
 {
     let mut list = [0u8; 15];
-    let mut i: usize = 0;
-    while i < 15 {
+    for i in 0..15 {
         list[i] = number::byte_at(l, at + 1 + i);
-        i += 1;
     }
     Areas {
         range: number::byte_at(l, at),
@@ -111,11 +88,8 @@ fn group_at(l: &[u8], at: usize) -> Group
     ensures { result ≡ group_from (drop at l.now) }
 {
     let mut list = [message::NOBODY; 15];
-    let mut i: usize = 0;
-    while i < 15 {
-        let a = address_at(l, at + 1 + 7 * i);
-        list[i] = a;
-        i += 1;
+    for i in 0..15 {
+        list[i] = address_at(l, at + 1 + 7 * i);
     }
     Group {
         range: number::byte_at(l, at),
@@ -138,52 +112,35 @@ fn address_at(l: &[u8], at: usize) -> Address
 
 // No message but INTERROGATE ACK has lists, so that no other pays for them.
 pub(crate) fn put_value(out: &mut [u8], v: Value)
-    requires { (v.pdu ≢ 9) → v.lists ≡ no_lists }
+    requires { (471 ≤ length out.old) × ((v.pdu ≢ 9) → v.lists ≡ no_lists) }
     ensures { out.new ≡ sets out.old 0 (value_bytes v) }
 {
-    let users = v.users;
-    let dispatchers = v.dispatchers;
-    let numbers = v.numbers;
-    let given = v.given;
     number::put_byte(out, 0, v.pdu);
-    put_group(out, 1, users);
+    put_group(out, 1, v.users);
     number::put_flag(out, 107, v.masked);
     number::put_number(out, 108, 8, v.mask);
-    put_first(out, numbers, given);
-    put_group(out, 122, dispatchers);
-    put_more(out, numbers, given);
-    put_types(out, numbers);
+    put_first(out, v.numbers, v.given);
+    put_group(out, 122, v.dispatchers);
+    put_more(out, v.numbers, v.given);
+    put_types(out, v.numbers);
     if v.pdu == 9 {
-        let lists = v.lists;
-        put_lists(out, lists);
+        put_lists(out, v.lists);
         return;
     }
-    put_zeros(out);
+    bytes::zero_run(out, 243, BYTES);
 }
 
 // An area of a value's bytes over the first bytes of another. Of any message but INTERROGATE ACK the lists are zeros, and so need no copy.
-pub(crate) fn put_area(out: &mut [u8], area: &[u8])
-    requires { (471 ≤ length out.old) × ((length area.now ≡ 471) × ((slice_index area.now 0 ≢ 9) → drop 243 area.now ≡ replicate 228 0)) }
+pub(crate) fn put_area(out: &mut [u8], area: &[u8; BYTES])
+    requires { (471 ≤ length out.old) × ((slice_index area.now 0 ≢ 9) → drop 243 area.now ≡ replicate 228 0) }
     ensures { out.new ≡ sets out.old 0 area.now }
 {
     if number::byte_at(area, 0) == 9 {
-        copy_run(out, area, BYTES);
+        bytes::copy_bytes(out, area, BYTES);
         return;
     }
-    copy_run(out, area, 243);
-    put_zeros(out);
-}
-
-// So many of its bytes.
-fn copy_run(out: &mut [u8], area: &[u8], end: usize)
-    requires { (end ≤ length out.old) × (end ≤ length area.now) }
-    ensures { out.new ≡ sets out.old 0 (take end area.now) }
-{
-    let mut i: usize = 0;
-    while i < end {
-        out[i] = area[i];
-        i += 1;
-    }
+    bytes::copy_bytes(out, area, 243);
+    bytes::zero_run(out, 243, BYTES);
 }
 
 // Result, reason, cause, identifier, and the first option of the row.
@@ -223,57 +180,28 @@ fn put_types(out: &mut [u8], numbers: [u32; 12])
     number::put_low(out, 242, numbers[message::INTERCEPTION_TYPE_AT as usize]);
 }
 
-// Zeros in place of the lists, as far as the area goes.
-fn put_zeros(out: &mut [u8])
-    ensures { out.new ≡ sets out.old 243 (replicate 228 0) }
-{
-    if out.len() < BYTES {
-        let end = out.len();
-        zeros_to(out, end);
-        return;
-    }
-    zeros_to(out, BYTES);
-}
-
-fn zeros_to(out: &mut [u8], end: usize)
-    requires { end ≤ length out.old }
-    ensures { out.new ≡ sets out.old 243 (replicate (end - 243) 0) }
-{
-    let mut at: usize = 243;
-    while at < end {
-        out[at] = 0;
-        at += 1;
-    }
-}
-
 fn put_lists(out: &mut [u8], lists: Lists)
     ensures { out.new ≡ sets out.old 243 (lists_bytes lists) }
 {
-    let sources = lists.sources;
-    let destinations = lists.destinations;
-    let areas = lists.areas;
-    put_group(out, 243, sources);
-    put_group(out, 349, destinations);
-    put_areas(out, 455, areas);
+    put_group(out, 243, lists.sources);
+    put_group(out, 349, lists.destinations);
+    put_areas(out, 455, lists.areas);
 }
 
 fn put_areas(out: &mut [u8], at: usize, areas: Areas)
     requires { at ≤ 1000 }
     ensures { out.new ≡ sets out.old at (areas_bytes areas) }
 {
-    let list = areas.areas;
     number::put_byte(out, at, areas.range);
-    put_bytes(out, at + 1, list);
+    put_bytes(out, at + 1, areas.areas);
 }
 
 fn put_bytes(out: &mut [u8], at: usize, list: [u8; 15])
     requires { at ≤ 2000 }
     ensures { out.new ≡ sets out.old at (rows_bytes byte_bytes list) }
 {
-    let mut i: usize = 0;
-    while i < 15 {
+    for i in 0..15 {
         number::put_byte(out, at + i, list[i]);
-        i += 1;
     }
 }
 
@@ -282,20 +210,16 @@ fn put_group(out: &mut [u8], at: usize, group: Group)
     requires { at ≤ 1000 }
     ensures { (out.new ≡ sets out.old at (group_bytes group)) × (length group.addresses ≡ 15) }
 {
-    let list = group.addresses;
     number::put_byte(out, at, group.range);
-    put_addresses(out, at + 1, list);
+    put_addresses(out, at + 1, group.addresses);
 }
 
 fn put_addresses(out: &mut [u8], at: usize, list: [Address; 15])
     requires { at ≤ 2000 }
     ensures { (out.new ≡ sets out.old at (rows_bytes address_bytes list)) × (length list ≡ 15) }
 {
-    let mut i: usize = 0;
-    while i < 15 {
-        let a = list[i];
-        put_address(out, at + 7 * i, a);
-        i += 1;
+    for i in 0..15 {
+        put_address(out, at + 7 * i, list[i]);
     }
 }
 

@@ -8,7 +8,7 @@ use crate::number;
 pub(crate) fn bit(buf: &[u8], at: usize) -> u64
     ensures { result ≡ field_at (bit_at buf.now) at 1 }
 {
-    (number::wide(number::byte_at(buf, at / 8)) >> (7 - at % 8)) % 2
+    (u64::from(number::byte_at(buf, at / 8)) >> (7 - at % 8)) % 2
 }
 
 // The number in up to 57 bits from position `at` on.
@@ -34,21 +34,12 @@ pub(crate) fn window(buf: &[u8], at: usize) -> u64
     if n < 8 {
         return bits::field(buf, at, 57);
     }
-    let i = lesser(at / 8, n - 8);
+    let i = (at / 8).min(n - 8);
     let s = at - 8 * i;
     if s > 63 {
         return 0;
     }
     bits::eight(buf, i) << s >> 7
-}
-
-fn lesser(a: usize, b: usize) -> usize
-    ensures { result ≡ min a b }
-{
-    if a < b {
-        return a;
-    }
-    b
 }
 
 // The number in 50 bits, above one byte more, which may be anything.

@@ -11,11 +11,11 @@ lay-requires c = refl
 
 pub put_area-requires : goal.put_area-requires
 put_area-requires c =
-    (c.if-room-lt-BYTES.false, (c.lay.ensures.0, quick_tail c.args.profile.now c.args.message.now c.args.bits c.args.value.now (sym c.passes.ensures ∙ c.if-passes.true) _ (c.lay.ensures.1 c.if-lay.true)))
+    (c.if-room-lt-BYTES.false, quick_tail c.args.profile.now c.args.message.now c.args.bits c.args.value.now (sym c.passes.ensures ∙ c.if-passes.true) _ (c.lay.ensures c.if-lay.true))
 
 pub returns-then-lay : goal.returns-then-lay
 returns-then-lay c =
-    (λ e. not_both (sym e), λ e. quick_0 c.args.profile.now c.args.message.now c.args.bits c.args.value.now (sym c.passes.ensures ∙ c.if-passes.true) _ (c.lay.ensures.1 c.if-lay.true) c.if-room-lt-BYTES.false _ c.put_area.ensures)
+    (λ e. not_both (sym e), λ e. quick_0 c.args.profile.now c.args.message.now c.args.bits c.args.value.now (sym c.passes.ensures ∙ c.if-passes.true) _ (c.lay.ensures c.if-lay.true) c.if-room-lt-BYTES.false _ c.put_area.ensures)
 
 pub returns-else-lay : goal.returns-else-lay
 returns-else-lay c = (λ e. refl, λ e. not_both e)

@@ -17,4 +17,4 @@ copy_bytes-requires c = let d = c.draw-n in (c.if-message-n.false, omega (arith,
 pub returns : goal.returns
 returns c =
     drawn_laid _ _ _ _ _ (c.reads_back.ensures c.if-not-reads_back.false) c.if-message-n.false
-    (λ j. omega (arith, c.slice_known-1.given j)) (c.spare_zero.ensures c.if-not-spare_zero.false) _ c.copy_bytes.ensures
+    (λ j. omega (arith, c.slice_known-1.given j)) (c.spare_zero.ensures c.if-not-spare_zero.false) _ c.copy_bytes.ensures.1

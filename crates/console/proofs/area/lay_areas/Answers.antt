@@ -1,4 +1,4 @@
-use Rattle.std.proofs.Common.{refl, arith, rules}
+use Rattle.std.proofs.Common.{arith}
 use Rattle.bits.proofs.FieldLaws.{bit_lt}
 use Rattle.bits.specs.Fields.{bit_at}
 use Rattle.layouts.proofs.PartLaws.{areas_lay}
@@ -12,29 +12,14 @@ overflow_add-range c = omega (arith, c.four-range.ensures.1)
 pub overflow_cast-range : goal.overflow_cast-range
 overflow_cast-range c = omega (arith, c.four-range.ensures.1)
 
-pub returns-then-m-eq0 : goal.returns-then-m-eq0
-returns-then-m-eq0 c = (search rules, λ z. absurd (z refl))
-
 pub returns-then-m-lt16 : goal.returns-then-m-lt16
 returns-then-m-lt16 c =
-    (c.lay_places.ensures.0, λ z v l. areas_lay (air_from c.args.profile.now) (bit_at c.args.buf.now) (bit_lt c.args.buf.now) c.args.area.now _ c.args.at _ v l (list_areas c.args.profile.now (bit_at c.args.buf.now) (bit_lt c.args.buf.now) c.args.at c.args.area.now _ _ _ _ _ c.four-range.ensures.0 c.put_byte.ensures c.byte_at-m.ensures v l c.if-m-eq0.false c.if-m-lt16.true c.lay_places.ensures.1))
+    λ v l. areas_lay (air_from c.args.profile.now) (bit_at c.args.buf.now) (bit_lt c.args.buf.now) c.args.area.now _ c.args.at _ v l (list_areas c.args.profile.now (bit_at c.args.buf.now) (bit_lt c.args.buf.now) c.args.at c.args.area.now _ _ _ _ _ c.four-range.ensures.0 c.put_byte.ensures c.byte_at-m.ensures v l c.if-m-eq0.false c.if-m-lt16.true c.lay_places.ensures)
 
 pub returns-then-m-eq16 : goal.returns-then-m-eq16
 returns-then-m-eq16 c =
-    (c.lay_places-then-m-eq16.ensures.0, λ z v l. areas_lay (air_from c.args.profile.now) (bit_at c.args.buf.now) (bit_lt c.args.buf.now) c.args.area.now _ c.args.at _ v l (none_areas c.args.profile.now (bit_at c.args.buf.now) (bit_lt c.args.buf.now) c.args.at c.args.area.now _ _ _ _ _ c.four-range.ensures.0 c.put_byte.ensures c.byte_at-m.ensures v l c.if-m-eq16.true c.lay_places-then-m-eq16.ensures.1))
-
-pub returns-then-m-gt17 : goal.returns-then-m-gt17
-returns-then-m-gt17 c = (search rules, λ z. absurd (z refl))
-
-pub bounds-area-456 : goal.bounds-area-456
-bounds-area-456 c = omega (arith, c.lay_places-next.ensures.0)
-
-pub bounds-area-457 : goal.bounds-area-457
-bounds-area-457 c = omega (arith, c.lay_places-next.ensures.0)
+    λ v l. areas_lay (air_from c.args.profile.now) (bit_at c.args.buf.now) (bit_lt c.args.buf.now) c.args.area.now _ c.args.at _ v l (none_areas c.args.profile.now (bit_at c.args.buf.now) (bit_lt c.args.buf.now) c.args.at c.args.area.now _ _ _ _ _ c.four-range.ensures.0 c.put_byte.ensures c.byte_at-m.ensures v l c.if-m-eq16.true c.lay_places-then-m-eq16.ensures)
 
 pub returns-then-area : goal.returns-then-area
 returns-then-area c =
-    (c.lay_places-next.ensures.0, λ z v l. areas_lay (air_from c.args.profile.now) (bit_at c.args.buf.now) (bit_lt c.args.buf.now) c.args.area.now _ c.args.at _ v l (ends_areas c.args.profile.now (bit_at c.args.buf.now) (bit_lt c.args.buf.now) c.args.at c.args.area.now _ _ _ _ _ c.four-range.ensures.0 c.put_byte.ensures c.byte_at-m.ensures v l (omega (arith, c.if-m-lt16.false, c.if-m-eq16.false, c.if-m-gt17.false)) c.lay_places-next.ensures.1 c.requires.0 c.if-area.true))
-
-pub returns : goal.returns
-returns c = (c.lay_places-next.ensures.0, λ z. absurd (z refl))
+    λ v l. areas_lay (air_from c.args.profile.now) (bit_at c.args.buf.now) (bit_lt c.args.buf.now) c.args.area.now _ c.args.at _ v l (ends_areas c.args.profile.now (bit_at c.args.buf.now) (bit_lt c.args.buf.now) c.args.at c.args.area.now _ _ _ _ _ c.four-range.ensures.0 c.put_byte.ensures c.byte_at-m.ensures v l (omega (arith, c.if-m-lt16.false, c.if-m-eq16.false, c.if-m-gt17.false)) c.lay_places-next.ensures (omega arith) c.if-area.true)

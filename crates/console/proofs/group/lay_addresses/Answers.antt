@@ -1,12 +1,9 @@
-use Rattle.std.proofs.Common.{sym, refl, ◌∙◌, arith}
+use Rattle.std.proofs.Common.{refl, arith}
 use Rattle.bits.proofs.FieldLaws.{bit_lt, field_below}
 use Rattle.bits.specs.Fields.{bit_at}
 use Rattle.console.proofs.LayLaws.{double_is}
-use Rattle.layouts.proofs.RunLaws.{laying_start, laying_length, laying_end, stored_most, laying_turn}
+use Rattle.layouts.proofs.RunLaws.{laying_start, laying_end, stored_most, laying_turn}
 use Rattle.console.proofs.group.lay_addresses.Goals as goal
-
-pub shape_of-area-then-buf-lt8 : goal.shape_of-area-then-buf-lt8
-shape_of-area-then-buf-lt8 c = c.lay_alone.ensures.0 ∙ sym c.requires.0
 
 pub returns-then-buf-lt8 : goal.returns-then-buf-lt8
 returns-then-buf-lt8 c = c.lay_alone.ensures
@@ -19,42 +16,22 @@ pub loop-p-init : goal.loop-p-init
 loop-p-init c =
     laying_start (bit_at c.args.buf.now) (bit_lt c.args.buf.now) _ _ c.args.count c.args.at c.args.area.now c.args.place _ refl refl (double_is _ _ _ c.window-held.ensures)
 
-pub lay_kind-step-requires : goal.lay_kind-step-requires
-lay_kind-step-requires c =
+pub lay_kind-requires : goal.lay_kind-requires
+lay_kind-requires c =
     omega (arith, c.loop-p.invariant.here, c.loop-p.invariant.room, c.requires, c.loop-p-test.true)
-
-pub shape_of-area-then-step-eq0 : goal.shape_of-area-then-step-eq0
-shape_of-area-then-step-eq0 c = c.lay_kind-step.ensures.0 ∙ c.loop-p.invariant.room
-
-pub returns-then-step-eq0 : goal.returns-then-step-eq0
-returns-then-step-eq0 c = (c.lay_kind-step.ensures.0 ∙ c.loop-p.invariant.room ∙ c.requires.0, λ z. absurd (z refl))
 
 pub overflow_add-next : goal.overflow_add-next
 overflow_add-next c =
-    omega (arith, stored_most _ _ _ _ _ (c.lay_kind-step.ensures.1 c.if-step-eq0.false), c.loop-p.invariant.low, c.loop-p.invariant.few, c.requires)
-
-pub bounds-area-end-then-p-end : goal.bounds-area-end-then-p-end
-bounds-area-end-then-p-end c = omega (arith, c.lay_kind-step.ensures.0, c.loop-p.invariant.room, c.requires)
-
-pub shape_of-area-then-p-end : goal.shape_of-area-then-p-end
-shape_of-area-then-p-end c =
-    let so = laying_turn (bit_at c.args.buf.now) (bit_lt c.args.buf.now) _ _ c.args.count c.args.at c.args.area.now c.args.place _ _ _ _ c.loop-p.invariant c.loop-p-test.true _ _ (c.lay_kind-step.ensures.1 c.if-step-eq0.false) 0 (λ i. absurd (omega (arith, i, c.if-p-end.true))) in
-    laying_length (bit_at c.args.buf.now) (bit_lt c.args.buf.now) _ _ c.args.count c.args.at c.args.area.now c.args.place _ _ _ _ so
+    omega (arith, stored_most _ _ _ _ _ c.in_ok-next.ensures, c.loop-p.invariant.low, c.loop-p.invariant.few, c.requires)
 
 pub returns-then-p-end : goal.returns-then-p-end
 returns-then-p-end c =
-    let so = laying_turn (bit_at c.args.buf.now) (bit_lt c.args.buf.now) _ _ c.args.count c.args.at c.args.area.now c.args.place _ _ _ _ c.loop-p.invariant c.loop-p-test.true _ _ (c.lay_kind-step.ensures.1 c.if-step-eq0.false) 0 (λ i. absurd (omega (arith, i, c.if-p-end.true))) in
-    (laying_length (bit_at c.args.buf.now) (bit_lt c.args.buf.now) _ _ c.args.count c.args.at c.args.area.now c.args.place _ _ _ _ so ∙ c.requires.0, λ z. laying_end (bit_at c.args.buf.now) (bit_lt c.args.buf.now) _ _ c.args.count c.args.at c.args.area.now c.args.place _ _ _ _ so c.if-p-end.true _ refl)
+    let so = laying_turn (bit_at c.args.buf.now) (bit_lt c.args.buf.now) _ _ c.args.count c.args.at c.args.area.now c.args.place _ _ _ _ c.loop-p.invariant c.loop-p-test.true _ _ c.in_ok-next.ensures 0 (λ i. absurd (omega (arith, i, c.if-p-end.true))) in
+    laying_end (bit_at c.args.buf.now) (bit_lt c.args.buf.now) _ _ c.args.count c.args.at c.args.area.now c.args.place _ _ _ _ so c.if-p-end.true _ refl
 
 pub ahead-held-requires : goal.ahead-held-requires
 ahead-held-requires c = c.if-buf-lt8.false
 
 pub loop-p-preserved : goal.loop-p-preserved
 loop-p-preserved c =
-    laying_turn (bit_at c.args.buf.now) (bit_lt c.args.buf.now) _ _ c.args.count c.args.at c.args.area.now c.args.place _ _ _ _ c.loop-p.invariant c.loop-p-test.true _ _ (c.lay_kind-step.ensures.1 c.if-step-eq0.false) _ (λ i. c.ahead-held.ensures)
-
-pub shape_of-area : goal.shape_of-area
-shape_of-area c = c.loop-p.invariant.room
-
-pub returns : goal.returns
-returns c = (c.loop-p.invariant.room ∙ c.requires.0, λ z. absurd (z refl))
+    laying_turn (bit_at c.args.buf.now) (bit_lt c.args.buf.now) _ _ c.args.count c.args.at c.args.area.now c.args.place _ _ _ _ c.loop-p.invariant c.loop-p-test.true _ _ c.in_ok-next.ensures _ (λ i. c.ahead-held.ensures)

@@ -1,9 +1,6 @@
-use Rattle.std.proofs.Common.{◌≡◌, ◌-◌, ◌*◌, ◌^◌, ◌<◌, ◌≤◌, drop}
+use Rattle.std.proofs.Common.{◌≡◌, ◌*◌, ◌^◌, ◌<◌, drop}
 use Rattle.layouts.specs.Bytes.{number_from}
 use Rattle.console.proofs.number.number_at.Given as goal
 
 abbrev pub invariant-loop-k : goal.invariant-loop-k
-invariant-loop-k l = (l.k ≤ l.count) × ((l.v ≡ number_from l.k (drop l.at l.l)) × (l.v < 2 ^ (8 * l.k)))
-
-abbrev pub decreases-loop-k : goal.decreases-loop-k
-decreases-loop-k l = l.count - l.k
+invariant-loop-k l = (l.v ≡ number_from l.k (drop l.at l.l)) × (l.v < 2 ^ (8 * l.k))

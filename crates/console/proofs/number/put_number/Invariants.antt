@@ -1,10 +1,7 @@
-use Rattle.std.proofs.Common.{◌≡◌, ◌≤◌}
+use Rattle.std.proofs.Common.{◌≡◌}
 use lib.Seq.{sets}
 use Rattle.layouts.specs.Bytes.{number_bytes}
 use Rattle.console.proofs.number.put_number.Given as goal
 
 abbrev pub invariant-loop-k : goal.invariant-loop-k
-invariant-loop-k l = (l.k ≤ l.count) × (sets l.initial.out l.at (number_bytes l.count l.v) ≡ sets l.out l.at (number_bytes l.k l.rest))
-
-abbrev pub decreases-loop-k : goal.decreases-loop-k
-decreases-loop-k l = l.k
+invariant-loop-k l = sets l.initial.out l.at (number_bytes l.count l.v) ≡ sets l.out l.at (number_bytes l.k l.rest)

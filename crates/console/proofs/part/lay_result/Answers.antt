@@ -1,4 +1,4 @@
-use Rattle.std.proofs.Common.{◌+◌, sym, refl, ◌∙◌, arith, rules}
+use Rattle.std.proofs.Common.{◌+◌, sym, refl, ◌∙◌, arith}
 use Rattle.bits.proofs.FieldLaws.{bit_lt, field_below}
 use Rattle.bits.specs.Fields.{bit_at}
 use Rattle.console.proofs.LayLaws.{zero_bit}
@@ -8,7 +8,7 @@ use Rattle.console.proofs.part.lay_result.Goals as goal
 
 pub returns-then-result-eq1 : goal.returns-then-result-eq1
 returns-then-result-eq1 c =
-    (search rules, λ z v l. accepted_lay (air_from c.args.profile.now) (bit_at c.args.buf.now) (bit_lt c.args.buf.now) c.args.area.now _ c.args.at _ v l (sym c.bit-result.ensures ∙ c.if-result-eq1.true) refl refl)
+    λ v l. accepted_lay (air_from c.args.profile.now) (bit_at c.args.buf.now) (bit_lt c.args.buf.now) c.args.area.now _ c.args.at _ v l (sym c.bit-result.ensures ∙ c.if-result-eq1.true) refl refl
 
 pub overflow_cast-area : goal.overflow_cast-area
 overflow_cast-area c =
@@ -16,4 +16,4 @@ overflow_cast-area c =
 
 pub returns : goal.returns
 returns c =
-    (search rules, λ z v l. rejected_lay (air_from c.args.profile.now) (bit_at c.args.buf.now) (bit_lt c.args.buf.now) c.args.area.now _ c.args.at _ v l _ (zero_bit c.args.buf.now c.args.at _ c.bit-result.ensures c.if-result-eq1.false) c.take.ensures refl refl)
+    λ v l. rejected_lay (air_from c.args.profile.now) (bit_at c.args.buf.now) (bit_lt c.args.buf.now) c.args.area.now _ c.args.at _ v l _ (zero_bit c.args.buf.now c.args.at _ c.bit-result.ensures c.if-result-eq1.false) c.take.ensures refl refl

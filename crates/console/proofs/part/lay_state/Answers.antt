@@ -1,4 +1,4 @@
-use Rattle.std.proofs.Common.{refl, arith, rules}
+use Rattle.std.proofs.Common.{refl, arith}
 use Rattle.bits.proofs.FieldLaws.{bit_lt}
 use Rattle.bits.specs.Fields.{bit_at}
 use Rattle.layouts.proofs.PartLaws.{state_lay, no_state_lay}
@@ -10,8 +10,8 @@ overflow_cast-w c = omega (arith, c.if-w-lt64.true)
 
 pub returns-then-w-lt64 : goal.returns-then-w-lt64
 returns-then-w-lt64 c =
-    (search rules, λ z v l. no_state_lay (air_from c.args.profile.now) (bit_at c.args.buf.now) (bit_lt c.args.buf.now) c.args.area.now _ c.args.at _ v l _ c.take-w.ensures c.if-w-lt64.true refl c.put_state.ensures)
+    λ v l. no_state_lay (air_from c.args.profile.now) (bit_at c.args.buf.now) (bit_lt c.args.buf.now) c.args.area.now _ c.args.at _ v l _ c.take-w.ensures c.if-w-lt64.true refl c.put_state.ensures
 
 pub returns : goal.returns
 returns c =
-    (search rules, λ z v l. state_lay (air_from c.args.profile.now) (bit_at c.args.buf.now) (bit_lt c.args.buf.now) c.args.area.now _ c.args.at _ v l _ c.take-w.ensures c.if-w-lt64.false refl c.put_state-2.ensures)
+    λ v l. state_lay (air_from c.args.profile.now) (bit_at c.args.buf.now) (bit_lt c.args.buf.now) c.args.area.now _ c.args.at _ v l _ c.take-w.ensures c.if-w-lt64.false refl c.put_state-2.ensures

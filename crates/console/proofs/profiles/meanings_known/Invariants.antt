@@ -1,9 +1,6 @@
-use Rattle.std.proofs.Common.{◌≡◌, ◌+◌, ◌-◌, ◌≤◌, leb, get_or}
+use Rattle.std.proofs.Common.{◌≡◌, ◌+◌, leb, get_or}
 use Rattle.profile.specs.Counting.{every}
 use Rattle.console.proofs.profiles.meanings_known.Given as goal
 
 abbrev pub invariant-loop-r : goal.invariant-loop-r
-invariant-loop-r l = (l.r ≤ 16) × (l.known ≡ every l.r (λ r. leb (get_or l.l (6 + r) 0) 17))
-
-abbrev pub decreases-loop-r : goal.decreases-loop-r
-decreases-loop-r l = 16 - l.r
+invariant-loop-r l = l.known ≡ every l.r (λ r. leb (get_or l.l (6 + r) 0) 17)

@@ -8,8 +8,8 @@ returns-then-n-lt8 c = c.field.ensures ∙ field_is c.args.buf.now c.args.at 57 
 
 pub returns-then-s-gt63 : goal.returns-then-s-gt63
 returns-then-s-gt63 c =
-    window_past c.args.buf.now c.args.at c.if-n-lt8.false _ c.lesser-i.ensures c.if-s-gt63.true
+    window_past c.args.buf.now c.args.at c.if-n-lt8.false _ c.min-i.ensures c.if-s-gt63.true
 
 pub returns : goal.returns
 returns c =
-    window_there c.args.buf.now c.args.at c.if-n-lt8.false _ c.lesser-i.ensures _ c.if-s-gt63.false c.eight.ensures
+    window_there c.args.buf.now c.args.at c.if-n-lt8.false _ c.min-i.ensures _ c.if-s-gt63.false c.eight.ensures
