@@ -5,7 +5,6 @@
 #![tactic(auto)]
 
 ghost use Rattle.std.specs.Prelude.{◌≡◌, false, ◌<◌, ◌≤◌, get_or};
-ghost use Rattle.profile.specs.Counting.{one};
 ghost use Rattle.sending.specs.Sending.{no_laid, laid_more, send_laid, send_area, all_laid, all_area};
 ghost use Rattle.sending.specs.Acks.{result_of, reason_of, several_in, ack_v, ack_of, ack_if, acks_of};
 
@@ -13,7 +12,8 @@ use message::{Group, Value};
 use profile::{Air, Profile};
 use records::Sorted;
 
-// How many messages were written, and their lengths in bits.
+// How many messages were written, and their lengths in bits. An array and a count, of fixed memory: the host and definitions of host, words
+// and history name both fields.
 #[derive(Clone, Copy)]
 pub struct Laid {
     pub count: u8,
@@ -34,14 +34,10 @@ pub fn send(profile: Profile, laid: Laid, value: Value, out: &mut [u8]) -> Laid
     ensures { (result ≡ send_laid profile laid out.old value)
         × (out.new ≡ send_area profile laid out.old value) }
 {
-    let count = laid.count;
-    if count < 3 {
-        let written = writing::write_at(profile, value, out, 100 * (count as u16));
-        if written.done {
-            let lengths = laid.lengths;
-            return more(count, lengths, written.bits);
+    if laid.count < 3 {
+        if let Ok(bits) = writing::write_at(profile, value, out, 100 * (laid.count as u16)) {
+            return more(laid, bits);
         }
-        return laid;
     }
     laid
 }
@@ -51,25 +47,26 @@ pub fn send_acks(profile: Profile, ack: u8, users: Group, sorted: Sorted, out: &
     ensures { (result ≡ all_laid profile no_laid out.old (acks_of profile.air ack users sorted))
         × (out.new ≡ all_area profile no_laid out.old (acks_of profile.air ack users sorted)) }
 {
-    let a = send_ack(profile, ack, users, sorted, 0, no_laid(), out);
-    let b = send_ack(profile, ack, users, sorted, 1, a, out);
-    send_ack(profile, ack, users, sorted, 2, b, out)
+    let mut laid = no_laid();
+    for class in 0..3 {
+        laid = send_ack(profile, ack, users, sorted, class, laid, out);
+    }
+    laid
 }
 
-fn more(count: u8, lengths: [u16; 3], bits: usize) -> Laid
-    requires { (count < 3) × (bits < 65536) }
-    ensures { result ≡ laid_more (record { count = count; lengths = lengths }) bits }
+fn more(laid: Laid, bits: usize) -> Laid
+    requires { (laid.count < 3) × (bits < 65536) }
+    ensures { result ≡ laid_more laid bits }
 {
-    let mut next = lengths;
-    let at = count as usize;
-    next[at] = bits as u16;
+    let mut lengths = laid.lengths;
+    lengths[usize::from(laid.count)] = bits as u16;
     Laid {
-        count: count + 1,
-        lengths: next,
+        count: laid.count + 1,
+        lengths,
     }
 }
 
-// The ACK of one outcome, if an identity has it.
+// The ACK of one outcome, if an identity has it. An outcome is a number, 0 to 2, since it is the place in both arrays of `Sorted`.
 fn send_ack(
     profile: Profile,
     ack: u8,
@@ -82,10 +79,13 @@ fn send_ack(
     ensures { (result ≡ all_laid profile laid out.old (ack_if profile.air ack users sorted class))
         × (out.new ≡ all_area profile laid out.old (ack_if profile.air ack users sorted class)) }
 {
-    let some = sorted.some;
-    if is_there(some, class) {
-        let air = profile.air;
-        return send(profile, laid, ack_of(air, ack, users, sorted, class), out);
+    if is_there(sorted.some, class) {
+        return send(
+            profile,
+            laid,
+            ack_of(profile.air, ack, users, sorted, class),
+            out,
+        );
     }
     laid
 }
@@ -93,23 +93,17 @@ fn send_ack(
 fn ack_of(air: Air, ack: u8, users: Group, sorted: Sorted, class: u8) -> Value
     ensures { result ≡ ack_of air ack users sorted class }
 {
-    let some = sorted.some;
-    let mask = sorted.mask;
-    if is_several(some) {
-        return ack_with(
-            ack,
-            users,
-            true,
-            mask_at(mask, class),
-            result_of(class),
-            reason_of(air, class),
-        );
-    }
+    let masked = is_several(sorted.some);
+    let mask = if masked {
+        mask_at(sorted.mask, class)
+    } else {
+        0
+    };
     ack_with(
         ack,
         users,
-        false,
-        0,
+        masked,
+        mask,
         result_of(class),
         reason_of(air, class),
     )
@@ -121,58 +115,46 @@ fn ack_with(ack: u8, users: Group, masked: bool, mask: u64, res: u8, reason: u8)
     let request = message::with_users(message::blank(ack), users);
     message::with_result(
         message::with_mask(request, masked, mask),
-        res as u32,
-        reason as u32,
+        u32::from(res),
+        u32::from(reason),
     )
 }
 
+#[tactic(auto, unfolding(crate::specs::Acks::several_in))]
 fn is_several(some: [bool; 3]) -> bool
     ensures { result ≡ several_in some }
 {
-    one_if(is_there(some, 0)) + one_if(is_there(some, 1)) + one_if(is_there(some, 2)) > 1
+    some.iter().filter(|there| **there).count() > 1
 }
 
-fn one_if(b: bool) -> u8
-    ensures { (result ≡ one b) × (result ≤ 1) }
-{
-    if b { 1 } else { 0 }
-}
-
+// This and `mask_at` are a line each, so two stay.
 fn is_there(some: [bool; 3], class: u8) -> bool
     ensures { result ≡ get_or some class false }
 {
-    let i = class as usize;
-    if i < 3 {
-        return some[i];
-    }
-    false
+    some.get(usize::from(class)).copied().unwrap_or(false)
 }
 
 fn mask_at(mask: [u64; 3], class: u8) -> u64
     ensures { result ≡ get_or mask class 0 }
 {
-    let i = class as usize;
-    if i < 3 {
-        return mask[i];
-    }
-    0
+    mask.get(usize::from(class)).copied().unwrap_or(0)
 }
 
+#[tactic(auto, unfolding(crate::specs::Acks::result_of))]
 fn result_of(class: u8) -> u8
     ensures { result ≡ result_of class }
 {
-    if class == 0 { 1 } else { 0 }
+    u8::from(class == 0)
 }
 
 // U or N for a failure; an acceptance has no reason.
+#[tactic(auto, unfolding(crate::specs::Acks::reason_of))]
 fn reason_of(air: Air, class: u8) -> u8
     ensures { result ≡ reason_of air class }
 {
-    if class == 0 {
-        return 0;
+    match class {
+        0 => 0,
+        1 => air.unknown,
+        _ => air.other,
     }
-    if class == 1 {
-        return air.unknown;
-    }
-    air.other
 }

@@ -1,13 +1,12 @@
-use mathlib.Core.Path.{sym, ◌∙◌}
+use mathlib.Core.Path.{refl, ◌∙◌}
 use Rattle.sending.specs.Acks.{ack_of}
+use Rattle.sending.proofs.ack_of.Goals.{then-masked, else-masked}
 use Rattle.sending.proofs.ack_of.Goals as goal
-
-pub returns-then-is_several : goal.returns-then-is_several
-unfolding ack_of
-returns-then-is_several c =
-    rw (c.ack_with.ensures, c.reason_of.ensures, c.result_of.ensures, c.mask_at.ensures, sym c.is_several.ensures ∙ c.if-is_several.true)
 
 pub returns : goal.returns
 unfolding ack_of
 returns c =
-    rw (c.ack_with-2.ensures, c.reason_of-2.ensures, c.result_of-2.ensures, sym c.is_several.ensures ∙ c.if-is_several.false)
+    c.ack_with.ensures ∙ rw (c.reason_of.ensures, c.result_of.ensures, ← c.is_several-masked.ensures) (elim c.if-masked.branch [
+      | then-masked w ↦ rw (w.mask-is, w.if-masked.true, w.mask_at-mask.ensures) refl
+      | else-masked w ↦ rw (w.mask-is, w.if-masked.false) refl
+    ])
