@@ -5,8 +5,8 @@ use mathlib.Core.Bool.{Bool, true, false, not, cond}
 use mathlib.Core.List.{List, [], ◌∷◌}
 use lib.Dec.{eqb}
 use borrow.Author.Tests.{eq-eqb, ne_eqb, lt-ltb, le-ltb}
-use Rattle.codec.specs.Stops.{refusal, no_stop}
-use Rattle.codec.proofs.Good.{both_right, not_both}
+use Rattle.codec.specs.Stops.{refusal}
+use Rattle.codec.proofs.Good.{both_right}
 use Rattle.profile.specs.Rules.{profile_ok}
 use Rattle.places.specs.Held.{place_in, admits_of}
 use Rattle.places.specs.Spots.{place_of, clear_of, moved_on, move_of}
@@ -15,10 +15,12 @@ use Rattle.places.proofs.SpotLaws.{WaitsFirst, place_of_exactly, spot_found}
 use Rattle.places.specs.declared.Place.{Place}
 use Rattle.places.specs.declared.Places.{Places}
 use Rattle.places.specs.declared.Spot.{Spot}
+use lib.ListN.{length}
+use Rattle.message.specs.declared.Value.{Value}
 use Rattle.records.specs.Marking.{no_marks}
 use Rattle.records.specs.declared.Marks.{Marks}
 use Rattle.codec.specs.declared.Stop.{Stop}
-use Rattle.sending.specs.Sending.{lay_from, lay_all, laid_from, laid_of}
+use Rattle.sending.specs.Sending.{lay_from, lay_all, laid_from, laid_of, no_laid, send_laid, send_area}
 use Rattle.sending.specs.declared.Laid.{Laid}
 use Rattle.desk.specs.Desks.{desk_ok}
 use Rattle.desk.specs.Notices.{accepted, request_of}
@@ -28,38 +30,38 @@ use Rattle.desk.specs.declared.Answer.{Answer}
 use Rattle.desk.specs.declared.Answer.TheVariants as answer
 use Rattle.desk.specs.declared.Desk.{Desk}
 use Rattle.desk.specs.declared.Stepped.{Stepped}
-use Rattle.desk.specs.declared.ending.Ending.{Ending}
+use Rattle.std.specs.Prelude.{Ok, Err}
+use Rattle.sending.proofs.AckLaws.{accepted_sends}
+use Rattle.sending.proofs.SentLaws.{Sends, one_sent}
 
 module _ (d : Desk) (post identifier : ℕ) (a : Answer) where
   -- the post's call was found, or not: by 19 or 20
-  pub end_found : (e : Ending) → e ≡ ending_of d post identifier → e.found ≡ true
-      → (end_answer d post identifier a ≡ a) × ((e.place ≡ (place_of (places_of d) identifier).place) × ((place_of (places_of d) identifier).found ≡ true))
+  pub end_found : (place : ℕ) → Ok place ≡ ending_of d post identifier
+      → (end_answer d post identifier a ≡ a) × ((place ≡ (place_of (places_of d) identifier).place) × ((place_of (places_of d) identifier).found ≡ true))
   unfolding end_answer ending_of
-  end_found e z = go (place_of (places_of d) identifier).found (eqb (place_in (places_of d) (place_of (places_of d) identifier).place).post post) z
+  end_found place z = go (place_of (places_of d) identifier).found (eqb (place_in (places_of d) (place_of (places_of d) identifier).place).post post) z
     where
       i : ℕ
       i = (place_of (places_of d) identifier).place
 
-      go : (f g : Bool) → e ≡ cond f (cond g (record { found = true; stop = no_stop; place = i }) (record { found = false; stop = refusal 20; place = 0 })) (record { found = false; stop = refusal 19; place = 0 })
-          → e.found ≡ true
-          → (cond (not f) (answer.Refused (refusal 19)) (cond (not g) (answer.Refused (refusal 20)) a) ≡ a) × ((e.place ≡ i) × (f ≡ true))
-      go true true z h = (refl, (ap (λ (x : Ending). x.place) z, refl))
-      go true false z h = not_both (sym (ap (λ (x : Ending). x.found) z) ∙ h)
-      go false g z h = not_both (sym (ap (λ (x : Ending). x.found) z) ∙ h)
+      go : (f g : Bool) → Ok place ≡ cond f (cond g (Ok i) (Err (refusal 20))) (Err (refusal 19))
+          → (cond (not f) (answer.Refused (refusal 19)) (cond (not g) (answer.Refused (refusal 20)) a) ≡ a) × ((place ≡ i) × (f ≡ true))
+      go true true z = (refl, (cc, refl))
+      go true false z = cc
+      go false g z = cc
 
-  pub end_not : (e : Ending) → e ≡ ending_of d post identifier → e.found ≡ false → end_answer d post identifier a ≡ answer.Refused e.stop
+  pub end_not : (s : Stop) → Err s ≡ ending_of d post identifier → end_answer d post identifier a ≡ answer.Refused s
   unfolding end_answer ending_of
-  end_not e z = go (place_of (places_of d) identifier).found (eqb (place_in (places_of d) (place_of (places_of d) identifier).place).post post) z
+  end_not s z = go (place_of (places_of d) identifier).found (eqb (place_in (places_of d) (place_of (places_of d) identifier).place).post post) z
     where
       i : ℕ
       i = (place_of (places_of d) identifier).place
 
-      go : (f g : Bool) → e ≡ cond f (cond g (record { found = true; stop = no_stop; place = i }) (record { found = false; stop = refusal 20; place = 0 })) (record { found = false; stop = refusal 19; place = 0 })
-          → e.found ≡ false
-          → cond (not f) (answer.Refused (refusal 19)) (cond (not g) (answer.Refused (refusal 20)) a) ≡ answer.Refused e.stop
-      go true true z h = not_both (sym (sym (ap (λ (x : Ending). x.found) z) ∙ h))
-      go true false z h = ap (λ (x : Ending). answer.Refused x.stop) (sym z)
-      go false g z h = ap (λ (x : Ending). answer.Refused x.stop) (sym z)
+      go : (f g : Bool) → Err s ≡ cond f (cond g (Ok i) (Err (refusal 20))) (Err (refusal 19))
+          → cond (not f) (answer.Refused (refusal 19)) (cond (not g) (answer.Refused (refusal 20)) a) ≡ answer.Refused s
+      go true true z = cc
+      go true false z = cc
+      go false g z = cc
 
 -- where a call waits
 pub waits_first : (d : Desk) (identifier : ℕ) → (place_of (places_of d) identifier).found ≡ true → WaitsFirst (places_of d) identifier (place_of (places_of d) identifier).place
@@ -123,48 +125,50 @@ module _ (d : Desk) (room identifier : ℕ) where
 -- ---- the search, as the code answers it
 
 module _ (d : Desk) (post identifier : ℕ) (s : Spot) (z : s ≡ place_of (places_of d) identifier) where
-  pub ending_here : s.found ≡ true → (q : ℕ) → q ≡ (place_in (places_of d) s.place).post → q ≡ post → (t : Stop) → t ≡ no_stop
-      → record { found = true; stop = t; place = s.place } ≡ ending_of d post identifier
+  pub ending_here : s.found ≡ true → (q : ℕ) → q ≡ (place_in (places_of d) s.place).post → q ≡ post → Ok s.place ≡ ending_of d post identifier
   unfolding ending_of
-  ending_here e q h k t w =
+  ending_here e q h k =
       let f : (place_of (places_of d) identifier).found ≡ true = ap (λ (x : Spot). x.found) (sym z) ∙ e in
       let p : (place_in (places_of d) (place_of (places_of d) identifier).place).post ≡ post = ap (λ (x : Spot). (place_in (places_of d) x.place).post) (sym z) ∙ sym h ∙ k in
-      rw (f, eq-eqb _ post p, w) (ap (λ (x : Spot). record { found = true; stop = no_stop; place = x.place }) z)
+      rw (f, eq-eqb _ post p) (ap (λ (x : Spot). Ok x.place) z)
 
-  pub ending_20 : s.found ≡ true → (q : ℕ) → q ≡ (place_in (places_of d) s.place).post → (q ≡ post → ⊥) → (e : Ending) (t : Stop)
-      → e ≡ record { found = false; stop = t; place = 0 } → t ≡ refusal 20 → e ≡ ending_of d post identifier
+  pub ending_20 : s.found ≡ true → (q : ℕ) → q ≡ (place_in (places_of d) s.place).post → (q ≡ post → ⊥) → (t : Stop) → t ≡ refusal 20 → Err t ≡ ending_of d post identifier
   unfolding ending_of
-  ending_20 f q h k e t w y =
+  ending_20 f q h k t y =
       let g : (place_of (places_of d) identifier).found ≡ true = ap (λ (x : Spot). x.found) (sym z) ∙ f in
       let p : (place_in (places_of d) (place_of (places_of d) identifier).place).post ≡ post → ⊥ = λ u. k (h ∙ ap (λ (x : Spot). (place_in (places_of d) x.place).post) z ∙ u) in
-      rw (g, ne_eqb _ post p) (w ∙ ap (λ (x : Stop). record { found = false; stop = x; place = 0 }) y)
+      rw (g, ne_eqb _ post p) (ap (λ (x : Stop). Err x) y)
 
-  pub ending_19 : s.found ≡ false → (e : Ending) (t : Stop) → e ≡ record { found = false; stop = t; place = 0 } → t ≡ refusal 19 → e ≡ ending_of d post identifier
+  pub ending_19 : s.found ≡ false → (t : Stop) → t ≡ refusal 19 → Err t ≡ ending_of d post identifier
   unfolding ending_of
-  ending_19 f e t w y =
+  ending_19 f t y =
       let g : (place_of (places_of d) identifier).found ≡ false = ap (λ (x : Spot). x.found) (sym z) ∙ f in
-      rw g (w ∙ ap (λ (x : Stop). record { found = false; stop = x; place = 0 }) y)
+      rw g (ap (λ (x : Stop). Err x) y)
 
 -- ---- a call that ends, with its message
 
-pub decided : (d : Desk) (s : Spoken) (place : ℕ) (a b : Answer) (x : Laid) (r : Stepped) (l m : List ℕ) → b ≡ a → effect_by s a ≡ ends s.identifier
-    → place ≡ (place_of (places_of d) s.identifier).place
-    → (x ≡ laid_of d.profile.air (messages_by d s a)) × (m ≡ lay_all d.profile.air l (messages_by d s a)) → r ≡ ended_step d place a x
+-- the answer, and its message, which is all that is sent
+pub decided : (d : Desk) (s : Spoken) (place : ℕ) (a b : Answer) (v w : Value) (r : Stepped) (l m : List ℕ) → b ≡ a → effect_by s a ≡ ends s.identifier
+    → messages_by d s a ≡ v ∷ [] → place ≡ (place_of (places_of d) s.identifier).place → profile_ok d.profile ≡ true → Sends d.profile v → 300 ≤ length l → w ≡ v
+    → (r ≡ ended_step d place a (send_laid d.profile no_laid l w)) × (m ≡ send_area d.profile no_laid l w)
     → (r ≡ plain_step d s b) × (m ≡ plain_area d s l b)
 unfolding plain_area
-decided d s place a b x r l m q e h z w = (
-  w ∙ ended_is d s place a x e h z.0 ∙ ap (λ (y : Answer). plain_step d s y) (sym q),
-  z.1 ∙ ap (λ (y : Answer). lay_all d.profile.air l (messages_by d s y)) (sym q),
-)
+decided d s place a b v w r l m q e one h sound sends room u z =
+    let x : Laid = send_laid d.profile no_laid l w in
+    let k = one_sent d.profile sound l m v w no_laid x sends room refl u (refl, z.1) in
+    let laid : x ≡ laid_of d.profile.air (messages_by d s a) = k.0 ∙ ap (λ (vs : List Value). laid_of d.profile.air vs) (sym one) in (
+      z.0 ∙ ended_is d s place a x e h laid ∙ ap (λ (y : Answer). plain_step d s y) (sym q),
+      k.1 ∙ ap (λ (vs : List Value). lay_all d.profile.air l vs) (sym one) ∙ ap (λ (y : Answer). lay_all d.profile.air l (messages_by d s y)) (sym q),
+    )
 
 -- ---- an ACCEPT by the post where the call waits: it proceeds, or moves
 
 -- on a desk that passes, the numbers of a call that waits fit their widths
-pub ending_sound : (d : Desk) (post identifier : ℕ) → desk_ok d ≡ true → (e : Ending) → e ≡ ending_of d post identifier → e.found ≡ true
-    → ((place_in (places_of d) e.place).identifier < 2 ^ 14) × ((place_in (places_of d) e.place).cause < 2 ^ 5)
+pub ending_sound : (d : Desk) (post identifier : ℕ) → desk_ok d ≡ true → (place : ℕ) → Ok place ≡ ending_of d post identifier
+    → ((place_in (places_of d) place).identifier < 2 ^ 14) × ((place_in (places_of d) place).cause < 2 ^ 5)
 unfolding desk_ok
-ending_sound d post identifier ok e z h =
-    let f = end_found d post identifier answer.Proceed e z h in
+ending_sound d post identifier ok place z =
+    let f = end_found d post identifier answer.Proceed place z in
     let w = waits_first d identifier f.1.1 in
     let c = (passes d.profile.shares (places_of d) (both_right (profile_ok d.profile) _ ok)).calls _ w.inside w.used in
     subst (λ (i : ℕ). ((place_in (places_of d) i).identifier < 2 ^ 14) × ((place_in (places_of d) i).cause < 2 ^ 5)) (sym f.1.0) (c.small, c.cause)
@@ -213,13 +217,14 @@ module _ (d : Desk) (place : ℕ) where
           e.1 ∙ ap (λ (x : Place). moved_area d place x area) z ∙ sym (ap (λ (b : Bool). cond b (moved_area d place q area) (lay_all d.profile.air area (accepted ∷ []))) two),
         )
 
-    pub accepted_proceeds : p.more ≡ false → (x : Laid) (m : List ℕ) (r : Stepped)
-        → (x ≡ laid_of d.profile.air (accepted ∷ [])) × (m ≡ lay_all d.profile.air area (accepted ∷ []))
-        → r ≡ ended_step d place answer.Proceed x → (r ≡ accepted_step d place) × (m ≡ accepted_area d place area)
+    pub accepted_proceeds : p.more ≡ false → (w : Value) (m : List ℕ) (r : Stepped) → profile_ok d.profile ≡ true → 300 ≤ length area → w ≡ accepted
+        → (r ≡ ended_step d place answer.Proceed (send_laid d.profile no_laid area w)) × (m ≡ send_area d.profile no_laid area w)
+        → (r ≡ accepted_step d place) × (m ≡ accepted_area d place area)
     unfolding accepted_step accepted_area
-    accepted_proceeds h x m r w e =
+    accepted_proceeds h w m r sound room u e =
         let one : (place_in (places_of d) place).more ≡ false = ap (λ (y : Place). y.more) (sym z) ∙ h in
-        (rw one (e ∙ ap (λ (y : Laid). ended_step d place answer.Proceed y) w.0), rw one w.1)
+        let k = one_sent d.profile sound area m accepted w no_laid (send_laid d.profile no_laid area w) (accepted_sends d.profile sound) room refl u (refl, e.1) in
+        (rw one (e.0 ∙ ap (λ (y : Laid). ended_step d place answer.Proceed y) k.0), rw one k.1)
 
 -- what it does is what its answer says
 module _ (d : Desk) (s : Spoken) where

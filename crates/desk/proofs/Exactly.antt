@@ -81,7 +81,7 @@ valid_carried air v z = both_right _ _ (both_left _ _ (both_right true _ z))
 
 read_carried : (p : Profile) (l : List ℕ) (n : ℕ) (v : Value) (q : ℕ) → read_of p l n ≡ got v q → is_carried v.pdu ≡ true
 unfolding reading_of
-read_carried p l n v q e = valid_carried p.air v (read_valid p l n (reading_of (got v q)) (ap reading_of (sym e)) refl)
+read_carried p l n v q e = valid_carried p.air v (read_valid p l n (reading_of (got v q)) v (ap reading_of (sym e)) refl)
 
 module _ (d : Desk) (rows : List Record) (n : ℕ) where
   end_first : (post identifier : ℕ) (a : Answer) (rest : List Ground) → stop_of a ≡ first_of rest

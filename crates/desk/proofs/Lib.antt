@@ -1,4 +1,3 @@
-pub mod DeskLaws
 pub mod ChangeLaws
 pub mod KeepLaws
 pub mod NoticeLaws

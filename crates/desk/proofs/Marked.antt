@@ -16,8 +16,7 @@ use Rattle.records.specs.Marking.{accepted_of, unmarked, nobody_marked, no_marks
 use Rattle.records.specs.declared.Identity.{Identity}
 use Rattle.records.specs.declared.Marks.{Marks}
 use Rattle.records.specs.declared.Record.{Record}
-use Rattle.records.specs.declared.search.Found.{Found}
-use Rattle.records.specs.declared.search.Found.TheVariants as found
+use Rattle.std.proofs.Common.{Option, Some, None}
 use Rattle.records.proofs.MarkLaws.{marks_at, marks_to}
 use Rattle.desk.specs.Orders.{answer_of}
 use Rattle.desk.specs.Steps.{asked_of, spoken_of, plain_step, acks_step, is_acks, step_by, post_of, step_of}
@@ -29,9 +28,9 @@ use Rattle.desk.proofs.AnswerLaws.{step_answer, step_acks}
 
 -- ---- there are 128 marks
 
-length_with : (at : List Bool) (f : Found) → length (with_by at f) ≡ length at
-length_with at found.Nobody = refl
-length_with at (found.At i) = length-set at i true
+length_with : (at : List Bool) (f : Option ℕ) → length (with_by at f) ≡ length at
+length_with at None = refl
+length_with at (Some i) = length-set at i true
 
 length_all : (rows : List Record) (post : ℕ) (ms : Marks) (ids : List Identity) → length (mark_all rows post ms ids).at ≡ length ms.at
 unfolding mark_all with_mark

@@ -225,7 +225,7 @@ module _ (d : Desk) (rows : List Record) (n : ℕ) (room post : ℕ) (ok : desk_
   message_fits l bits = plain_fits d (take n rows) post (asked_in (value_by (read_of d.profile l bits))) (said_in (value_by (read_of d.profile l bits))) room (not (ltb post (posts_of d))) 2 _ (go (read_of d.profile l bits) refl)
     where
       go : (r : Read Value) → read_of d.profile l bits ≡ r → Fit d (take n rows) post (asked_in (value_by r)) (said_in (value_by r)) room (read_answer r (λ v. sent_answer d rows n room post v))
-      go (got v q) e = sent_fits v (read_valid d.profile l bits (reading_of (got v q)) (ap reading_of (sym e)) refl)
+      go (got v q) e = sent_fits v (read_valid d.profile l bits (reading_of (got v q)) v (ap reading_of (sym e)) refl)
       go (no s) e = nothing_fits d.profile room
 
 module _ (d : Desk) (rows : List Record) (n : ℕ) (l : List ℕ) (room : ℕ) where

@@ -1,5 +1,7 @@
 -- A post's message: what follows from an answer, whichever it is, and the order up to the type. Assumes nothing.
 use Prim.Native.Nat.{ℕ, ◌≤◌, ◌<◌}
+use native.Mathlib.Omega.{arith}
+use Rattle.std.specs.Prelude.{Result, Ok, Err}
 use mathlib.Core.Path.{◌≡◌, refl, sym, ap, ◌∙◌}
 use mathlib.Core.Bool.{Bool, true, false, not, cond}
 use mathlib.Core.List.{List, [], ◌∷◌}
@@ -16,7 +18,6 @@ use Rattle.message.specs.Reading.{read_of}
 use Rattle.message.specs.declared.Address.{Address}
 use Rattle.message.specs.declared.Value.{Value}
 use Rattle.reading.specs.Answers.{reading_of}
-use Rattle.reading.specs.declared.Reading.{Reading}
 use Rattle.records.specs.Identities.{identity_of}
 use Rattle.records.specs.Records.{records_ok, state_of, restricted_of}
 use Rattle.records.specs.declared.Identity.{Identity}
@@ -146,31 +147,31 @@ module _ (d : Desk) (rows : List Record) (n : ℕ) (l : List ℕ) (room post bit
   unfolding message_answer
   message_2 h = rw (le-ltb post (posts_of d) h) refl
 
-  module _ (h : post < posts_of d) (r : Reading) (z : r ≡ reading_of (read_of d.profile l bits)) where
-    pub message_unread : r.found ≡ false → message_answer d rows n l room post bits ≡ answer.Refused r.stop
+  module _ (h : post < posts_of d) (r : Result Value Stop) (z : r ≡ reading_of (read_of d.profile l bits)) where
+    pub message_unread : (t : Stop) → r ≡ Err t → message_answer d rows n l room post bits ≡ answer.Refused t
     unfolding message_answer reading_of
-    message_unread f = rw (lt-ltb post (posts_of d) h) (go (read_of d.profile l bits) z)
+    message_unread t f = rw (lt-ltb post (posts_of d) h) (go (read_of d.profile l bits) (sym z ∙ f))
       where
-        go : (x : Read Value) → r ≡ reading_of x → read_answer x (λ v. sent_answer d rows n room post v) ≡ answer.Refused r.stop
-        go (got v q) e = not_both (sym f ∙ ap (λ (y : Reading). y.found) e)
-        go (no s) e = ap (λ (y : Reading). answer.Refused y.stop) (sym e)
+        go : (x : Read Value) → reading_of x ≡ Err t → read_answer x (λ v. sent_answer d rows n room post v) ≡ answer.Refused t
+        go (got v q) e = let y : ◌≡◌ {A = ℕ} 0 1 = cc in absurd (omega arith)
+        go (no s) e = let y : s ≡ t = cc in ap answer.Refused y
 
     -- what was read is answered by its type
-    pub message_sent : r.found ≡ true → (area m : List ℕ) (s : Stepped)
-        → (s ≡ step_by d (take n rows) post (asked_in r.value) (said_in r.value) (sent_answer d rows n room post r.value))
-        × (m ≡ area_by d (take n rows) post (asked_in r.value) (said_in r.value) area (sent_answer d rows n room post r.value))
+    pub message_sent : (v : Value) → r ≡ Ok v → (area m : List ℕ) (s : Stepped)
+        → (s ≡ step_by d (take n rows) post (asked_in v) (said_in v) (sent_answer d rows n room post v))
+        × (m ≡ area_by d (take n rows) post (asked_in v) (said_in v) area (sent_answer d rows n room post v))
         → (s ≡ step_by d (take n rows) post (asked_in (value_by (read_of d.profile l bits))) (said_in (value_by (read_of d.profile l bits))) (message_answer d rows n l room post bits))
         × (m ≡ area_by d (take n rows) post (asked_in (value_by (read_of d.profile l bits))) (said_in (value_by (read_of d.profile l bits))) area (message_answer d rows n l room post bits))
     unfolding message_answer reading_of
-    message_sent f area m s = rw (lt-ltb post (posts_of d) h) (go (read_of d.profile l bits) z)
+    message_sent v f area m s = rw (lt-ltb post (posts_of d) h) (go (read_of d.profile l bits) (sym z ∙ f))
       where
-        go : (x : Read Value) → r ≡ reading_of x
-            → (s ≡ step_by d (take n rows) post (asked_in r.value) (said_in r.value) (sent_answer d rows n room post r.value))
-            × (m ≡ area_by d (take n rows) post (asked_in r.value) (said_in r.value) area (sent_answer d rows n room post r.value))
+        go : (x : Read Value) → reading_of x ≡ Ok v
+            → (s ≡ step_by d (take n rows) post (asked_in v) (said_in v) (sent_answer d rows n room post v))
+            × (m ≡ area_by d (take n rows) post (asked_in v) (said_in v) area (sent_answer d rows n room post v))
             → (s ≡ step_by d (take n rows) post (asked_in (value_by x)) (said_in (value_by x)) (read_answer x (λ v. sent_answer d rows n room post v)))
             × (m ≡ area_by d (take n rows) post (asked_in (value_by x)) (said_in (value_by x)) area (read_answer x (λ v. sent_answer d rows n room post v)))
-        go (got v q) e p = rw (ap (λ (y : Reading). y.value) e) at p
-        go (no t) e p = not_both (sym (ap (λ (y : Reading). y.found) e) ∙ f)
+        go (got u q) e p = let uv : v ≡ u = cc in rw uv at p
+        go (no t) e p = let y : ◌≡◌ {A = ℕ} 0 1 = cc in absurd (omega arith)
 
 -- ---- the other calls
 

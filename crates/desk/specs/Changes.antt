@@ -1,5 +1,5 @@
 -- New shares on a desk where calls may wait: document 02, (vi). The number of posts is fixed; reserved numbers and ceilings change.
-use Rattle.std.specs.Prelude.{ℕ, Bool, true, false, not, cond, List, [], ◌∷◌, ltb}
+use Rattle.std.specs.Prelude.{ℕ, Bool, true, false, not, cond, List, [], ◌∷◌, ltb, Result, Ok, Err}
 use Rattle.codec.specs.Stops.{refusal, no_stop}
 use Rattle.codec.specs.Codec.{Ground}
 use Rattle.codec.specs.declared.Stop.{Stop}
@@ -59,6 +59,11 @@ taken_change d shares =
       change = record { taken = true; stop = no_stop };
       desk = record { profile = record { air = d.profile.air; shares = shares }; places = d.places };
     }
+
+-- the desk with its new shares, or a refusal
+abbrev pub settled_change : Desk → Result Desk Stop → Changed
+settled_change d (Ok shared) = record { change = record { taken = true; stop = no_stop }; desk = shared }
+settled_change d (Err s) = refused_change d s
 
 abbrev pub refused_if : Bool → ℕ → Desk → Changed → Changed
 refused_if holds c d after = cond holds (refused_change d (refusal c)) after

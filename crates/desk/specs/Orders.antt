@@ -1,7 +1,8 @@
 -- What each call is answered: document 01's section "Refusal numbers", its Order, call by call. A ground is tested where it stands in
 -- the order, and the first that holds gives the answer. The answer decides all that the call does (Steps).
-use Rattle.std.specs.Prelude.{ℕ, ◌^◌, Bool, true, false, not, cond, List, [], ◌∷◌, eqb, ltb, take}
-use Rattle.codec.specs.Stops.{refusal, no_stop}
+use Rattle.std.specs.Prelude.{ℕ, ◌^◌, Bool, true, false, not, cond, List, [], ◌∷◌, eqb, ltb, take, Result, Ok, Err}
+use Rattle.codec.specs.Stops.{refusal}
+use Rattle.codec.specs.declared.Stop.{Stop}
 use Rattle.codec.specs.Codec.{Read, got, no, both}
 use Rattle.profile.specs.Rules.{meaning_in, list_of_one}
 use Rattle.profile.specs.declared.Kind.{Kind}
@@ -23,7 +24,6 @@ use Rattle.desk.specs.Desks.{desk_ok}
 use Rattle.desk.specs.declared.Answer.{Answer}
 use Rattle.desk.specs.declared.Answer.TheVariants as answer
 use Rattle.desk.specs.declared.Desk.{Desk}
-use Rattle.desk.specs.declared.ending.Ending.{Ending}
 use Rattle.desk.specs.declared.Event.{Event}
 use Rattle.desk.specs.declared.Event.TheVariants as event
 
@@ -165,10 +165,10 @@ answer_of d rows n l room e = unless (not (desk_ok d)) 1 (event_answer d rows n 
 -- ---- the same, as the code has it
 
 -- the place of a call that waits at the post, or 19 or 20
-unfoldable pub ending_of : Desk → ℕ → ℕ → Ending
+unfoldable pub ending_of : Desk → ℕ → ℕ → Result ℕ Stop
 ending_of d post identifier =
     cond (place_of (places_of d) identifier).found
     (cond (eqb (place_in (places_of d) (place_of (places_of d) identifier).place).post post)
-    (record { found = true; stop = no_stop; place = (place_of (places_of d) identifier).place })
-    (record { found = false; stop = refusal 20; place = 0 }))
-    (record { found = false; stop = refusal 19; place = 0 })
+    (Ok (place_of (places_of d) identifier).place)
+    (Err (refusal 20)))
+    (Err (refusal 19))

@@ -1,7 +1,8 @@
 -- What each call does, once it is answered: the answer decides it. A refusal does nothing.
-use Rattle.std.specs.Prelude.{ℕ, Bool, true, false, cond, List, [], ◌∷◌, eqb, take, length}
+use Rattle.std.specs.Prelude.{ℕ, Bool, true, false, cond, List, [], ◌∷◌, eqb, take, length, Result, Ok, Err}
 use Rattle.codec.specs.Codec.{Read, got, no}
 use Rattle.codec.specs.Stops.{refusal}
+use Rattle.codec.specs.declared.Stop.{Stop}
 use Rattle.profile.specs.declared.Profile.{Profile}
 use Rattle.message.specs.Addresses.{nobody}
 use Rattle.message.specs.Groups.{first_of}
@@ -222,6 +223,11 @@ area_after d rows n l area e =
 -- an answer that changes nothing
 unfoldable pub keeps : Desk → Answer → Stepped
 keeps d a = record { answer = a; laid = no_laid; desk = d; marks = no_marks }
+
+-- a step, or a refusal, which changes nothing
+abbrev pub settled : Desk → Result Stepped Stop → Stepped
+settled d (Ok s) = s
+settled d (Err s) = keeps d (answer.Refused s)
 
 -- an answer that frees a place
 unfoldable pub ended_step : Desk → ℕ → Answer → Laid → Stepped

@@ -4,14 +4,16 @@
 // afterwards and the records whose mark changes. It equals `step_of`, and the area afterwards `area_after`, for every input (specs/Orders
 // has each call's order of refusals, specs/Steps what follows from an answer). `change_shares` changes the posts' shares of the places
 // (specs/Changes). The files: ending (how a waiting call ends), setup, posted (a post's message by its type), marking (ACTIVATE and
-// DEACTIVATE), sharing (new shares).
+// DEACTIVATE), sharing (new shares). A step inside them is a Result, and its refusal a Stop: `step` alone says what a refusal leaves.
+//
+// That the profile passes is asked of each function by itself, and no struct carries it beside the desk: every clause and every line here would
+// name the desk inside that struct. The area's 300 bytes are tested where each call's order has it, and asked of what comes after. `rows` and `count` are handed on as two, as the functions of `records` take them.
 #![tactic(auto)]
 
 ghost use Rattle.std.specs.Prelude.{◌≡◌};
-ghost use Rattle.places.specs.Held.{no_places};
 ghost use Rattle.desk.specs.Changes.{change_of};
 ghost use Rattle.desk.specs.Desks.{open_of, desk_ok};
-ghost use Rattle.desk.specs.Steps.{step_of, area_after};
+ghost use Rattle.desk.specs.Steps.{step_of, area_after, settled};
 
 use codec::Stop;
 use places::Places;
@@ -31,14 +33,6 @@ mod sharing;
 pub struct Desk {
     pub profile: Profile,
     pub places: Places,
-}
-
-// The desk, or a refusal and a desk that is all zero.
-#[derive(Clone, Copy)]
-pub struct Opened {
-    pub found: bool,
-    pub stop: Stop,
-    pub desk: Desk,
 }
 
 // What comes to the desk: a message from a post, a call being set up, and the plain calls that end a waiting one.
@@ -63,7 +57,7 @@ pub enum Event {
     },
 }
 
-// `State` is 0 no record, 1 another post's, 2 active, 3 not active.
+// `State` is 0 no record, 1 another post's, 2 active, 3 not active: a number, since `said` of words takes every u8 of it.
 #[derive(Clone, Copy)]
 pub enum Answer {
     Refused(Stop),
@@ -86,7 +80,8 @@ pub struct Stepped {
     pub marks: Marks,
 }
 
-// What a change of the shares is answered: it is taken, or refused.
+// What a change of the shares is answered: it is taken, or refused. No Result: `said_change` of words takes every value of it, also one that is
+// taken and has a stop.
 #[derive(Clone, Copy)]
 pub struct Change {
     pub taken: bool,
@@ -102,23 +97,16 @@ pub struct Changed {
 
 impl Desk {
     // All 32 places are free; 1 for a profile that breaks a rule.
-    pub fn open(profile: Profile) -> Opened
+    #[tactic(auto, unfolding(crate::specs::Desks::open_of, profile::specs::Rules::new_of, places::specs::Held::no_places))]
+    pub fn open(profile: Profile) -> Result<Desk, Stop>
         ensures { result ≡ open_of profile }
     {
-        let air = profile.air;
-        let shares = profile.shares;
-        let new = Profile::new(air, shares);
-        let checked = new.profile;
-        let places = no_places();
-        let stop = new.stop;
-        Opened {
-            found: new.found,
-            stop: stop,
-            desk: Desk {
-                profile: checked,
-                places: places,
+        Ok(Desk {
+            profile: Profile::new(profile.air, profile.shares)?,
+            places: Places {
+                place: [places::FREE; 32],
             },
-        }
+        })
     }
 }
 
@@ -133,22 +121,40 @@ pub fn step(
     ensures { (result ≡ step_of desk rows count message.now out.old event)
         × (out.new ≡ area_after desk rows count message.now out.old event) }
 {
-    if desk_ok(desk) {
-        return match event {
-            Event::Message { post, bits } => {
-                posted::post_message(desk, rows, count, message, out, post, bits)
-            }
-            Event::SetUp {
-                caller,
-                called,
-                identifier,
-                cause,
-            } => { setup::set_up(desk, rows, count, out, caller, called, identifier, cause) }
-            Event::Reject { post, identifier } => ending::reject(desk, post, identifier, out),
-            Event::Cancel { identifier } => ending::cancel(desk, identifier, out),
-        };
+    match answered(desk, rows, count, message, out, event) {
+        Ok(stepped) => stepped,
+        Err(stop) => kept::keeps(desk, Answer::Refused(stop)),
     }
-    kept::refused(desk, codec::refuse(1))
+}
+
+// The step, or the refusal that leaves all as it stood.
+fn answered(
+    desk: Desk,
+    rows: [Record; 128],
+    count: usize,
+    message: &[u8],
+    out: &mut [u8],
+    event: Event,
+) -> Result<Stepped, Stop>
+    ensures { (settled desk result ≡ step_of desk rows count message.now out.old event)
+        × (out.new ≡ area_after desk rows count message.now out.old event) }
+{
+    if !desk_ok(desk) {
+        return Err(codec::refuse(1));
+    }
+    match event {
+        Event::Message { post, bits } => {
+            posted::post_message(desk, rows, count, message, out, post, bits)
+        }
+        Event::SetUp {
+            caller,
+            called,
+            identifier,
+            cause,
+        } => setup::set_up(desk, rows, count, out, caller, called, identifier, cause),
+        Event::Reject { post, identifier } => ending::reject(desk, post, identifier, out),
+        Event::Cancel { identifier } => ending::cancel(desk, identifier, out),
+    }
 }
 
 // New shares on a desk where calls may wait: a row for each post, reserved number and ceiling; rows past the posts are not looked at. 23 if
@@ -156,42 +162,25 @@ pub fn step(
 pub fn change_shares(desk: Desk, rows: [Share; 8]) -> Changed
     ensures { result ≡ change_of desk rows }
 {
-    let profile = desk.profile;
-    let shares = profile.shares;
-    let places = desk.places;
-    let new = sharing::new_shares(shares.posts, rows);
-    let sound = desk_ok(desk);
-    let lawful = profile::shares_ok(new);
-    let fitting = places::fits(new, places);
-    if sound {} else {
-        return sharing::refused(desk, codec::refuse(1));
-    }
-    if lawful {} else {
-        return sharing::refused(desk, codec::refuse(23));
-    }
-    if fitting {} else {
-        return sharing::refused(desk, codec::refuse(24));
-    }
-    sharing::taken(desk, new)
-}
-
-fn no_places() -> Places
-    ensures { result ≡ record { place = no_places } }
-{
-    Places {
-        place: [places::FREE; 32],
+    match sharing::shared(desk, rows) {
+        Ok(shared) => Changed {
+            change: Change {
+                taken: true,
+                stop: codec::no_stop(),
+            },
+            desk: shared,
+        },
+        Err(stop) => Changed {
+            change: Change { taken: false, stop },
+            desk,
+        },
     }
 }
 
 // 1 does not come.
-fn desk_ok(desk: Desk) -> bool
+#[tactic(auto, unfolding(crate::specs::Desks::desk_ok, codec::specs::Codec::both))]
+pub(crate) fn desk_ok(desk: Desk) -> bool
     ensures { result ≡ desk_ok desk }
 {
-    let profile = desk.profile;
-    if profile::profile_ok(profile) {
-        let shares = profile.shares;
-        let places = desk.places;
-        return places::places_ok(shares, places);
-    }
-    false
+    profile::profile_ok(desk.profile) && places::places_ok(desk.profile.shares, desk.places)
 }

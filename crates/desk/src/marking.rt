@@ -4,9 +4,10 @@ ghost use Rattle.profile.specs.Rules.{profile_ok};
 ghost use Rattle.message.specs.Groups.{group_c};
 ghost use Rattle.message.specs.Rows.{ack_row, row_of};
 ghost use Rattle.desk.specs.Orders.{someone_by, names_dispatchers, marking_answer};
-ghost use Rattle.desk.specs.Steps.{asked_in, said_in, acks_step, acks_area, step_by, area_by};
+ghost use Rattle.desk.specs.Steps.{asked_in, said_in, acks_step, acks_area, step_by, area_by, settled};
 
-use crate::{Answer, Desk, Stepped, kept};
+use crate::{Answer, Desk, Stepped};
+use codec::Stop;
 use message::{Group, Value};
 use profile::{Air, Kind, Meaning};
 use records::Record;
@@ -28,39 +29,37 @@ pub(crate) fn change(
     value: Value,
     given: bool,
     out: &mut [u8],
-) -> Stepped
+) -> Result<Stepped, Stop>
     requires { (profile_ok desk.profile ≡ true) × ((group_c desk.profile.air false false).ok value.users ≡ true) }
-    ensures { (result ≡ step_by desk (take count rows) post (asked_in value) (said_in value) (marking_answer desk rows count (length out.old) given))
+    ensures { (settled desk result ≡ step_by desk (take count rows) post (asked_in value) (said_in value) (marking_answer desk rows count (length out.old) given))
         × (out.new ≡ area_by desk (take count rows) post (asked_in value) (said_in value) out.old (marking_answer desk rows count (length out.old) given)) }
 {
-    let profile = desk.profile;
-    let shares = profile.shares;
-    let sound = records::records_ok(rows, count, shares.posts);
+    let sound = records::records_ok(rows, count, desk.profile.shares.posts);
     if out.len() < 300 {
-        return kept::refused(desk, codec::refuse(14));
+        return Err(codec::refuse(14));
     }
-    if sound {} else {
-        return kept::refused(desk, codec::refuse(15));
+    if !sound {
+        return Err(codec::refuse(15));
     }
     if given {
-        return kept::refused(desk, codec::refuse(21));
+        return Err(codec::refuse(21));
     }
-    acks(desk, rows, count, post, asked_in(value), out)
+    Ok(acks(desk, rows, count, post, asked_in(value), out))
 }
 
+#[tactic(auto, unfolding(crate::specs::Steps::ack_for, crate::specs::Steps::sets_mark))]
 fn asked_in(value: Value) -> Asked
     ensures { result ≡ asked_in value }
 {
-    let users = value.users;
     if value.pdu == 2 {
         return Asked {
-            users: users,
+            users: value.users,
             ack: 3,
             mark: true,
         };
     }
     Asked {
-        users: users,
+        users: value.users,
         ack: 5,
         mark: false,
     }
@@ -79,41 +78,27 @@ fn acks(
     ensures { (result ≡ acks_step desk (take count rows) post asked)
         × (out.new ≡ acks_area desk (take count rows) post asked out.old) }
 {
-    let profile = desk.profile;
-    let air = profile.air;
-    let users = asked.users;
-    let judged = records::judged_of(air, users, rows, count, post, asked.mark);
-    let sorted = judged.sorted;
-    let marks = judged.marks;
-    let laid = sending::send_acks(profile, asked.ack, users, sorted, out);
+    let judged = records::judged_of(desk.profile.air, asked.users, rows, count, post, asked.mark);
+    let laid = sending::send_acks(desk.profile, asked.ack, asked.users, judged.sorted, out);
     Stepped {
         answer: Answer::Acks,
-        laid: laid,
-        desk: desk,
-        marks: marks,
+        laid,
+        desk,
+        marks: judged.marks,
     }
 }
 
 // Dispatcher addresses are given.
+#[tactic(auto, unfolding(crate::specs::Orders::names_dispatchers, codec::specs::Codec::both))]
 pub(crate) fn names_dispatchers(air: Air, value: Value) -> bool
     ensures { result ≡ names_dispatchers air value }
 {
-    let meanings = air.meanings;
-    let dispatchers = value.dispatchers;
-    if message::given_at(value, 0) {
-        return names_someone(profile::meaning_of(meanings, dispatchers.range));
-    }
-    false
+    message::given_at(value, 0)
+        && names_someone(profile::meaning_of(air.meanings, value.dispatchers.range))
 }
 
 fn names_someone(m: Meaning) -> bool
     ensures { result ≡ someone_by m.kind }
 {
-    let kind = m.kind;
-    match kind {
-        Kind::Nobody => false,
-        Kind::Reserved => true,
-        Kind::Listed => true,
-        Kind::FirstLast => true,
-    }
+    !matches!(m.kind, Kind::Nobody)
 }

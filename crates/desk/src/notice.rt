@@ -33,28 +33,27 @@ pub(crate) fn state_ack(air: Air, user: Address, state: u8) -> Value
     message::with_state(message::with_users(message::blank(9), users), told)
 }
 
+#[tactic(auto, unfolding(crate::specs::Notices::one_user, message::specs::Groups::nobodies))]
 fn one_user(air: Air, user: Address) -> Group
     ensures { result ≡ one_user air user }
 {
-    let meanings = air.meanings;
-    let mut list = [message::NOBODY; 15];
-    list[0] = user;
+    let mut addresses = [message::NOBODY; 15];
+    addresses[0] = user;
     Group {
-        range: profile::list_of_one(meanings),
-        addresses: list,
+        range: profile::list_of_one(air.meanings),
+        addresses,
     }
 }
 
+#[tactic(auto, unfolding(crate::specs::Notices::told_of))]
 fn told_of(air: Air, state: u8) -> State
     ensures { result ≡ told_of air state }
 {
-    if state == 0 {
-        return not_accepted(air.unrecorded);
+    match state {
+        0 => not_accepted(air.unrecorded),
+        1 => not_accepted(air.elsewhere),
+        _ => is_active(state == 2),
     }
-    if state == 1 {
-        return not_accepted(air.elsewhere);
-    }
-    is_active(state == 2)
 }
 
 fn not_accepted(reason: u8) -> State
@@ -73,11 +72,10 @@ fn not_accepted(reason: u8) -> State
 fn is_active(active: bool) -> State
     ensures { result ≡ is_active (one active) }
 {
-    let mark = if active { 1 } else { 0 };
     State {
         result: 1,
         reason: 0,
-        activation: mark,
+        activation: u32::from(active),
         interception: 0,
         called: 0,
         calling: 0,

@@ -1,22 +1,21 @@
 use mathlib.Core.Path.{refl, ◌∙◌}
+use Rattle.std.proofs.lemmas.Result.{err_from_is_err_and}
 use Rattle.desk.proofs.EndLaws.{end_found, end_not, decide_14, decide_end, decided}
 use Rattle.desk.proofs.KeepLaws.{refused_plain}
 use Rattle.desk.proofs.NoticeLaws.{rejected_sends}
-use Rattle.sending.proofs.SentLaws.{one_sent}
 use Rattle.desk.proofs.ending.rejected.Goals as goal
 
 pub returns-then-out-lt300 : goal.returns-then-out-lt300
 returns-then-out-lt300 c =
-    refused_plain _ _ _ _ _ _ _ c.refused.ensures c.refuse.ensures (decide_14 _ _ _ _ _ c.if-out-lt300.true)
+    refused_plain _ _ _ _ _ _ _ refl c.refuse.ensures (decide_14 _ _ _ _ _ c.if-out-lt300.true)
 
-pub returns-then-e : goal.returns-then-e
-returns-then-e c =
-    let f = end_found _ _ _ _ c.ending_of-e.result c.ending_of-e.ensures c.if-e.true in
-    decided _ _ _ _ _ _ _ _ _ (decide_end _ _ _ _ _ c.if-out-lt300.false ∙ f.0) refl f.1.0
-    (one_sent _ c.requires.0 _ _ _ _ _ _ (rejected_sends _ c.requires.0 _ c.requires.1) c.if-out-lt300.false c.no_laid.ensures c.rejected-rejected.ensures c.send-laid.ensures)
-    c.ended.ensures
+pub returns-in_err-place : goal.returns-in_err-place
+returns-in_err-place c =
+    let p = err_from_is_err_and c.from_residual.result c.from_residual.ensures.1 in
+    rw (p.1, p.2) (refused_plain _ _ _ _ _ _ _ refl refl (decide_end _ _ _ _ _ c.if-out-lt300.false ∙ end_not _ _ _ _ _ c.in_err-place.ensures))
 
 pub returns : goal.returns
 returns c =
-    refused_plain _ _ _ _ _ _ _ c.refused-2.ensures refl
-    (decide_end _ _ _ _ _ c.if-out-lt300.false ∙ end_not _ _ _ _ c.ending_of-e.result c.ending_of-e.ensures c.if-e.false)
+    let f = end_found _ _ _ _ _ c.in_ok-place.ensures in
+    decided _ _ _ _ _ _ _ _ _ _ (decide_end _ _ _ _ _ c.if-out-lt300.false ∙ f.0) refl refl f.1.0
+    c.requires.0 (rejected_sends _ c.requires.0 _ c.requires.1) c.if-out-lt300.false c.rejected-rejected.ensures c.ended.ensures

@@ -1,7 +1,9 @@
 use Prim.Native.Nat.{ℕ, ◌^◌, ◌<◌}
 use mathlib.Core.Logic.{inl, inr}
-use mathlib.Core.Path.{refl, sym, subst}
-use borrow.Author.Tests.{eq-eqb, ne_eqb}
+use mathlib.Core.Path.{◌≡◌, refl, sym, ap, subst}
+use lib.Dec.{eqb}
+use borrow.Author.Tests.{ne_eqb}
+use native.Mathlib.Omega.{arith}
 use Rattle.desk.proofs.EndLaws.{accept_plain}
 use Rattle.desk.proofs.MarkingLaws.{marking_users}
 use Rattle.desk.proofs.NoticeLaws.{reject_cause, asked_user}
@@ -9,62 +11,58 @@ use Rattle.desk.proofs.PostLaws.{plain_by, refused_by, decide_plain, interrogate
 use Rattle.desk.specs.Orders.{sent_answer}
 use Rattle.desk.proofs.posted.sent.Goals as goal
 
+-- whether the type is j
+asks : {t k : ℕ} (j : ℕ) → t ≡ k → eqb t j ≡ eqb k j
+asks j e = ap (λ (x : ℕ). eqb x j) e
+
 pub change-requires : goal.change-requires
-change-requires c = (desk_profile _ c.requires.0, marking_users _ _ c.requires.1 (inl c.if-pdu-eq2.true))
+change-requires c = (desk_profile _ c.requires.0, marking_users _ _ c.requires.1 (inl c.in-2.is))
 
-pub returns-then-pdu-eq2 : goal.returns-then-pdu-eq2
+pub returns-in-2 : goal.returns-in-2
 unfolding sent_answer
-returns-then-pdu-eq2 c =
-    rw (eq-eqb _ _ c.if-pdu-eq2.true) (rw c.names_dispatchers-given.ensures at c.change.ensures)
+returns-in-2 c = rw (asks 2 c.in-2.is) (rw c.names_dispatchers-given.ensures at c.change.ensures)
 
-pub change-requires-then-pdu-eq4 : goal.change-requires-then-pdu-eq4
-change-requires-then-pdu-eq4 c = (desk_profile _ c.requires.0, marking_users _ _ c.requires.1 (inr c.if-pdu-eq4.true))
+pub change-requires-in-4 : goal.change-requires-in-4
+change-requires-in-4 c = (desk_profile _ c.requires.0, marking_users _ _ c.requires.1 (inr c.in-4.is))
 
-pub returns-then-pdu-eq4 : goal.returns-then-pdu-eq4
+pub returns-in-4 : goal.returns-in-4
 unfolding sent_answer
-returns-then-pdu-eq4 c =
-    rw (ne_eqb _ _ c.if-pdu-eq2.false, eq-eqb _ _ c.if-pdu-eq4.true) c.change-then-pdu-eq4.ensures
+returns-in-4 c = rw (asks 2 c.in-4.is, asks 4 c.in-4.is) c.change-in-4.ensures
 
 pub interrogate-requires : goal.interrogate-requires
-interrogate-requires c = (desk_profile _ c.requires.0, asked_user _ _ c.requires.1 c.if-pdu-eq8.true)
+interrogate-requires c = (desk_profile _ c.requires.0, asked_user _ _ c.requires.1 c.in-8.is)
 
-pub returns-then-pdu-eq8 : goal.returns-then-pdu-eq8
+pub returns-in-8 : goal.returns-in-8
 unfolding sent_answer
-returns-then-pdu-eq8 c =
-    rw (ne_eqb _ _ c.if-pdu-eq2.false, ne_eqb _ _ c.if-pdu-eq4.false, eq-eqb _ _ c.if-pdu-eq8.true)
-    (plain_by _ _ _ _ _ _ _ _ _ (interrogate_plain _ _ _ _ _ _) c.interrogate.ensures)
+returns-in-8 c = rw (asks 2 c.in-8.is, asks 4 c.in-8.is, asks 8 c.in-8.is) (plain_by _ _ _ _ _ _ _ _ _ (interrogate_plain _ _ _ _ _ _) c.interrogate.ensures)
 
 pub accept-requires : goal.accept-requires
 accept-requires c = c.requires.0
 
-pub returns-then-pdu-eq12 : goal.returns-then-pdu-eq12
+pub returns-in-12 : goal.returns-in-12
 unfolding sent_answer
-returns-then-pdu-eq12 c =
-    rw (ne_eqb _ _ c.if-pdu-eq2.false, ne_eqb _ _ c.if-pdu-eq4.false, ne_eqb _ _ c.if-pdu-eq8.false, eq-eqb _ _ c.if-pdu-eq12.true)
-    (plain_by _ _ _ _ _ _ _ _ _ (decide_plain _ _ _ _ _ (accept_plain _ _)) c.accept.ensures)
+returns-in-12 c = rw (asks 2 c.in-12.is, asks 4 c.in-12.is, asks 8 c.in-12.is, asks 12 c.in-12.is) (plain_by _ _ _ _ _ _ _ _ _ (decide_plain _ _ _ _ _ (accept_plain _ _)) c.accept.ensures)
 
 pub divert-requires : goal.divert-requires
 divert-requires c = desk_profile _ c.requires.0
 
-pub returns-then-pdu-eq15 : goal.returns-then-pdu-eq15
+pub returns-in-15 : goal.returns-in-15
 unfolding sent_answer
-returns-then-pdu-eq15 c =
-    rw (ne_eqb _ _ c.if-pdu-eq2.false, ne_eqb _ _ c.if-pdu-eq4.false, ne_eqb _ _ c.if-pdu-eq8.false, ne_eqb _ _ c.if-pdu-eq12.false, eq-eqb _ _ c.if-pdu-eq15.true)
-    (plain_by _ _ _ _ _ _ _ _ _ (decide_plain _ _ _ _ _ refl) c.divert.ensures)
+returns-in-15 c = rw (asks 2 c.in-15.is, asks 4 c.in-15.is, asks 8 c.in-15.is, asks 12 c.in-15.is, asks 15 c.in-15.is) (plain_by _ _ _ _ _ _ _ _ _ (decide_plain _ _ _ _ _ refl) c.divert.ensures)
 
 pub rejected-requires : goal.rejected-requires
 rejected-requires c =
-    (desk_profile _ c.requires.0, subst (λ (x : ℕ). x < 2 ^ 5) (sym c.number_at-then-pdu-eq17.ensures) (reject_cause _ _ c.requires.1 c.if-pdu-eq17.true))
+    (desk_profile _ c.requires.0, subst (λ (x : ℕ). x < 2 ^ 5) (sym c.number_at-in-17.ensures) (reject_cause _ _ c.requires.1 c.in-17.is))
 
-pub returns-then-pdu-eq17 : goal.returns-then-pdu-eq17
+pub returns-in-17 : goal.returns-in-17
 unfolding sent_answer
-returns-then-pdu-eq17 c =
-    rw (ne_eqb _ _ c.if-pdu-eq2.false, ne_eqb _ _ c.if-pdu-eq4.false, ne_eqb _ _ c.if-pdu-eq8.false, ne_eqb _ _ c.if-pdu-eq12.false, ne_eqb _ _ c.if-pdu-eq15.false, eq-eqb _ _ c.if-pdu-eq17.true)
+returns-in-17 c =
+    rw (asks 2 c.in-17.is, asks 4 c.in-17.is, asks 8 c.in-17.is, asks 12 c.in-17.is, asks 15 c.in-17.is, asks 17 c.in-17.is)
     (plain_by _ _ _ _ _ _ _ _ _ (decide_plain _ _ _ _ _ refl)
-    (rejected_said _ _ _ _ _ _ _ _ _ _ (rw (c.number_at.ensures, c.number_at-then-pdu-eq17.ensures) at c.rejected.ensures)))
+    (rejected_said _ _ _ _ _ _ _ _ _ _ (rw (c.number_at.ensures, c.number_at-in-17.ensures) at c.rejected.ensures)))
 
-pub returns : goal.returns
+pub returns-in_default : goal.returns-in_default
 unfolding sent_answer
-returns c =
-    rw (ne_eqb _ _ c.if-pdu-eq2.false, ne_eqb _ _ c.if-pdu-eq4.false, ne_eqb _ _ c.if-pdu-eq8.false, ne_eqb _ _ c.if-pdu-eq12.false, ne_eqb _ _ c.if-pdu-eq15.false, ne_eqb _ _ c.if-pdu-eq17.false)
-    (refused_by _ _ _ _ _ _ _ _ _ _ c.refused.ensures c.refuse.ensures refl)
+returns-in_default c =
+    rw (ne_eqb c.args.value.pdu 2 (λ e. omega arith), ne_eqb c.args.value.pdu 4 (λ e. omega arith), ne_eqb c.args.value.pdu 8 (λ e. omega arith), ne_eqb c.args.value.pdu 12 (λ e. omega arith), ne_eqb c.args.value.pdu 15 (λ e. omega arith), ne_eqb c.args.value.pdu 17 (λ e. omega arith))
+    (refused_by _ _ _ _ _ _ _ _ _ _ refl c.refuse.ensures refl)

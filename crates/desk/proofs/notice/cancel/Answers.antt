@@ -1,4 +1,0 @@
-use Rattle.desk.proofs.notice.cancel.Goals as goal
-
-pub returns : goal.returns
-returns c = rw (c.with_number.ensures, c.blank.ensures)

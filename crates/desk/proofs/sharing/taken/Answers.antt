@@ -1,4 +1,0 @@
-use Rattle.desk.proofs.sharing.taken.Goals as goal
-
-pub returns : goal.returns
-returns c = rw c.no_stop.ensures
