@@ -1,18 +1,14 @@
--- Laws of what is lent: loading and marking, record by record as the loops go. Assumes nothing.
-use Prim.Native.Nat.{ℕ, zero, suc, ◌+◌, ◌<◌}
+-- Laws of what is lent: loading, and marking record by record as the loop goes. Assumes nothing.
+use Prim.Native.Nat.{ℕ, zero, suc, ◌+◌, min}
 use mathlib.Core.Path.{◌≡◌, refl, sym, ap, ◌∙◌}
 use mathlib.Core.Bool.{Bool, true, false, cond}
-use mathlib.Core.List.{List, [], ◌∷◌}
+use mathlib.Core.List.{List, [], ◌∷◌, ◌++◌}
 use native.Mathlib.Numerals.{add-one}
 use native.Mathlib.Omega.{arith}
-use lib.ListN.{length, set, get_or, take, replicate}
+use lib.ListN.{length, set, get_or, take, drop, replicate}
 use Rattle.records.specs.Records.{no_record, row_of}
 use Rattle.records.specs.declared.Record.{Record}
 use Rattle.host.specs.Lending.{first_of, loaded_of, mark_as, marked_as}
-
-take_all : (rows : List Record) → take (length rows) rows ≡ rows
-take_all [] = refl
-take_all (r ∷ rows) = ap (λ (l : List Record). r ∷ l) (take_all rows)
 
 -- ---- one record set
 
@@ -27,24 +23,18 @@ unfolding first_of
 first_none zero = refl
 first_none (suc n) = ap (λ (l : List Record). no_record ∷ l) (first_none n)
 
-first_more : (n : ℕ) (rows : List Record) (i : ℕ) → i < length rows → set (first_of n (take i rows)) i (get_or rows i no_record) ≡ first_of n (take (suc i) rows)
+first_copied : (n m : ℕ) (rows : List Record) → m ≡ min (length rows) n → take m rows ++ drop m (replicate n no_record) ≡ first_of n rows
 unfolding first_of
-first_more zero rows i h = refl
-first_more (suc n) [] i h = absurd (omega arith)
-first_more (suc n) (r ∷ rows) zero h = refl
-first_more (suc n) (r ∷ rows) (suc i) h = ap (λ (l : List Record). r ∷ l) (first_more n rows i (omega arith))
+first_copied zero zero rows h = refl
+first_copied zero (suc m) rows h = absurd (omega arith)
+first_copied (suc n) zero [] h = first_none (suc n)
+first_copied (suc n) zero (r ∷ rows) h = absurd (omega arith)
+first_copied (suc n) (suc m) [] h = absurd (omega arith)
+first_copied (suc n) (suc m) (r ∷ rows) h = ap (λ (l : List Record). r ∷ l) (first_copied n m rows (omega arith))
 
-module _ (rows : List Record) where
-  pub load_none : replicate 128 no_record ≡ loaded_of (take 0 rows)
-  unfolding loaded_of
-  load_none = first_none 128
-
-  pub load_more : (i : ℕ) → i < length rows → set (loaded_of (take i rows)) i (get_or rows i no_record) ≡ loaded_of (take (i + 1) rows)
-  unfolding loaded_of
-  load_more i h = rw (add-one, first_more 128 rows i h)
-
-  pub load_all : (i : ℕ) → i ≡ length rows → loaded_of (take i rows) ≡ loaded_of rows
-  load_all i e = ap (λ (k : ℕ). loaded_of (take k rows)) e ∙ ap loaded_of (take_all rows)
+pub load_copied : (rows copied : List Record) (m : ℕ) → m ≡ min (length rows) 128 → copied ≡ take m rows → copied ++ drop m (replicate 128 no_record) ≡ loaded_of rows
+unfolding loaded_of
+load_copied rows copied m h e = rw e (first_copied 128 m rows h)
 
 -- ---- marking
 

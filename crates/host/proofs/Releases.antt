@@ -18,8 +18,7 @@ use Rattle.records.specs.Marking.{accepted_by, accepted_of, wanted}
 use Rattle.records.specs.Records.{row_of, is, record_from, record_of, record_ok, all_ok, records_ok}
 use Rattle.records.specs.declared.Identity.{Identity}
 use Rattle.records.specs.declared.Record.{Record}
-use Rattle.records.specs.declared.search.Found.{Found}
-use Rattle.records.specs.declared.search.Found.TheVariants as found
+use Rattle.std.proofs.Common.{Option, Some, None}
 use Rattle.desk.specs.Desks.{desk_ok}
 use Rattle.desk.specs.Orders.{posts_of}
 use Rattle.desk.specs.Steps.{value_by, sets_mark, asked_of, is_acks}
@@ -66,9 +65,9 @@ accepted_bare : (rows : List Record) (post : ℕ) (id : Identity) → accepted_o
 unfolding accepted_of record_of
 accepted_bare rows post id = ap (accepted_by (bare rows) post) (from_bare 0 rows id) ∙ by (record_from 0 rows id)
   where
-    by : (f : Found) → accepted_by (bare rows) post f ≡ accepted_by rows post f
-    by found.Nobody = refl
-    by (found.At i) = ap (λ (p : ℕ). cond (eqb p post) (found.At i) found.Nobody) (post_bare rows i)
+    by : (f : Option ℕ) → accepted_by (bare rows) post f ≡ accepted_by rows post f
+    by None = refl
+    by (Some i) = ap (λ (p : ℕ). cond (eqb p post) (Some i) None) (post_bare rows i)
 
 wanted_bare : (rows : List Record) (post : ℕ) (ids : List Identity) (j : ℕ) → wanted (bare rows) post ids j ≡ wanted rows post ids j
 unfolding wanted
