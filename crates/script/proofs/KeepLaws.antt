@@ -15,9 +15,10 @@ use lib.ListN.{length, get_or, take, drop, set, length-drop}
 use lib.Seq.{take_all, length-take-le}
 use borrow.Author.Tests.{ne_eqb, lt-leb, ltb-true}
 use Rattle.bits.proofs.SetLaws.{lt_or}
+use Rattle.std.specs.Prelude.{Option, Some, None}
 use Rattle.lines.specs.Shape.{is_digit, hex_of, no_hex, hex_at}
 use Rattle.lines.proofs.ShapeLaws.{hex_long}
-use Rattle.script.specs.Shape.{no_number, number_if, digits_then, number_at, no_row, no_numbers, numbers_from, numbers_at}
+use Rattle.script.specs.Shape.{number_if, digits_then, number_at, no_row, no_numbers, after_number, numbers_from, numbers_at}
 use Rattle.script.specs.Profiles.{pairs_in, is_profile, is_pairs}
 use Rattle.script.specs.Lines.{when, record_task, set_up_task, reject_task, cancel_task, out_task, place_task, unplace_task, second_task, cause_task, plain_line, post_line, profile_line, shares_line, task_of, line_of}
 use Rattle.blocks.specs.Texts.{no_text, text_of, keep_of}
@@ -28,28 +29,37 @@ use Rattle.blocks.proofs.TextLaws.{keep_text, kept_first}
 
 -- ---- a number ends within ten bytes
 
-number_next : (seen value at : ℕ) → (number_if seen value at).next ≤ at
-unfolding number_if no_number
+-- if there is one, it ends there at the latest
+abbrev Near : Option Number → ℕ → Type 0
+Near None m = Unit
+Near (Some d) m = d.next ≤ m
+
+near_on : (o : Option Number) (m n : ℕ) → m ≤ n → Near o m → Near o n
+near_on None m n h p = tt
+near_on (Some d) m n h p = omega (arith, p)
+
+number_next : (seen value at : ℕ) → Near (number_if seen value at) at
+unfolding number_if
 number_next seen value at = go (leb 1 seen) (leb value 4294967295)
   where
-    go : (a b : Bool) → (cond a (cond b (record { found = true; value = value; next = at }) no_number) no_number).next ≤ at
+    go : (a b : Bool) → Near (cond a (cond b (Some (record { value = value; next = at })) None) None) at
     go true true = omega arith
-    go true false = omega arith
-    go false b = omega arith
+    go true false = tt
+    go false b = tt
 
-digits_next : (at seen value : ℕ) (l : List ℕ) → seen ≤ 10 → (digits_then at seen value l).next ≤ at + (10 - seen)
-unfolding digits_then no_number
-digits_next at seen value [] h = omega (arith, number_next seen value at)
+digits_next : (at seen value : ℕ) (l : List ℕ) → seen ≤ 10 → Near (digits_then at seen value l) (at + (10 - seen))
+unfolding digits_then
+digits_next at seen value [] h = near_on _ _ _ (omega arith) (number_next seen value at)
 digits_next at seen value (b ∷ rest) h =
     go (is_digit b) (ltb seen 10) refl (λ e. digits_next (suc at) (suc seen) (value * 10 + hex_of b) rest (ltb-true seen 10 e))
   where
-    go : (d f : Bool) → ltb seen 10 ≡ f → (ltb seen 10 ≡ true → (digits_then (suc at) (suc seen) (value * 10 + hex_of b) rest).next ≤ suc at + (10 - suc seen))
-        → (cond d (cond f (digits_then (suc at) (suc seen) (value * 10 + hex_of b) rest) no_number) (number_if seen value at)).next ≤ at + (10 - seen)
-    go true true e k = omega (arith, k e, ltb-true seen 10 e)
-    go true false e k = omega arith
-    go false f e k = omega (arith, number_next seen value at)
+    go : (d f : Bool) → ltb seen 10 ≡ f → (ltb seen 10 ≡ true → Near (digits_then (suc at) (suc seen) (value * 10 + hex_of b) rest) (suc at + (10 - suc seen)))
+        → Near (cond d (cond f (digits_then (suc at) (suc seen) (value * 10 + hex_of b) rest) None) (number_if seen value at)) (at + (10 - seen))
+    go true true e k = near_on (digits_then (suc at) (suc seen) (value * 10 + hex_of b) rest) _ _ (omega (arith, ltb-true seen 10 e)) (k e)
+    go true false e k = tt
+    go false f e k = near_on _ _ _ (omega arith) (number_next seen value at)
 
-next_near : (l : List ℕ) (at : ℕ) → (number_at l at).next ≤ at + 10
+next_near : (l : List ℕ) (at : ℕ) → Near (number_at l at) (at + 10)
 unfolding number_at
 next_near l at = digits_next at 0 0 (drop at l) (omega arith)
 
@@ -64,45 +74,42 @@ NoneOrAll n r = (r.count ≡ 0) ⊎ ((r.count ≡ n) × (0 < r.next))
 numbers_long : (k n : ℕ) (row l : List ℕ) (at : ℕ) → 0 < at → at + 11 * k ≤ length l → NoneOrAll (n + k) (numbers_from k n row l at)
 unfolding numbers_from no_numbers
 numbers_long zero n row l at p h = inr (omega arith, p)
-numbers_long (suc k) n row l at p h =
-    go d.found (leb (length l) d.next) (eqb (get_or l d.next 0) 32) (lt-leb (length l) d.next (omega (arith, near)))
-    (numbers_long k (n + 1) (set row n d.value) l (d.next + 1) (omega arith) (omega (arith, near)))
+numbers_long (suc k) n row l at p h = go (number_at l at) (next_near l at) (λ more from q i. numbers_long k (n + 1) more l from q i)
   where
-    d : Number
-    d = number_at l at
-
-    near : (number_at l at).next ≤ at + 10
-    near = next_near l at
-
-    go : (f e s : Bool) → e ≡ false → NoneOrAll (n + 1 + k) (numbers_from k (n + 1) (set row n (number_at l at).value) l ((number_at l at).next + 1))
+    step : (d : Number) (e s : Bool) → e ≡ false → NoneOrAll (n + 1 + k) (numbers_from k (n + 1) (set row n d.value) l (d.next + 1))
         → NoneOrAll (n + suc k)
-        (cond f
-        (cond e (record { count = n + 1; next = 0; number = set row n (number_at l at).value })
-        (cond s (numbers_from k (n + 1) (set row n (number_at l at).value) l ((number_at l at).next + 1)) no_numbers))
-        no_numbers)
-    go true true s z r = absurd (not_both z)
-    go true false true z r = ⊎_elim (λ a. inl a) (λ a. inr (omega arith, a.1)) r
-    go true false false z r = inl refl
-    go false e s z r = inl refl
+        (cond e (record { count = n + 1; next = 0; number = set row n d.value })
+        (cond s (numbers_from k (n + 1) (set row n d.value) l (d.next + 1)) no_numbers))
+    step d true s z r = absurd (not_both z)
+    step d false true z r = ⊎_elim (λ a. inl a) (λ a. inr (omega arith, a.1)) r
+    step d false false z r = inl refl
+
+    go : (o : Option Number) → Near o (at + 10)
+        → ((more : List ℕ) (from : ℕ) → 0 < from → from + 11 * k ≤ length l → NoneOrAll (n + 1 + k) (numbers_from k (n + 1) more l from))
+        → NoneOrAll (n + suc k) (after_number o n row l (λ d. numbers_from k (n + 1) (set row n d.value) l (d.next + 1)))
+    go None near again = inl refl
+    go (Some d) near again =
+        step d (leb (length l) d.next) (eqb (get_or l d.next 0) 32) (lt-leb (length l) d.next (omega (arith, near)))
+        (again (set row n d.value) (d.next + 1) (omega arith) (omega (arith, near)))
 
 numbers_near : (k n : ℕ) (row l : List ℕ) (at : ℕ) → (numbers_from k n row l at).next ≤ at + 11 * k
 unfolding numbers_from no_numbers
 numbers_near zero n row l at = omega arith
-numbers_near (suc k) n row l at =
-    go (number_at l at).found (leb (length l) (number_at l at).next) (eqb (get_or l (number_at l at).next 0) 32) (next_near l at)
-    (numbers_near k (n + 1) (set row n (number_at l at).value) l ((number_at l at).next + 1))
+numbers_near (suc k) n row l at = go (number_at l at) (next_near l at) (λ more from. numbers_near k (n + 1) more l from)
   where
-    go : (f e s : Bool) → (number_at l at).next ≤ at + 10
-        → (numbers_from k (n + 1) (set row n (number_at l at).value) l ((number_at l at).next + 1)).next ≤ (number_at l at).next + 1 + 11 * k
-        → (cond f
-        (cond e (record { count = n + 1; next = 0; number = set row n (number_at l at).value })
-        (cond s (numbers_from k (n + 1) (set row n (number_at l at).value) l ((number_at l at).next + 1)) no_numbers))
-        no_numbers).next
+    step : (d : Number) (e s : Bool) → d.next ≤ at + 10 → (numbers_from k (n + 1) (set row n d.value) l (d.next + 1)).next ≤ d.next + 1 + 11 * k
+        → (cond e (record { count = n + 1; next = 0; number = set row n d.value })
+        (cond s (numbers_from k (n + 1) (set row n d.value) l (d.next + 1)) no_numbers)).next
         ≤ at + 11 * suc k
-    go true true s z r = omega arith
-    go true false true z r = omega arith
-    go true false false z r = omega arith
-    go false e s z r = omega arith
+    step d true s z r = omega arith
+    step d false true z r = omega arith
+    step d false false z r = omega arith
+
+    go : (o : Option Number) → Near o (at + 10)
+        → ((more : List ℕ) (from : ℕ) → (numbers_from k (n + 1) more l from).next ≤ from + 11 * k)
+        → (after_number o n row l (λ d. numbers_from k (n + 1) (set row n d.value) l (d.next + 1))).next ≤ at + 11 * suc k
+    go None near again = omega arith
+    go (Some d) near again = step d (leb (length l) d.next) (eqb (get_or l d.next 0) 32) near (again (set row n d.value) (d.next + 1))
 
 -- ---- so no line of over 1,051 bytes is of a shape
 

@@ -1,17 +1,20 @@
 -- The shape of a line, byte by byte as the code's loops take it: at each turn, what is left of the definition. Assumes nothing.
 use Prim.Native.Nat.{ℕ, suc, ◌+◌, ◌-◌, ◌*◌, ◌≤◌, ◌<◌, ◌^◌}
-use mathlib.Core.Path.{◌≡◌}
-use mathlib.Core.Bool.{true, false}
-use mathlib.Core.List.{List, ◌∷◌}
+use mathlib.Core.Path.{◌≡◌, refl, sym}
+use mathlib.Core.Bool.{Bool, true, false, ◌&&◌}
+use mathlib.Core.List.{List, [], ◌∷◌}
 use native.Mathlib.Nat.{pow-le-pow_right, lt_of_lt_of_le}
 use native.Mathlib.Numerals.{add-one}
 use native.Mathlib.Omega.{arith}
-use lib.ListN.{length, get_or, drop, set, drop_of_length-le}
+use lib.Dec.{eqb}
+use lib.ListN.{length, get_or, take, drop, set, drop_of_length-le}
+use lib.Pointwise.{pointwise}
 use lib.Seq.{drop-cons}
-use borrow.Author.Tests.{eq-eqb, ne_eqb, lt-ltb, le-ltb, le-leb, lt-leb}
+use borrow.Author.Tests.{eq-eqb, ne_eqb, eqb-true, eqb-false, lt-ltb, le-ltb, le-leb, lt-leb}
+use Rattle.std.specs.Prelude.{Some, None}
 use Rattle.codec.specs.Codec.{both}
 use Rattle.lines.specs.Shape.{is_digit, hex_of}
-use Rattle.script.specs.Shape.{starts_with, no_number, number_if, digits_then, number_at, no_numbers, numbers_from}
+use Rattle.script.specs.Shape.{starts_with, number_if, digits_then, number_at, no_numbers, numbers_from}
 use Rattle.script.specs.declared.shape.Number.{Number}
 
 -- ---- one byte more of a list
@@ -22,24 +25,23 @@ module _ (l : List ℕ) (i : ℕ) (h : i < length l) where
 
 -- ---- a keyword
 
-module _ (l w : List ℕ) (i : ℕ) where
-  pub starts_all : length w ≤ i → starts_with (drop i l) (drop i w) ≡ true
-  unfolding starts_with
-  starts_all h = rw (drop_of_length-le w h)
+-- the library's test, which looks at the keyword's bytes first
+pub starts_same : (l w : List ℕ) → pointwise eqb w (take (length w) l) ≡ starts_with l w
+unfolding starts_with both
+starts_same l [] = refl
+starts_same [] (x ∷ w) = refl
+starts_same (b ∷ l) (x ∷ w) = rw (eqb_turn x b, starts_same l w) (both_and (eqb b x) (starts_with l w))
+  where
+    eqb_turn : (x y : ℕ) → eqb x y ≡ eqb y x
+    eqb_turn x y = turn (eqb x y) refl
+      where
+        turn : (t : Bool) → eqb x y ≡ t → t ≡ eqb y x
+        turn true e = sym (eq-eqb y x (sym (eqb-true x y e)))
+        turn false e = sym (ne_eqb y x (λ q. eqb-false x y e (sym q)))
 
-  module _ (h : i < length w) where
-    pub starts_short : length l ≤ i → starts_with (drop i l) (drop i w) ≡ false
-    unfolding starts_with
-    starts_short k = rw (drop_of_length-le l k, next_byte w i h)
-
-    module _ (k : i < length l) where
-      pub starts_other : (get_or l i 0 ≡ get_or w i 0 → ⊥) → starts_with (drop i l) (drop i w) ≡ false
-      unfolding starts_with both
-      starts_other e = rw (next_byte l i k, next_byte w i h, ne_eqb _ _ e)
-
-      pub starts_more : get_or l i 0 ≡ get_or w i 0 → starts_with (drop i l) (drop i w) ≡ starts_with (drop (i + 1) l) (drop (i + 1) w)
-      unfolding starts_with both
-      starts_more e = rw (next_byte l i k, next_byte w i h, eq-eqb _ _ e)
+    both_and : (p q : Bool) → p && q ≡ both p q
+    both_and true q = refl
+    both_and false q = refl
 
 -- ---- a number
 
@@ -56,7 +58,7 @@ module _ (l : List ℕ) (i seen value : ℕ) where
     unfolding digits_then
     number_stop e = rw (next_byte l i h, e)
 
-    pub number_many : is_digit (get_or l i 0) ≡ true → 10 ≤ seen → digits_then i seen value (drop i l) ≡ no_number
+    pub number_many : is_digit (get_or l i 0) ≡ true → 10 ≤ seen → digits_then i seen value (drop i l) ≡ None
     unfolding digits_then
     number_many e k = rw (next_byte l i h, e, le-ltb seen 10 k)
 
@@ -68,28 +70,28 @@ module _ (l : List ℕ) (i seen value : ℕ) where
 -- ---- a row of numbers
 
 module _ (most n : ℕ) (row l : List ℕ) (at : ℕ) where
-  pub row_full : n ≡ most → numbers_from (most - n) n row l at ≡ record { count = n; next = at; number = row }
+  pub row_full : n ≡ most → numbers_from (most - n) n row l at ≡ record { count = most; next = at; number = row }
   unfolding numbers_from
-  row_full e = let z : most - n ≡ 0 = omega arith in rw z
+  row_full e = let z : most - n ≡ 0 = omega arith in rw (z, e)
 
-  module _ (d : Number) (is : d ≡ number_at l at) (h : n < most) where
+  module _ (h : n < most) where
     one_less : most - n ≡ suc (most - (n + 1))
     one_less = omega arith
 
-    pub row_none : d.found ≡ false → numbers_from (most - n) n row l at ≡ no_numbers
+    pub row_none : number_at l at ≡ None → numbers_from (most - n) n row l at ≡ no_numbers
     unfolding numbers_from
-    row_none e = rw (one_less, ← is, e)
+    row_none e = rw (one_less, e)
 
-    module _ (f : d.found ≡ true) where
+    module _ (d : Number) (is : number_at l at ≡ Some d) where
       pub row_end : length l ≤ d.next → numbers_from (most - n) n row l at ≡ record { count = n + 1; next = 0; number = set row n d.value }
       unfolding numbers_from
-      row_end k = rw (one_less, ← is, f, le-leb _ _ k)
+      row_end k = rw (one_less, is, le-leb _ _ k)
 
       module _ (k : d.next < length l) where
         pub row_other : (get_or l d.next 0 ≡ 32 → ⊥) → numbers_from (most - n) n row l at ≡ no_numbers
         unfolding numbers_from
-        row_other e = rw (one_less, ← is, f, lt-leb _ _ k, ne_eqb _ _ e)
+        row_other e = rw (one_less, is, lt-leb _ _ k, ne_eqb _ _ e)
 
         pub row_more : get_or l d.next 0 ≡ 32 → numbers_from (most - n) n row l at ≡ numbers_from (most - (n + 1)) (n + 1) (set row n d.value) l (d.next + 1)
         unfolding numbers_from
-        row_more e = rw (one_less, ← is, f, lt-leb _ _ k, eq-eqb _ _ e)
+        row_more e = rw (one_less, is, lt-leb _ _ k, eq-eqb _ _ e)

@@ -36,7 +36,7 @@ pub enum Task {
 }
 
 // A task, and what goes with it: the profile of a new desk; the rows of new shares, which are those of the profile's; of a post's message the
-// first `count` of the bytes. All else is zero.
+// first `count` of the bytes. All else is zero. (A count beside an array, since there is no heap; `line_of` of specs/ names both.)
 #[derive(Clone, Copy)]
 pub struct Line {
     pub task: Task,
@@ -45,6 +45,7 @@ pub struct Line {
     pub bytes: [u8; 512],
 }
 
+#[tactic(auto, unfolding(crate::specs::Lines::line_of))]
 pub fn parse(line: &[u8]) -> Line
     ensures { result ≡ line_of line.now }
 {
@@ -64,8 +65,7 @@ pub fn parse(line: &[u8]) -> Line
 pub fn parse_kept(kept: Text) -> Line
     ensures { result ≡ line_of (take kept.len kept.bytes) }
 {
-    let bytes = kept.bytes;
-    parse_first(bytes, kept.len)
+    parse_first(kept.bytes, kept.len)
 }
 
 fn parse_first(bytes: [u8; 1152], len: usize) -> Line
@@ -78,6 +78,8 @@ fn parse_first(bytes: [u8; 1152], len: usize) -> Line
     parse(&line[..len])
 }
 
+// A row of `if`s: a keyword is how a line starts, which no pattern of a `match` says.
+#[tactic(auto, unfolding(crate::specs::Lines::task_of))]
 fn task_of(line: &[u8]) -> Task
     ensures { result ≡ task_of line.now }
 {
@@ -114,10 +116,11 @@ fn task_of(line: &[u8]) -> Task
     Task::Unknown
 }
 
+#[tactic(auto, unfolding(crate::specs::Lines::post_line, lines::specs::Shape::no_bytes))]
 fn post_line(n: Numbers, line: &[u8]) -> Line
     ensures { result ≡ post_line n line.now }
 {
-    if n.count == 2 {} else {
+    if n.count != 2 {
         return plain_line(Task::Unknown);
     }
     if n.next == 0 {
@@ -127,66 +130,62 @@ fn post_line(n: Numbers, line: &[u8]) -> Line
     if hex.count < 1 {
         return plain_line(Task::Unknown);
     }
-    let bytes = hex.bytes;
-    message_line(n, hex.count, bytes)
+    message_line(n, hex.count, hex.bytes)
 }
 
+#[tactic(auto, unfolding(crate::specs::Lines::message_line))]
 fn message_line(n: Numbers, count: usize, bytes: [u8; 512]) -> Line
     ensures { result ≡ message_line n count bytes }
 {
-    let number = n.number;
-    let profile = profiles::no_profile();
     Line {
         task: Task::Call(Event::Message {
-            post: number[0] as u64,
-            bits: number[1] as u64,
+            post: n.number[0] as u64,
+            bits: n.number[1] as u64,
         }),
-        profile: profile,
-        count: count,
-        bytes: bytes,
+        profile: profiles::no_profile(),
+        count,
+        bytes,
     }
 }
 
+#[tactic(auto, unfolding(crate::specs::Lines::profile_line, lines::specs::Shape::no_bytes))]
 fn profile_line(n: Numbers) -> Line
     ensures { result ≡ profile_line n }
 {
-    let number = n.number;
     let pairs = profiles::pairs_in(n.count);
-    if profiles::is_profile(number[20], pairs) {} else {
+    if !profiles::is_profile(n.number[20], pairs) {
         return plain_line(Task::Unknown);
     }
-    let profile = profiles::profile_of(number, pairs);
     Line {
         task: Task::Open,
-        profile: profile,
+        profile: profiles::profile_of(n.number, pairs),
         count: 0,
         bytes: [0; 512],
     }
 }
 
+#[tactic(auto, unfolding(crate::specs::Lines::shares_line, lines::specs::Shape::no_bytes))]
 fn shares_line(n: Numbers) -> Line
     ensures { result ≡ shares_line n }
 {
-    let number = n.number;
-    if profiles::is_pairs(n.count) {} else {
+    if !profiles::is_pairs(n.count) {
         return plain_line(Task::Unknown);
     }
-    let profile = profiles::rows_of(number);
     Line {
         task: Task::Shares,
-        profile: profile,
+        profile: profiles::rows_of(n.number),
         count: 0,
         bytes: [0; 512],
     }
 }
 
+#[tactic(auto, unfolding(crate::specs::Lines::plain_line, lines::specs::Shape::no_bytes))]
 fn plain_line(task: Task) -> Line
     ensures { result ≡ plain_line task }
 {
-    let profile = profiles::no_profile();
     Line {
-        task: task,
-        profile: profile,
+        task,
+        profile: profiles::no_profile(),
         count: 0,
         bytes: [0; 512],
     }

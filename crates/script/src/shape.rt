@@ -1,16 +1,16 @@
 // The parts of a line: a keyword, numbers.
 ghost use Rattle.std.specs.Prelude.{◌≡◌, ◌≤◌};
-ghost use Rattle.script.specs.Shape.{starts_with, no_number, number_if, number_at, no_numbers, numbers_at};
+ghost use Rattle.script.specs.Shape.{starts_with, number_if, number_at, no_numbers, numbers_at};
 
 // A number and the position after it.
 #[derive(Clone, Copy)]
 pub(crate) struct Number {
-    pub found: bool,
     pub value: u32,
     pub next: usize,
 }
 
-// The first `count` of the row; `next` is the position after the space behind them, 0 if the line ends there.
+// The first `count` of the row; `next` is the position after the space behind them, 0 if the line ends there. A row of 40 and a count, since
+// nothing is on a heap; both by 0 and no Option, as `numbers_at` of specs/ has them.
 #[derive(Clone, Copy)]
 pub(crate) struct Numbers {
     pub count: usize,
@@ -22,17 +22,7 @@ pub(crate) struct Numbers {
 pub(crate) fn starts(line: &[u8], word: &[u8]) -> bool
     ensures { result ≡ starts_with line.now word.now }
 {
-    let mut i: usize = 0;
-    while i < word.len() {
-        if i >= line.len() {
-            return false;
-        }
-        if line[i] == word[i] {} else {
-            return false;
-        }
-        i += 1;
-    }
-    true
+    line.starts_with(word)
 }
 
 // At most 40 numbers from a position on.
@@ -40,38 +30,34 @@ pub(crate) fn numbers_at(line: &[u8], from: usize, most: usize) -> Numbers
     requires { most ≤ 40 }
     ensures { result ≡ numbers_at most line.now from }
 {
-    let mut number = [0u32; 40];
-    let mut count: usize = 0;
+    let mut number = [0; 40];
     let mut at = from;
-    while count < most {
-        let n = number_at(line, at);
-        if n.found {} else {
+    for n in 0..most {
+        let Some(d) = number_at(line, at) else {
             return no_numbers();
-        }
-        number[count] = n.value;
-        count += 1;
-        let next = n.next;
-        if next >= line.len() {
+        };
+        number[n] = d.value;
+        if d.next >= line.len() {
             return Numbers {
-                count: count,
+                count: n + 1,
                 next: 0,
-                number: number,
+                number,
             };
         }
-        if line[next] == 32 {} else {
+        if line[d.next] != 32 {
             return no_numbers();
         }
-        at = next + 1;
+        at = d.next + 1;
     }
     Numbers {
-        count: count,
+        count: most,
         next: at,
-        number: number,
+        number,
     }
 }
 
-// The number that stands at a position.
-fn number_at(line: &[u8], from: usize) -> Number
+// The number that stands at a position. Counted by hand: the position where the loop ends is asked for after it.
+fn number_at(line: &[u8], from: usize) -> Option<Number>
     ensures { result ≡ number_at line.now from }
 {
     let mut seen: u8 = 0;
@@ -79,11 +65,11 @@ fn number_at(line: &[u8], from: usize) -> Number
     let mut i = from;
     while i < line.len() {
         let b = line[i];
-        if lines::is_digit(b) {} else {
+        if !lines::is_digit(b) {
             return number_if(seen, value, i);
         }
         if seen >= 10 {
-            return no_number();
+            return None;
         }
         value = value * 10 + lines::hex_digit(b) as u64;
         seen += 1;
@@ -92,32 +78,20 @@ fn number_at(line: &[u8], from: usize) -> Number
     number_if(seen, value, i)
 }
 
-fn number_if(seen: u8, value: u64, next: usize) -> Number
+#[tactic(auto, unfolding(crate::specs::Shape::number_if))]
+fn number_if(seen: u8, value: u64, next: usize) -> Option<Number>
     ensures { result ≡ number_if seen value next }
 {
     if seen < 1 {
-        return no_number();
+        return None;
     }
-    if value > 4294967295 {
-        return no_number();
-    }
-    Number {
-        found: true,
-        value: value as u32,
-        next: next,
-    }
+    Some(Number {
+        value: u32::try_from(value).ok()?,
+        next,
+    })
 }
 
-fn no_number() -> Number
-    ensures { result ≡ no_number }
-{
-    Number {
-        found: false,
-        value: 0,
-        next: 0,
-    }
-}
-
+#[tactic(auto, unfolding(crate::specs::Shape::no_numbers, crate::specs::Shape::no_row))]
 fn no_numbers() -> Numbers
     ensures { result ≡ no_numbers }
 {

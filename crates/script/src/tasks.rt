@@ -8,23 +8,12 @@ use desk::Event;
 use places::Place;
 use records::{Identity, Record};
 
+#[tactic(auto, unfolding(crate::specs::Lines::record_task))]
 pub(crate) fn lend(n: Numbers) -> Task
     ensures { result ≡ record_task n }
 {
     let number = n.number;
-    if n.count == 6 {} else {
-        return Task::Unknown;
-    }
-    if number[0] > 255 {
-        return Task::Unknown;
-    }
-    if number[1] > 1 {
-        return Task::Unknown;
-    }
-    if number[4] > 255 {
-        return Task::Unknown;
-    }
-    if number[5] > 1 {
+    if n.count != 6 || number[0] > 255 || number[1] > 1 || number[4] > 255 || number[5] > 1 {
         return Task::Unknown;
     }
     Task::Lend {
@@ -39,14 +28,12 @@ pub(crate) fn lend(n: Numbers) -> Task
     }
 }
 
+#[tactic(auto, unfolding(crate::specs::Lines::set_up_task))]
 pub(crate) fn set_up(n: Numbers) -> Task
     ensures { result ≡ set_up_task n }
 {
     let number = n.number;
-    if n.count < 5 {
-        return Task::Unknown;
-    }
-    if n.count > 6 {
+    if n.count < 5 || n.count > 6 {
         return Task::Unknown;
     }
     Task::Call(Event::SetUp {
@@ -63,39 +50,37 @@ pub(crate) fn set_up(n: Numbers) -> Task
     })
 }
 
+#[tactic(auto, unfolding(crate::specs::Lines::reject_task))]
 pub(crate) fn reject(n: Numbers) -> Task
     ensures { result ≡ reject_task n }
 {
-    let number = n.number;
-    if n.count == 2 {} else {
+    if n.count != 2 {
         return Task::Unknown;
     }
     Task::Call(Event::Reject {
-        post: number[0] as u64,
-        identifier: number[1],
+        post: n.number[0] as u64,
+        identifier: n.number[1],
     })
 }
 
+#[tactic(auto, unfolding(crate::specs::Lines::cancel_task))]
 pub(crate) fn cancel(n: Numbers) -> Task
     ensures { result ≡ cancel_task n }
 {
-    let number = n.number;
-    if n.count == 1 {} else {
+    if n.count != 1 {
         return Task::Unknown;
     }
     Task::Call(Event::Cancel {
-        identifier: number[0],
+        identifier: n.number[0],
     })
 }
 
+#[tactic(auto, unfolding(crate::specs::Lines::out_task))]
 pub(crate) fn room(n: Numbers) -> Task
     ensures { result ≡ out_task n }
 {
     let number = n.number;
-    if n.count == 1 {} else {
-        return Task::Unknown;
-    }
-    if number[0] > 300 {
+    if n.count != 1 || number[0] > 300 {
         return Task::Unknown;
     }
     Task::Room {
@@ -103,20 +88,12 @@ pub(crate) fn room(n: Numbers) -> Task
     }
 }
 
+#[tactic(auto, unfolding(crate::specs::Lines::place_task))]
 pub(crate) fn fill(n: Numbers) -> Task
     ensures { result ≡ place_task n }
 {
     let number = n.number;
-    if n.count == 3 {} else {
-        return Task::Unknown;
-    }
-    if number[0] > 31 {
-        return Task::Unknown;
-    }
-    if number[1] > 65535 {
-        return Task::Unknown;
-    }
-    if number[2] > 255 {
+    if n.count != 3 || number[0] > 31 || number[1] > 65535 || number[2] > 255 {
         return Task::Unknown;
     }
     Task::Fill {
@@ -132,17 +109,12 @@ pub(crate) fn fill(n: Numbers) -> Task
     }
 }
 
+#[tactic(auto, unfolding(crate::specs::Lines::second_task))]
 pub(crate) fn second(n: Numbers) -> Task
     ensures { result ≡ second_task n }
 {
     let number = n.number;
-    if n.count == 2 {} else {
-        return Task::Unknown;
-    }
-    if number[0] > 31 {
-        return Task::Unknown;
-    }
-    if number[1] > 255 {
+    if n.count != 2 || number[0] > 31 || number[1] > 255 {
         return Task::Unknown;
     }
     Task::Second {
@@ -151,17 +123,12 @@ pub(crate) fn second(n: Numbers) -> Task
     }
 }
 
+#[tactic(auto, unfolding(crate::specs::Lines::cause_task))]
 pub(crate) fn cause(n: Numbers) -> Task
     ensures { result ≡ cause_task n }
 {
     let number = n.number;
-    if n.count == 2 {} else {
-        return Task::Unknown;
-    }
-    if number[0] > 31 {
-        return Task::Unknown;
-    }
-    if number[1] > 255 {
+    if n.count != 2 || number[0] > 31 || number[1] > 255 {
         return Task::Unknown;
     }
     Task::Cause {
@@ -170,14 +137,12 @@ pub(crate) fn cause(n: Numbers) -> Task
     }
 }
 
+#[tactic(auto, unfolding(crate::specs::Lines::unplace_task))]
 pub(crate) fn empty(n: Numbers) -> Task
     ensures { result ≡ unplace_task n }
 {
     let number = n.number;
-    if n.count == 1 {} else {
-        return Task::Unknown;
-    }
-    if number[0] > 31 {
+    if n.count != 1 || number[0] > 31 {
         return Task::Unknown;
     }
     Task::Fill {
@@ -190,8 +155,5 @@ pub(crate) fn empty(n: Numbers) -> Task
 pub(crate) fn dump(len: usize) -> Task
     ensures { result ≡ when (eqb len 4) Task.Dump }
 {
-    if len == 4 {
-        return Task::Dump;
-    }
-    Task::Unknown
+    if len == 4 { Task::Dump } else { Task::Unknown }
 }

@@ -11,13 +11,13 @@ pub loop-i-init : goal.loop-i-init
 unfolding number_at
 loop-i-init c = (search rules, (search rules, refl))
 
-pub returns-else-is_digit : goal.returns-else-is_digit
-returns-else-is_digit c =
-    c.number_if.ensures ∙ sym (c.loop-i.invariant.1.1 ∙ number_stop _ _ _ _ (search rules) (sym c.is_digit.ensures ∙ c.if-is_digit.false))
+pub returns-then-not-is_digit : goal.returns-then-not-is_digit
+returns-then-not-is_digit c =
+    c.number_if.ensures ∙ sym (c.loop-i.invariant.1.1 ∙ number_stop _ _ _ _ (search rules) (sym c.is_digit.ensures ∙ c.if-not-is_digit.true))
 
 pub returns-then-seen-ge10 : goal.returns-then-seen-ge10
 returns-then-seen-ge10 c =
-    c.no_number.ensures ∙ sym (c.loop-i.invariant.1.1 ∙ number_many _ _ _ _ (search rules) (sym c.is_digit.ensures ∙ c.if-is_digit.true) (search rules))
+    sym (c.loop-i.invariant.1.1 ∙ number_many _ _ _ _ (search rules) (sym c.is_digit.ensures ∙ c.if-not-is_digit.false) (search rules))
 
 pub overflow_mul-value : goal.overflow_mul-value
 overflow_mul-value c = omega (arith, number_few _ _ c.loop-i.invariant.1.0 (search rules))
@@ -31,7 +31,7 @@ overflow_add-value c =
 
 pub loop-i-preserved : goal.loop-i-preserved
 loop-i-preserved c =
-    let e = sym c.is_digit.ensures ∙ c.if-is_digit.true in (
+    let e = sym c.is_digit.ensures ∙ c.if-not-is_digit.false in (
       search rules,
       (
         rw c.hex_digit.ensures (digits_lt _ _ _ c.loop-i.invariant.1.0 (digit_worth _ e)),
