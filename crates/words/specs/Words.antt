@@ -1,5 +1,5 @@
 -- What is printed for an answer, after the line's number; and each part of a dump.
-use Rattle.std.specs.Prelude.{ℕ, zero, suc, ◌+◌, ◌*◌, ◌/◌, ◌%◌, ◌^◌, min, Bool, true, false, not, cond, List, [], ◌∷◌, ◌++◌, eqb, ltb, get_or, take, drop}
+use Rattle.std.specs.Prelude.{ℕ, zero, suc, ◌+◌, ◌*◌, ◌/◌, ◌%◌, ◌^◌, min, Bool, true, false, not, cond, List, [], ◌∷◌, ◌++◌, eqb, ltb, get_or}
 use Rattle.codec.specs.declared.Stop.{Stop}
 use Rattle.profile.specs.Counting.{one}
 use Rattle.message.specs.Elements as element
@@ -103,16 +103,6 @@ element_words =
     -- type-of-restriction
     ∷ (element.type_of_restriction, 116 ∷ 121 ∷ 112 ∷ 101 ∷ 45 ∷ 111 ∷ 102 ∷ 45 ∷ 114 ∷ 101 ∷ 115 ∷ 116 ∷ 114 ∷ 105 ∷ 99 ∷ 116 ∷ 105 ∷ 111 ∷ 110 ∷ [])
     ∷ []
-
--- 1 to 7, 8 to 14 and 15 to 20
-unfoldable pub first_words : List (ℕ × List ℕ)
-first_words = take 7 element_words
-
-unfoldable pub later_words : List (ℕ × List ℕ)
-later_words = take 7 (drop 7 element_words)
-
-unfoldable pub last_words : List (ℕ × List ℕ)
-last_words = drop 14 element_words
 
 unfoldable pub word_in : List (ℕ × List ℕ) → ℕ → List ℕ
 word_in [] e = []

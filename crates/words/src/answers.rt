@@ -1,8 +1,7 @@
 // The words of an answer, put into a block at an index; answered is where they end.
-ghost use Rattle.std.specs.Prelude.{◌≡◌, ◌++◌, min, get_or};
-ghost use Rattle.profile.specs.Counting.{one};
+ghost use Rattle.std.specs.Prelude.{◌≡◌, ◌++◌};
 ghost use Rattle.blocks.specs.Blocks.{Wrote};
-ghost use Rattle.words.specs.Words.{message_hex, bits_in, refused_of, later_words, last_words, word_in, element_word, broke_words, state_word, state_words, ack_bits, ack_hex, acks_words, admitted_words, post_words, words_of, change_words, second_words, cause_words, place_words, record_words};
+ghost use Rattle.words.specs.Words.{message_hex, bits_in, refused_of, element_word, broke_words, state_word, state_words, ack_bits, ack_hex, acks_words, admitted_words, post_words, words_of, change_words, second_words, cause_words, place_words, record_words};
 
 use crate::texts;
 use codec::Stop;
@@ -11,6 +10,7 @@ use places::Place;
 use records::Record;
 use sending::Laid;
 
+#[tactic(auto, unfolding(crate::specs::Words::words_of))]
 pub(crate) fn answer(block: &mut [u8], at: usize, answer: Answer, laid: Laid, area: &[u8]) -> usize
     ensures { Wrote block.old at block.new result (words_of answer laid area.now) }
 {
@@ -36,6 +36,7 @@ fn stopped(block: &mut [u8], at: usize, stop: Stop) -> usize
     broke(block, numbered, stop)
 }
 
+#[tactic(auto, unfolding(crate::specs::Words::refused_of))]
 pub(crate) fn refused(block: &mut [u8], at: usize, number: u8) -> usize
     ensures { Wrote block.old at block.new result (refused_of number) }
 {
@@ -43,14 +44,14 @@ pub(crate) fn refused(block: &mut [u8], at: usize, number: u8) -> usize
 }
 
 // What new shares are answered.
+#[tactic(auto, unfolding(crate::specs::Words::change_words))]
 pub(crate) fn change(block: &mut [u8], at: usize, change: Change) -> usize
     ensures { Wrote block.old at block.new result (change_words change) }
 {
-    let stop = change.stop;
     if change.taken {
         return texts::add(block, at, b"taken");
     }
-    refused(block, at, stop.number)
+    refused(block, at, change.stop.number)
 }
 
 // Where a message broke off; nothing for any other refusal.
@@ -58,124 +59,62 @@ fn broke(block: &mut [u8], at: usize, stop: Stop) -> usize
     ensures { Wrote block.old at block.new result (broke_words stop) }
 {
     if stop.number == 4 {
-        let placed = texts::add_numbered(block, at, b" at ", up_to_32_bits(stop.at));
+        // as far as 32 bits go: reading gives none over 4,096
+        let position = u32::try_from(stop.at).unwrap_or(u32::MAX);
+        let placed = texts::add_numbered(block, at, b" at ", position);
         let parted = texts::add(block, placed, b" ");
-        return element(block, parted, stop.element);
+        return texts::add(block, parted, element(stop.element));
     }
     at
 }
 
-// A position, as far as 32 bits go: reading gives none over 4,096.
-fn up_to_32_bits(at: usize) -> u32
-    ensures { result ≡ min at 4294967295 }
+// An element's name, from its number; no name for any other number.
+#[tactic(auto, unfolding(crate::specs::Words::element_word, crate::specs::Words::element_words, crate::specs::Words::word_in))]
+fn element(e: u8) -> &'static [u8]
+    ensures { result.now ≡ element_word e }
 {
-    if at < 4294967295 {
-        return at as u32;
+    match e {
+        1 => b"ss-type",
+        2 => b"pdu-type",
+        3 => b"range",
+        4 => b"kind",
+        5 => b"ssi",
+        6 => b"extension",
+        7 => b"mask-present",
+        8 => b"mask",
+        9 => b"result",
+        10 => b"reason",
+        11 => b"cause",
+        12 => b"identifier",
+        13 => b"o-bit",
+        14 => b"p-bit",
+        15 => b"mni",
+        16 => b"area",
+        17 => b"basic-service",
+        18 => b"activation-type",
+        19 => b"interception-type",
+        20 => b"type-of-restriction",
+        _ => b"",
     }
-    4294967295
 }
 
-// An element's name, from its number. They are many, and are taken in three rows: what the check makes of one grows faster than the row.
-fn element(block: &mut [u8], at: usize, e: u8) -> usize
-    ensures { Wrote block.old at block.new result (element_word e) }
+#[tactic(auto, unfolding(crate::specs::Words::state_word))]
+fn state(k: u8) -> &'static [u8]
+    ensures { result.now ≡ state_word k }
 {
-    if e == 1 {
-        return texts::add(block, at, b"ss-type");
+    match k {
+        0 => b"no-record",
+        1 => b"other-post",
+        2 => b"active",
+        _ => b"not-active",
     }
-    if e == 2 {
-        return texts::add(block, at, b"pdu-type");
-    }
-    if e == 3 {
-        return texts::add(block, at, b"range");
-    }
-    if e == 4 {
-        return texts::add(block, at, b"kind");
-    }
-    if e == 5 {
-        return texts::add(block, at, b"ssi");
-    }
-    if e == 6 {
-        return texts::add(block, at, b"extension");
-    }
-    if e == 7 {
-        return texts::add(block, at, b"mask-present");
-    }
-    later_element(block, at, e)
-}
-
-// From 8 on.
-fn later_element(block: &mut [u8], at: usize, e: u8) -> usize
-    ensures { Wrote block.old at block.new result (word_in (later_words ++ last_words) e) }
-{
-    if e == 8 {
-        return texts::add(block, at, b"mask");
-    }
-    if e == 9 {
-        return texts::add(block, at, b"result");
-    }
-    if e == 10 {
-        return texts::add(block, at, b"reason");
-    }
-    if e == 11 {
-        return texts::add(block, at, b"cause");
-    }
-    if e == 12 {
-        return texts::add(block, at, b"identifier");
-    }
-    if e == 13 {
-        return texts::add(block, at, b"o-bit");
-    }
-    if e == 14 {
-        return texts::add(block, at, b"p-bit");
-    }
-    last_element(block, at, e)
-}
-
-// From 15 on; no name for any other number.
-fn last_element(block: &mut [u8], at: usize, e: u8) -> usize
-    ensures { Wrote block.old at block.new result (word_in last_words e) }
-{
-    if e == 15 {
-        return texts::add(block, at, b"mni");
-    }
-    if e == 16 {
-        return texts::add(block, at, b"area");
-    }
-    if e == 17 {
-        return texts::add(block, at, b"basic-service");
-    }
-    if e == 18 {
-        return texts::add(block, at, b"activation-type");
-    }
-    if e == 19 {
-        return texts::add(block, at, b"interception-type");
-    }
-    if e == 20 {
-        return texts::add(block, at, b"type-of-restriction");
-    }
-    at
-}
-
-fn state(block: &mut [u8], at: usize, k: u8) -> usize
-    ensures { Wrote block.old at block.new result (state_word k) }
-{
-    if k == 0 {
-        return texts::add(block, at, b"no-record");
-    }
-    if k == 1 {
-        return texts::add(block, at, b"other-post");
-    }
-    if k == 2 {
-        return texts::add(block, at, b"active");
-    }
-    texts::add(block, at, b"not-active")
 }
 
 fn told(block: &mut [u8], at: usize, k: u8, laid: Laid, area: &[u8]) -> usize
     ensures { Wrote block.old at block.new result (state_words k laid area.now) }
 {
     let begun = texts::add(block, at, b"state ");
-    let named = state(block, begun, k);
+    let named = texts::add(block, begun, state(k));
     let counted = texts::add_numbered(block, named, b" ", bits_in(laid, 0) as u32);
     sent(block, counted, b" ", laid, area, 0)
 }
@@ -184,24 +123,14 @@ fn acks(block: &mut [u8], at: usize, laid: Laid, area: &[u8]) -> usize
     ensures { Wrote block.old at block.new result (acks_words laid area.now) }
 {
     let counted = texts::add_numbered(block, at, b"acks ", laid.count as u32);
-    let lengths = all_bits(block, counted, laid);
-    all_hex(block, lengths, laid, area)
-}
-
-fn all_bits(block: &mut [u8], at: usize, laid: Laid) -> usize
-    ensures { Wrote block.old at block.new result (ack_bits laid 0 ++ (ack_bits laid 1 ++ ack_bits laid 2)) }
-{
-    let first = ack_bits(block, at, laid, 0);
-    let second = ack_bits(block, first, laid, 1);
-    ack_bits(block, second, laid, 2)
-}
-
-fn all_hex(block: &mut [u8], at: usize, laid: Laid, area: &[u8]) -> usize
-    ensures { Wrote block.old at block.new result (ack_hex laid area.now 0 ++ (ack_hex laid area.now 1 ++ ack_hex laid area.now 2)) }
-{
-    let first = ack_hex(block, at, laid, area, 0);
-    let second = ack_hex(block, first, laid, area, 1);
-    ack_hex(block, second, laid, area, 2)
+    let mut end = counted;
+    for k in 0..3 {
+        end = ack_bits(block, end, laid, k);
+    }
+    for k in 0..3 {
+        end = ack_hex(block, end, laid, area, k);
+    }
+    end
 }
 
 fn ack_bits(block: &mut [u8], at: usize, laid: Laid, k: u8) -> usize
@@ -248,20 +177,11 @@ fn sent(block: &mut [u8], at: usize, word: &[u8], laid: Laid, area: &[u8], k: u8
 }
 
 // Its length in bits; 0 for one past the third.
+#[tactic(auto, unfolding(crate::specs::Words::bits_in))]
 fn bits_in(laid: Laid, k: u8) -> u16
     ensures { result ≡ bits_in laid k }
 {
-    let lengths = laid.lengths;
-    length_at(lengths, k as usize)
-}
-
-fn length_at(lengths: [u16; 3], k: usize) -> u16
-    ensures { result ≡ get_or lengths k 0 }
-{
-    if k < 3 {
-        return lengths[k];
-    }
-    0
+    laid.lengths.get(k as usize).copied().unwrap_or(0)
 }
 
 // ---- a dump's parts
@@ -305,16 +225,7 @@ pub(crate) fn record_part(block: &mut [u8], at: usize, i: u8, row: Record) -> us
         let named = texts::add_field(block, numbered, row.ssi);
         let extended = texts::add_field(block, named, row.extension);
         let posted = texts::add_field(block, extended, row.post as u32);
-        return texts::add_field(block, posted, one_if(row.active));
+        return texts::add_field(block, posted, u32::from(row.active));
     }
     at
-}
-
-fn one_if(b: bool) -> u32
-    ensures { result ≡ one b }
-{
-    if b {
-        return 1;
-    }
-    0
 }

@@ -1,7 +1,8 @@
 // What is put into a block at an index, as far as there is room: bytes, numbers, and bytes in hex. Answered is where it ends.
-ghost use Rattle.std.specs.Prelude.{◌≡◌, ◌++◌, ◌+◌, ◌-◌, ◌*◌, ◌/◌, ◌%◌, ◌<◌, ◌≤◌, min, get_or};
+// Printed by hand, since nothing is on a heap and a text is cut at 1,152 bytes (`text_of`): `Display` would need a writer of our own.
+ghost use Rattle.std.specs.Prelude.{◌≡◌, ◌++◌, ◌<◌};
 ghost use Rattle.blocks.specs.Blocks.{Wrote};
-ghost use Rattle.words.specs.Words.{shown, digit_if, decimal_of, hex_digit, hex_pair, message_hex, field_of};
+ghost use Rattle.words.specs.Words.{shown, decimal_of, hex_digit, hex_pair, message_hex, field_of};
 
 pub(crate) fn add(block: &mut [u8], at: usize, piece: &[u8]) -> usize
     ensures { Wrote block.old at block.new result piece.now }
@@ -11,55 +12,31 @@ pub(crate) fn add(block: &mut [u8], at: usize, piece: &[u8]) -> usize
 
 // ---- numbers in decimal
 
+// Ten digits, of which the zeros at the front are left out.
 fn add_number(block: &mut [u8], at: usize, n: u32) -> usize
     ensures { Wrote block.old at block.new result (decimal_of n) }
 {
     let mut end = at;
     let mut seen = false;
-    let mut left: u32 = 10;
+    // by ten each time: `10u64.pow(k)` makes a line of the replay an eighth slower
     let mut power: u64 = 10000000000;
-    while left > 0 {
-        left -= 1;
-        power = power / 10;
-        let d = digit_at(n as u64, power);
-        seen = is_shown(seen, left, d);
-        end = add_digit(block, end, seen, d);
+    for k in (0..10).rev() {
+        power /= 10;
+        let digit = (n as u64 / power % 10) as u8;
+        seen = is_shown(seen, k, digit);
+        if seen {
+            end = add(block, end, &[b'0' + digit]);
+        }
     }
     end
 }
 
-// The digit worth `power`.
-fn digit_at(n: u64, power: u64) -> u8
-    requires { 0 < power }
-    ensures { (result ≡ n / power % 10) × (result < 10) }
+// It is printed if a digit was, or it is the last, or it is not 0.
+#[tactic(auto, unfolding(crate::specs::Words::shown))]
+fn is_shown(seen: bool, k: u32, digit: u8) -> bool
+    ensures { result ≡ shown seen k digit }
 {
-    (n / power % 10) as u8
-}
-
-fn is_shown(seen: bool, left: u32, d: u8) -> bool
-    ensures { result ≡ shown seen left d }
-{
-    if seen {
-        return true;
-    }
-    if left == 0 {
-        return true;
-    }
-    if d == 0 {
-        return false;
-    }
-    true
-}
-
-fn add_digit(block: &mut [u8], at: usize, show: bool, d: u8) -> usize
-    requires { d < 10 }
-    ensures { Wrote block.old at block.new result (digit_if show d) }
-{
-    if show {
-        let piece = [48 + d];
-        return add(block, at, &piece);
-    }
-    at
+    seen || k == 0 || digit != 0
 }
 
 // A word and a number.
@@ -84,38 +61,23 @@ pub(crate) fn add_message(block: &mut [u8], at: usize, area: &[u8], k: u8, bits:
     ensures { Wrote block.old at block.new result (message_hex area.now k bits) }
 {
     let mut end = at;
-    let mut left = (bits as usize + 7) / 8;
-    let mut from = 100 * k as usize;
-    while left > 0 {
-        end = add_byte(block, end, byte_at(area, from));
-        left -= 1;
-        from += 1;
+    let first = 100 * k as usize;
+    for i in first..first + (bits as usize + 7) / 8 {
+        end = add_byte(block, end, area.get(i).copied().unwrap_or(0));
     }
     end
-}
-
-fn byte_at(area: &[u8], at: usize) -> u8
-    ensures { result ≡ get_or area.now at 0 }
-{
-    if at < area.len() {
-        return area[at];
-    }
-    0
 }
 
 fn add_byte(block: &mut [u8], at: usize, b: u8) -> usize
     ensures { Wrote block.old at block.new result (hex_pair b) }
 {
-    let piece = [hex_digit(b / 16), hex_digit(b % 16)];
-    add(block, at, &piece)
+    add(block, at, &[hex_digit(b / 16), hex_digit(b % 16)])
 }
 
+#[tactic(auto, unfolding(crate::specs::Words::hex_digit))]
 fn hex_digit(x: u8) -> u8
     requires { x < 16 }
     ensures { result ≡ hex_digit x }
 {
-    if x < 10 {
-        return 48 + x;
-    }
-    55 + x
+    if x < 10 { b'0' + x } else { b'A' + (x - 10) }
 }

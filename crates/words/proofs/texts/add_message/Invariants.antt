@@ -1,12 +1,7 @@
-use Prim.Native.Nat.{◌+◌, ◌≤◌}
-use mathlib.Core.Path.{◌≡◌}
-use lib.ListN.{length}
+use Prim.Native.Nat.{◌-◌}
 use Rattle.blocks.proofs.BlockLaws.{Yet}
-use Rattle.words.specs.Words.{hex_from}
+use Rattle.words.specs.Words.{hex_from, message_hex}
 use Rattle.words.proofs.texts.add_message.Given as goal
 
-abbrev pub invariant-loop-left : goal.invariant-loop-left
-invariant-loop-left l = ((l.from + l.left ≤ 100000) × (length l.block ≡ length l.initial.block)) × Yet l.block l.end (hex_from l.left l.area l.from) l.initial.block l.at (hex_from l.initial.left l.area l.initial.from)
-
-abbrev pub decreases-loop-left : goal.decreases-loop-left
-decreases-loop-left l = l.left
+abbrev pub invariant-loop-i : goal.invariant-loop-i
+invariant-loop-i l = Yet l.block l.end (hex_from (l.i-end - l.i) l.area l.i) l.initial.block l.at (message_hex l.area l.k l.bits)

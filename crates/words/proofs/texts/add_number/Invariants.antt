@@ -1,12 +1,8 @@
-use Prim.Native.Nat.{◌^◌, ◌≤◌}
+use Prim.Native.Nat.{◌^◌}
 use mathlib.Core.Path.{◌≡◌}
-use lib.ListN.{length}
 use Rattle.blocks.proofs.BlockLaws.{Yet}
 use Rattle.words.specs.Words.{digits_from, decimal_of}
 use Rattle.words.proofs.texts.add_number.Given as goal
 
-abbrev pub invariant-loop-left : goal.invariant-loop-left
-invariant-loop-left l = ((l.left ≤ 10) × (length l.block ≡ length l.initial.block)) × ((l.power ≡ 10 ^ l.left) × Yet l.block l.end (digits_from l.seen l.left l.n) l.initial.block l.at (decimal_of l.n))
-
-abbrev pub decreases-loop-left : goal.decreases-loop-left
-decreases-loop-left l = l.left
+abbrev pub invariant-loop-k : goal.invariant-loop-k
+invariant-loop-k l = (l.power ≡ 10 ^ l.k) × Yet l.block l.end (digits_from l.seen l.k l.n) l.initial.block l.at (decimal_of l.n)
