@@ -7,12 +7,13 @@ use mathlib.Core.List as list
 use mathlib.Core.List.{List, [], ◌∷◌, ◌++◌}
 use mathlib.Core.Logic.{◌⊎◌, inl, inr}
 use lib.ListN.{take}
+use Rattle.std.specs.Prelude.{Result}
 use Rattle.codec.specs.Codec.{Read}
+use Rattle.codec.specs.declared.Stop.{Stop}
 use Rattle.profile.specs.Sample.{sample}
 use Rattle.message.specs.declared.Value.{Value}
 use Rattle.message.proofs.Cases as read
 use Rattle.reading.specs.Answers.{reading_of}
-use Rattle.reading.specs.declared.Reading.{Reading}
 use Rattle.writing.proofs.RoundTrips.{Reads}
 use Rattle.desk.specs.declared.Stepped.{Stepped}
 use Rattle.desk.proofs.Cases as desk
@@ -77,7 +78,7 @@ agree f g x (y ∷ ys) e (inl z) = ap f z ∙ ap (first (f y)) e ∙ ap g (sym z
 agree f g x (y ∷ ys) e (inr i) = agree f g x ys (ap rest e) i
 
 -- `reading::read` answers a case as the paper says: whatever its contract allows
-pub read_worked : (l : List ℕ) (n : ℕ) (want : Read Value) → In (read.reads l n want) read.cases → (r : Reading) → Reads sample l n r → r ≡ reading_of want
+pub read_worked : (l : List ℕ) (n : ℕ) (want : Read Value) → In (read.reads l n want) read.cases → (r : Result Value Stop) → Reads sample l n r → r ≡ reading_of want
 read_worked l n want i r e = e ∙ ap reading_of (agree read.gives read.wants (read.reads l n want) read.cases read.cases_right i)
 
 -- what a step and the area afterwards show of a case

@@ -5,54 +5,52 @@
 use desk::{Answer, Desk, Event, Stepped};
 use records::{Identity, Record};
 
-fn main() {
-    range(b"\x24\x5E\x80\x00\x00\xA0\x00\x08\x00");
-    range(b"\x24\x5E\x80\x00\x00\xA0\x00\x08\x20");
-    range(b"\x24\x5E\x80\x01\xF4\xA0\x00\x7D\x20");
-    full_post();
+fn main(rt: HostRuntime) {
+    range(&rt, b"\x24\x5E\x80\x00\x00\xA0\x00\x08\x00");
+    range(&rt, b"\x24\x5E\x80\x00\x00\xA0\x00\x08\x20");
+    range(&rt, b"\x24\x5E\x80\x01\xF4\xA0\x00\x7D\x20");
+    full_post(&rt);
 }
 
 // ---- 10: an ACTIVATE of a range, from SSI 1 to 64, from 1 to 65, and from 1,001 to 1,001
 
-fn range(bytes: &[u8]) {
-    io::write_all(1, b"10 ");
+// A line that can't be written ends nothing.
+fn range(rt: &impl Print, bytes: &[u8]) {
     let profile = profile::sample_profile();
-    let r = reading::read(profile, bytes, 68);
-    if r.found {
-        let value = r.value;
-        let air = profile.air;
-        say_decimal(message::span_of(air, value.users) as u64);
-        io::write_all(1, b" identities\n");
-        return;
-    }
-    let stop = r.stop;
-    say_refused(stop.number);
+    let _ = match reading::read(profile, bytes, 68) {
+        Ok(value) => println!(rt;
+            "10 {} identities",
+            message::span_of(profile.air, value.users)
+        ),
+        Err(stop) => println!(rt; "10 refused {}", stop.number),
+    };
 }
 
 // ---- 12: post 1 holds 8, post 0 none, and then each is called once more
 
-fn full_post() {
-    let opened = Desk::open(profile::sample_profile());
-    let mut desk = opened.desk;
-    let mut i: u32 = 0;
-    while i < 8 {
+#[tactic(auto, using(profile::proofs::ProfileLaws::sample_passes), unfolding(desk::specs::Desks::open_of))]
+fn full_post(rt: &impl Print) {
+    let mut desk = Desk::open(profile::sample_profile()).unwrap();
+    for i in 0..8 {
         desk = waiting(desk, i);
-        i += 1;
     }
-    say_call(desk, 1004);
-    say_call(desk, 1001);
+    say_call(rt, desk, 1004);
+    say_call(rt, desk, 1001);
 }
 
 // One more call waits at post 1.
 fn waiting(desk: Desk, identifier: u32) -> Desk {
-    let stepped = call(desk, 1004, identifier);
-    stepped.desk
+    call(desk, 1004, identifier).desk
 }
 
-fn say_call(desk: Desk, caller: u32) {
-    let stepped = call(desk, caller, 8);
-    let answer = stepped.answer;
-    say_answer(answer);
+fn say_call(rt: &impl Print, desk: Desk, caller: u32) {
+    let _ = match call(desk, caller, 8).answer {
+        Answer::Refused(stop) => println!(rt; "12 refused {}", stop.number),
+        Answer::Admitted { post, place } => println!(rt;
+            "12 admitted for post {post} at place {place}"
+        ),
+        _ => println!(rt; "12 answered otherwise"),
+    };
 }
 
 // A call from a restricted user, 1,001 of post 0 or 1,004 of post 1.
@@ -73,7 +71,7 @@ fn call(desk: Desk, caller: u32, identifier: u32) -> Stepped {
                 ssi: 2000,
                 extension: 0,
             },
-            identifier: identifier,
+            identifier,
             cause: 0,
         },
     )
@@ -95,51 +93,9 @@ fn users() -> [Record; 128] {
 fn user(ssi: u32, post: u8) -> Record {
     Record {
         in_use: true,
-        ssi: ssi,
+        ssi,
         extension: 0,
-        post: post,
+        post,
         active: true,
     }
-}
-
-// ---- words
-
-fn say_answer(answer: Answer) {
-    io::write_all(1, b"12 ");
-    match answer {
-        Answer::Refused(stop) => say_refused(stop.number),
-        Answer::Admitted { post, place } => say_admitted(post, place),
-        Answer::Acks => say_other(),
-        Answer::State(k) => say_other(),
-        Answer::Free => say_other(),
-        Answer::Proceed => say_other(),
-        Answer::Diverted => say_other(),
-        Answer::Rejected => say_other(),
-        Answer::Cancelled { post } => say_other(),
-        Answer::Moved { post } => say_other(),
-    }
-}
-
-fn say_refused(number: u8) {
-    io::write_all(1, b"refused ");
-    say_decimal(number as u64);
-    io::write_all(1, b"\n");
-}
-
-fn say_admitted(post: u8, place: u8) {
-    io::write_all(1, b"admitted for post ");
-    say_decimal(post as u64);
-    io::write_all(1, b" at place ");
-    say_decimal(place as u64);
-    io::write_all(1, b"\n");
-}
-
-fn say_other() {
-    io::write_all(1, b"answered otherwise\n");
-}
-
-fn say_decimal(number: u64) {
-    let mut digits = [0u8; 20];
-    let count = io::decimal(number, &mut digits);
-    io::write_all(1, &digits[..count]);
 }
