@@ -1,10 +1,10 @@
 -- What the contracts of `codec` decide: any two outcomes that one allows are equal. Assumes nothing.
 use Prim.Native.Nat.{ℕ}
 use mathlib.Core.Path.{◌≡◌, refl, ap, ◌∙◌}
+use Rattle.std.specs.Prelude.{Result, Ok, Err}
 use Rattle.codec.specs.Codec.{Read, got, no}
-use Rattle.codec.specs.Taking.{took_of}
-use Rattle.codec.specs.declared.Took.{Took}
-use Rattle.codec.specs.declared.Took.TheVariants as took
+use Rattle.codec.specs.Taking.{outcome_of}
+use Rattle.codec.specs.declared.Stop.{Stop}
 use Rattle.codec.specs.contracts.take as take
 use Rattle.codec.proofs.take.Reads as take-reads
 use Rattle.codec.specs.contracts.short_at as short-at
@@ -17,16 +17,16 @@ use Rattle.contracts.specs.Outcomes.{Decides}
 use Rattle.contracts.proofs.Law.{same_answer}
 
 -- what `take` says of its answer says all of it: the answer can be had back
-abbrev back : Read ℕ → Took
-back (got v p) = took.Got v p
-back (no s) = took.Refused s
+abbrev back : Read ℕ → Result (ℕ × ℕ) Stop
+back (got v p) = Ok (v, p)
+back (no s) = Err s
 
-back_took : (r : Took) → r ≡ back (took_of r)
-back_took (took.Got v p) = refl
-back_took (took.Refused s) = refl
+back_outcome : (r : Result (ℕ × ℕ) Stop) → r ≡ back (outcome_of r)
+back_outcome (Ok x) = refl
+back_outcome (Err s) = refl
 
-told : (r : Took) {z : Read ℕ} → took_of r ≡ z → r ≡ back z
-told r p = back_took r ∙ ap back p
+told : (r : Result (ℕ × ℕ) Stop) {z : Read ℕ} → outcome_of r ≡ z → r ≡ back z
+told r p = back_outcome r ∙ ap back p
 
 pub decides_take : Decides take.ended (λ M 𝓤. take.spec)
 decides_take = record { says = take-reads.Learnt; is = refl; one = λ κs a x y v w p q. same_answer (told x p) (told y q) }

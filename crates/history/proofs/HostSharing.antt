@@ -9,6 +9,7 @@ use mathlib.Core.Logic.{◌⊎◌}
 use Rattle.codec.specs.Stops.{refusal}
 use Rattle.codec.proofs.Good.{both_true}
 use Rattle.profile.specs.Rules.{share_in, profile_ok}
+use Rattle.std.specs.Prelude.{Ok}
 use Rattle.profile.specs.declared.Profile.{Profile}
 use Rattle.profile.specs.declared.Share.{Share}
 use Rattle.profile.specs.declared.Shares.{Shares}
@@ -21,7 +22,6 @@ use Rattle.desk.specs.declared.Answer.TheVariants as answer
 use Rattle.desk.specs.declared.Change.{Change}
 use Rattle.desk.specs.declared.Desk.{Desk}
 use Rattle.desk.specs.declared.Event.TheVariants as event
-use Rattle.desk.specs.declared.Opened.{Opened}
 use Rattle.host.specs.declared.Told.{Told}
 use Rattle.host.specs.contracts.call as call
 use Rattle.host.specs.contracts.change_shares as change
@@ -86,7 +86,7 @@ made_take_none (m ∷ calls) = both_true true _ refl (made_take_none calls)
 
 -- ---- from what `Desk::open` gave
 
-module _ (p : Profile) (o : Opened) (opening : o ≡ open_of p) (found : o.found ≡ true) (deeds : List Deed) (promised : AllPromised o.desk deeds) where
+module _ (p : Profile) (d : Desk) (opening : open_of p ≡ Ok d) (deeds : List Deed) (promised : AllPromised d deeds) where
   -- the calls that wait by what was written down
   abbrev pub waiting : List Waiting
   waiting = waiting_of p (history_of deeds)
@@ -101,26 +101,26 @@ module _ (p : Profile) (o : Opened) (opening : o ≡ open_of p) (found : o.found
   abbrev pub share : ℕ → Share
   share post = share_by (history_of deeds) post
 
-  is_open : (profile_ok p ≡ true) × ((open_of p).desk ≡ desk_with p)
-  is_open = opened p (ap (λ (x : Opened). x.found) (sym opening) ∙ found)
+  is_open : (profile_ok p ≡ true) × (d ≡ desk_with p)
+  is_open = opened p d opening
 
   pub opens : profile_ok p ≡ true
   opens = is_open.0
 
-  pub desk_is : o.desk ≡ desk_with p
-  desk_is = ap (λ (x : Opened). x.desk) opening ∙ is_open.1
+  pub desk_is : d ≡ desk_with p
+  desk_is = is_open.1
 
   abbrev turns : List Turn
   turns = list.map turn_of deeds
 
   pub history_is : step.history p opens turns ≡ history_of deeds
-  history_is = ap (λ (d : Desk). run_of d turns) (sym desk_is) ∙ sym (written_down deeds o.desk promised)
+  history_is = ap (λ (d : Desk). run_of d turns) (sym desk_is) ∙ sym (written_down deeds d promised)
 
   pub waiting_is : step.waiting p opens turns ≡ waiting
   waiting_is = ap (λ (h : History). waiting_of p h) history_is
 
-  pub left_is : desk_left o.desk deeds ≡ step.next p opens turns
-  left_is = desk_left_lem deeds o.desk promised ∙ ap (λ (d : Desk). left_by d turns) desk_is
+  pub left_is : desk_left d deeds ≡ step.next p opens turns
+  left_is = desk_left_lem deeds d promised ∙ ap (λ (d : Desk). left_by d turns) desk_is
 
   -- where no change is taken they are the profile's, and what follows is said of those
   pub call_as_opened : takes_none (history_of deeds) ≡ true → in_force ≡ p.shares
@@ -132,9 +132,9 @@ module _ (p : Profile) (o : Opened) (opening : o ≡ open_of p) (found : o.found
 
   -- ---- the next call
 
-  module _ (m : Made) (next : Promised (desk_left o.desk deeds) m) where
+  module _ (m : Made) (next : Promised (desk_left d deeds) m) where
     pub told_is : m.told.answer ≡ (step_for (step.next p opens turns) (call_of m)).answer
-    told_is = told_step (desk_left o.desk deeds) m next ∙ ap (λ (d : Desk). (step_for d (call_of m)).answer) left_is
+    told_is = told_step (desk_left d deeds) m next ∙ ap (λ (d : Desk). (step_for d (call_of m)).answer) left_is
 
     -- it does not get 1
     pub call_never_one : number_of m.told.answer ≡ 1 → ⊥

@@ -8,9 +8,10 @@ use native.Mathlib.Omega.{arith}
 use lib.ListN.{length, take, set}
 use borrow.Author.Tests.{eqb-true}
 use Rattle.codec.specs.Codec.{Read, got, no}
-use Rattle.codec.specs.Stops.{refusal, no_stop}
+use Rattle.std.specs.Prelude.{Ok, Err}
+use Rattle.codec.specs.Stops.{refusal}
 use Rattle.codec.proofs.Good.{both_left, both_right, not_both}
-use Rattle.profile.specs.Rules.{profile_ok, no_profile}
+use Rattle.profile.specs.Rules.{profile_ok}
 use Rattle.profile.specs.declared.Profile.{Profile}
 use Rattle.profile.specs.declared.Share.{Share}
 use Rattle.profile.specs.declared.Shares.{Shares}
@@ -38,7 +39,6 @@ use Rattle.desk.specs.declared.Answer.TheVariants as answer
 use Rattle.desk.specs.declared.Desk.{Desk}
 use Rattle.desk.specs.declared.Event.{Event}
 use Rattle.desk.specs.declared.Event.TheVariants as event
-use Rattle.desk.specs.declared.Opened.{Opened}
 use Rattle.desk.proofs.Changes.{change_places, change_air, change_shares, change_lawful, change_fits}
 use Rattle.desk.proofs.SetUps.{step_desk, admitted_so}
 use Rattle.desk.proofs.Endings.{is_ending, ended_waits}
@@ -322,16 +322,13 @@ shares_parts (x ∷ h) k s = shares_parts h k (shares_after s x)
 -- ---- from an opened desk
 
 -- a profile that opens is one that passes, and its desk has every place free
-pub opened : (p : Profile) → (open_of p).found ≡ true → (profile_ok p ≡ true) × ((open_of p).desk ≡ desk_with p)
+pub opened : (p : Profile) (d : Desk) → open_of p ≡ Ok d → (profile_ok p ≡ true) × (d ≡ desk_with p)
 unfolding open_of
-opened p = go (profile_ok p)
+opened p d = go (profile_ok p)
   where
-    answer_by : Bool → Opened
-    answer_by b = cond b (record { found = true; stop = no_stop; desk = desk_with p }) (record { found = false; stop = refusal 1; desk = desk_with no_profile })
-
-    go : (b : Bool) → (answer_by b).found ≡ true → (b ≡ true) × ((answer_by b).desk ≡ desk_with p)
-    go true e = (refl, refl)
-    go false e = not_both e
+    go : (b : Bool) → cond b (Ok (desk_with p)) (Err (refusal 1)) ≡ Ok d → (b ≡ true) × (d ≡ desk_with p)
+    go true e = (refl, cc)
+    go false e = (cc, cc)
 
 -- the shares that a history has in force, by which each call is judged
 abbrev pub in_force_by : Profile → History → Shares
