@@ -1,15 +1,17 @@
 -- Who restricts a call, and whose post it is for. Assumes nothing.
-use Prim.Native.Nat.{ℕ, zero, suc, ◌<◌}
+use Prim.Native.Nat.{ℕ, zero, suc, ◌+◌, ◌<◌, ◌≤◌}
 use mathlib.Core.Path.{◌≡◌, refl, sym, ap, ◌∙◌}
 use mathlib.Core.Bool.{Bool, true, false, not, cond}
 use mathlib.Core.List.{List, [], ◌∷◌}
 use native.Mathlib.Omega.{arith}
-use lib.ListN.{length, take}
+use native.Mathlib.Numerals.{add-one}
+use lib.ListN.{length, get_or, take, drop, drop_of_length-le}
+use lib.Seq.{drop-cons}
 use lib.Dec.{eqb}
 use borrow.Author.Tests.{ltb-true, eqb-false}
 use Rattle.std.proofs.Common.{Option, Some, None}
 use Rattle.std.specs.Bool.{then_some}
-use Rattle.std.specs.Option.{is_some, option_and_then, option_eq, option_map, option_or}
+use Rattle.std.specs.Option.{is_some, option_and_then, option_eq, option_map}
 use Rattle.codec.specs.Codec.{both}
 use Rattle.codec.proofs.Good.{both_left, both_right, not_both}
 use Rattle.records.specs.Records.{row_of, record_of, record_ok, all_ok, records_ok, no_party, party_of, restricted_by, restricted_of, restricts, restricts_by, is_restricted, post_by, post_for, second_of, restricting, party_by}
@@ -32,18 +34,35 @@ unfolding restricted_of is_restricted post_for
 restricted_is rows caller called =
     by_record rows (record_of rows caller) (restricted_by rows (record_of rows called) no_party) ∙ rw (by_record rows (record_of rows called) no_party) refl
 
--- as the code finds it
-pub restricted_or : (rows : List Record) (caller called : Identity) (f g : Option ℕ) → f ≡ restricting rows caller → g ≡ restricting rows called
-    → party_by (option_or f g) ≡ restricted_of rows (caller ∷ called ∷ [])
-unfolding restricting
-restricted_or rows caller called f g v w =
-    rw (v, w) (go (is_restricted rows caller) (is_restricted rows called) (post_for rows caller) (post_for rows called)) ∙ sym (restricted_is rows caller called)
-  where
-    go : (a b : Bool) (p q : ℕ) → party_by (option_or (then_some a p) (then_some b q))
-        ≡ cond a (record { found = true; post = p }) (cond b (record { found = true; post = q }) no_party)
-    go true b p q = refl
-    go false true p q = refl
-    go false false p q = refl
+-- ---- as the code finds it: what is left of the search at party k
+
+unfoldable pub party_left : List Record → List Identity → ℕ → Party
+party_left rows ids k = restricted_of rows (drop k ids)
+
+pub party_start : (rows : List Record) (ids : List Identity) → restricted_of rows ids ≡ party_left rows ids 0
+unfolding party_left
+party_start rows ids = refl
+
+module _ (x : Party) (rows : List Record) (ids : List Identity) (k : ℕ) (v : x ≡ party_left rows ids k) where
+  pub party_end : length ids ≤ k → no_party ≡ x
+  unfolding party_left restricted_of
+  party_end h = sym (v ∙ rw (drop_of_length-le ids h))
+
+  module _ (d : Identity) (h : k < length ids) where
+    -- no record: the next party's turn
+    pub party_none : record_of rows (get_or ids k d) ≡ None → x ≡ party_left rows ids (k + 1)
+    unfolding party_left restricted_of
+    party_none e = v ∙ rw (add-one, drop-cons ids k d h) (rw e refl)
+
+    module _ (i : ℕ) (e : record_of rows (get_or ids k d) ≡ Some i) where
+      -- a record that does not restrict: the next party's turn
+      pub party_free : (row_of rows i).active ≡ false → x ≡ party_left rows ids (k + 1)
+      unfolding party_left restricted_of restricts
+      party_free s = v ∙ rw (add-one, drop-cons ids k d h) (rw (e, s) refl)
+
+      pub party_here : (row_of rows i).active ≡ true → party_by (Some (row_of rows i).post) ≡ x
+      unfolding party_left restricted_of restricts party_of
+      party_here s = sym (v ∙ rw (drop-cons ids k d h) (rw (e, s) refl))
 
 -- a record restricts a call if its mark is set
 module _ (rows : List Record) (id : Identity) (f : Option Record) (v : f ≡ option_map (row_of rows) (record_of rows id)) where

@@ -6,7 +6,8 @@ use mathlib.Core.List.{List, [], ◌∷◌}
 use native.Mathlib.Numerals.{add-one}
 use native.Mathlib.Omega.{arith}
 use lib.Dec.{eqb}
-use lib.ListN.{length}
+use lib.ListN.{length, length-take, get_or, take, drop, drop_of_length-le}
+use lib.Seq.{drop-cons, get_or-take}
 use borrow.Author.Tests.{eqb-true}
 use Rattle.std.proofs.Common.{Option, Some, None}
 use Rattle.std.specs.List.{find, list_all, position_from}
@@ -50,6 +51,28 @@ holder_is (r ∷ rows) id = go (is r id) (holder_is rows id)
     go : (b : Bool) → find (λ r. is r id) rows ≡ option_map (row_of rows) (record_from 0 rows id) → cond b (Some r) (find (λ r. is r id) rows) ≡ option_map (row_of (r ∷ rows)) (cond b (Some 0) (record_from 1 rows id))
     go true e = refl
     go false e = rw (next_from 0 rows id, one_on r rows (record_from 0 rows id)) e
+
+-- ---- what is left of the search at record i, as a loop makes it
+
+unfoldable pub rec_left : List Record → Identity → ℕ → Option ℕ
+rec_left rows id i = record_from i (drop i rows) id
+
+pub rec_start : (rows : List Record) (id : Identity) → record_of rows id ≡ rec_left rows id 0
+unfolding rec_left record_of
+rec_start rows id = refl
+
+module _ (x : Option ℕ) (rows : List Record) (id : Identity) (i : ℕ) (v : x ≡ rec_left rows id i) where
+  pub rec_more : i < length rows → is (get_or rows i no_record) id ≡ false → x ≡ rec_left rows id (i + 1)
+  unfolding record_from rec_left
+  rec_more h e = v ∙ rw (add-one, drop-cons rows i no_record h) (rw e refl)
+
+  pub rec_here : i < length rows → is (get_or rows i no_record) id ≡ true → x ≡ Some i
+  unfolding record_from rec_left
+  rec_here h e = v ∙ rw (drop-cons rows i no_record h) (rw e refl)
+
+  pub rec_end : length rows ≤ i → x ≡ None
+  unfolding record_from rec_left
+  rec_end h = v ∙ rw (drop_of_length-le rows h)
 
 -- ---- refusal 15, as `all` makes it
 
@@ -134,3 +157,13 @@ record_lowest rows id = lowest_is rows id (record_from 0 rows id) (lowest_from_l
 
 pub found_in : (f : Option ℕ) (rows : List Record) (id : Identity) (i : ℕ) → f ≡ record_of rows id → f ≡ Some i → i < length rows
 found_in f rows id i v e = (subst (λ (g : Option ℕ). Lowest rows id g) (sym v ∙ e) (record_lowest rows id)).0
+
+-- and of rows of which the first n are lent: it is the row that stands there
+module _ (rows : List Record) (n i : ℕ) where
+  pub row_in : i < n → get_or rows i no_record ≡ row_of (take n rows) i
+  unfolding row_of
+  row_in h = sym (get_or-take n rows i no_record h)
+
+pub found_row : (f : Option ℕ) (rows : List Record) (n : ℕ) (id : Identity) (i : ℕ) → f ≡ record_of (take n rows) id → f ≡ Some i
+    → get_or rows i no_record ≡ row_of (take n rows) i
+found_row f rows n id i v e = row_in rows n i (omega (arith, found_in f (take n rows) id i v e, length-take n rows))

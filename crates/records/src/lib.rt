@@ -92,7 +92,7 @@ pub fn restricted(rows: [Record; 128], count: usize, caller: Identity, called: I
     ensures { result ≡ restricted_of (take count rows) (caller ∷ called ∷ []) }
 {
     let lent = search::lent(&rows, count);
-    party_of(search::restricting(lent, caller).or(search::restricting(lent, called)))
+    party_of(search::first_restricting(lent, [caller, called]))
 }
 
 // The post that is asked after that one: the called party's, if both records restrict the call and their posts differ.

@@ -1,6 +1,6 @@
 // The record of an identity, by a search from record 0 on, and the questions that one search answers. `rows` are the records lent.
 ghost use Rattle.std.specs.Prelude.{◌≡◌, take, option_map};
-ghost use Rattle.records.specs.Records.{is, row_of, record_of, record_ok, all_ok, state_of, restricting};
+ghost use Rattle.records.specs.Records.{is, row_of, record_of, record_ok, all_ok, state_of, restricting, restricted_of, party_by};
 
 use crate::{Identity, Record};
 use profile::Profile;
@@ -64,6 +64,26 @@ pub(crate) fn state(rows: &[Record], post: u8, id: Identity) -> u8
 }
 
 // ---- set-up
+
+// The post of the first party whose record restricts: a search over the parties, and for each over the records, left by label at the first
+// record that restricts. So the called party is not looked up where the caller's record restricts.
+pub(crate) fn first_restricting(rows: &[Record], parties: [Identity; 2]) -> Option<u8>
+    ensures { party_by result ≡ restricted_of rows.now parties }
+{
+    let mut post = None;
+    'parties: for k in 0..2 {
+        for i in 0..rows.len() {
+            if is_of(rows[i], parties[k]) {
+                if rows[i].active {
+                    post = Some(rows[i].post);
+                    break 'parties;
+                }
+                continue 'parties;
+            }
+        }
+    }
+    post
+}
 
 // The post of an identity's record, if that restricts a call: its mark is set.
 pub(crate) fn restricting(rows: &[Record], id: Identity) -> Option<u8>
