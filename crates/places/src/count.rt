@@ -19,14 +19,23 @@ fn waits_at(p: Place, post: u8) -> bool
 pub(crate) fn held(list: [Place; 32], post: u8) -> u8
     ensures { result ≡ held_of list post }
 {
-    list.iter().filter(|p| waits_at(**p, post)).count() as u8
+    let mut count = 0;
+    for i in 0..Shares::PLACES {
+        count += u8::from(waits_at(list[i], post));
+    }
+    count
 }
 
 // The waiting calls of all posts.
 fn used(list: [Place; 32]) -> u8
     ensures { result ≡ used_of list }
 {
-    list.iter().filter(|p| p.used).count() as u8
+    let mut count = 0;
+    for at in 0..Shares::PLACES {
+        let p = list[at];
+        count += u8::from(p.used);
+    }
+    count
 }
 
 pub(crate) fn free(list: [Place; 32]) -> usize

@@ -34,8 +34,10 @@ pub(crate) fn all_alone(list: [Place; 32]) -> bool
     ensures { result ≡ every 32 (λ i. alone_at list i) }
 {
     for i in 0..Shares::PLACES {
+        // read once for all lower ones: a free place is then passed at once
+        let p = list[i];
         for j in 0..i {
-            if !apart(list[i], list[j]) {
+            if !apart(p, list[j]) {
                 return false;
             }
         }
