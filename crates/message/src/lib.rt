@@ -380,14 +380,16 @@ pub fn address_at(group: Group, place: u8) -> Address
 pub fn number_at(value: Value, place: u8) -> u32
     ensures { result ≡ number_at place value }
 {
-    value.numbers.get(place as usize).copied().unwrap_or(0)
+    let numbers = value.numbers;
+    numbers.get(place as usize).copied().unwrap_or(0)
 }
 
 // The option of that number in its row is there.
 pub fn given_at(value: Value, option: usize) -> bool
     ensures { result ≡ given_at option value }
 {
-    value.given.get(option).copied().unwrap_or(false)
+    let given = value.given;
+    given.get(option).copied().unwrap_or(false)
 }
 
 // What INTERROGATE ACK says.
