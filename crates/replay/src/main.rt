@@ -317,7 +317,10 @@ struct Output {
 }
 
 impl Output {
-    fn new() -> Self {
+    // Nothing is there to be written yet.
+    fn new() -> Self
+        ensures { result.filled ≡ 0 }
+    {
         Output {
             block: io::large_buffer(),
             filled: 0,
