@@ -2,43 +2,37 @@
 use crate::{address, four, group, marked, show, sixty_four, stranger, user};
 use message::{Address, Areas, Group, State, Value};
 
-pub(crate) fn rows(rt: &impl Print) {
-    answers(rt);
-    options(rt);
-    areas_alone(rt);
-    masks(rt);
-    sizes(rt);
-    failures_not_valid(rt);
-    states_not_valid(rt);
-    others_not_valid(rt);
-    users_not_valid(rt);
-    options_absent(rt);
-    lists_not_valid(rt);
-    areas_not_valid(rt);
-    type_not_valid(rt);
+pub(crate) fn rows() {
+    answers();
+    options();
+    areas_alone();
+    masks();
+    sizes();
+    failures_not_valid();
+    states_not_valid();
+    others_not_valid();
+    users_not_valid();
+    options_absent();
+    lists_not_valid();
+    areas_not_valid();
+    type_not_valid();
 }
 
 // ---- the rows
 
-fn answers(rt: &impl Print) {
-    show::row(rt, 109, activated(), 48);
-    show::row(rt, 110, not_activated(), 48);
-    show::row(rt, 111, failed(1), 48);
-    show::row(rt, 112, and_areas(failed(1), areas(15, 3, 5, 0)), 48);
-    show::row(rt, 113, four_options(), 48);
-    show::row(rt, 114, intercepted(1, 2), 48);
+fn answers() {
+    show::row(109, activated(), 48);
+    show::row(110, not_activated(), 48);
+    show::row(111, failed(1), 48);
+    show::row(112, and_areas(failed(1), areas(15, 3, 5, 0)), 48);
+    show::row(113, four_options(), 48);
+    show::row(114, intercepted(1, 2), 48);
 }
 
-fn options(rt: &impl Print) {
+fn options() {
+    show::row(115, and_dispatchers(activated(), message::no_group()), 48);
+    show::row(116, and_sources(failed(7), message::no_group()), 48);
     show::row(
-        rt,
-        115,
-        and_dispatchers(activated(), message::no_group()),
-        48,
-    );
-    show::row(rt, 116, and_sources(failed(7), message::no_group()), 48);
-    show::row(
-        rt,
         117,
         and_destinations(
             failed(0),
@@ -48,108 +42,102 @@ fn options(rt: &impl Print) {
     );
 }
 
-fn areas_alone(rt: &impl Print) {
-    show::row(rt, 118, and_areas(not_activated(), message::NO_AREAS), 48);
-    show::row(rt, 119, activated_in(areas(15, 15, 15, 0)), 48);
-    show::row(rt, 120, activated_in(areas(15, 0, 15, 0)), 48);
-    show::row(rt, 121, activated_in(areas(3, 9, 0, 0)), 48);
+fn areas_alone() {
+    show::row(118, and_areas(not_activated(), message::NO_AREAS), 48);
+    show::row(119, activated_in(areas(15, 15, 15, 0)), 48);
+    show::row(120, activated_in(areas(15, 0, 15, 0)), 48);
+    show::row(121, activated_in(areas(3, 9, 0, 0)), 48);
 }
 
-fn masks(rt: &impl Print) {
+fn masks() {
     show::row(
-        rt,
         122,
         of_users(activated(), four(), 0xC000_0000_0000_0000),
         48,
     );
-    show::row(rt, 123, of_users(failed(2), four(), 0), 48);
-    show::row(rt, 124, longest(), 96);
+    show::row(123, of_users(failed(2), four(), 0), 48);
+    show::row(124, longest(), 96);
 }
 
-fn sizes(rt: &impl Print) {
-    show::row(rt, 125, four_options(), 30);
-    show::row(rt, 126, four_options(), 29);
-    show::row(rt, 127, failed(1), 6);
-    show::row(rt, 128, failed(1), 5);
+fn sizes() {
+    show::row(125, four_options(), 30);
+    show::row(126, four_options(), 29);
+    show::row(127, failed(1), 6);
+    show::row(128, failed(1), 5);
 }
 
-fn failures_not_valid(rt: &impl Print) {
-    show::row(rt, 129, failed(8), 12);
-    show::row(rt, 130, failed_but(message::ACTIVATION_TYPE_AT, 1), 12);
-    show::row(rt, 131, failed_but(message::INTERCEPTION_TYPE_AT, 1), 12);
-    show::row(rt, 132, failed_but(message::CALLING_SERVICE_AT, 1), 12);
+fn failures_not_valid() {
+    show::row(129, failed(8), 12);
+    show::row(130, failed_but(message::ACTIVATION_TYPE_AT, 1), 12);
+    show::row(131, failed_but(message::INTERCEPTION_TYPE_AT, 1), 12);
+    show::row(132, failed_but(message::CALLING_SERVICE_AT, 1), 12);
 }
 
-fn states_not_valid(rt: &impl Print) {
-    show::row(rt, 133, activated_but(message::REASON_AT, 1), 12);
-    show::row(rt, 134, activated_but(message::ACTIVATION_TYPE_AT, 2), 12);
-    show::row(rt, 135, activated_but(message::INTERCEPTION_TYPE_AT, 2), 12);
-    show::row(rt, 136, activated_but(message::CALLED_SERVICE_AT, 4), 12);
-    show::row(rt, 137, activated_but(message::RESULT_AT, 2), 12);
+fn states_not_valid() {
+    show::row(133, activated_but(message::REASON_AT, 1), 12);
+    show::row(134, activated_but(message::ACTIVATION_TYPE_AT, 2), 12);
+    show::row(135, activated_but(message::INTERCEPTION_TYPE_AT, 2), 12);
+    show::row(136, activated_but(message::CALLED_SERVICE_AT, 4), 12);
+    show::row(137, activated_but(message::RESULT_AT, 2), 12);
 }
 
-fn others_not_valid(rt: &impl Print) {
-    show::row(rt, 138, activated_but(message::CAUSE_AT, 1), 12);
-    show::row(rt, 139, message::with_given(activated(), 4), 12);
-    show::row(rt, 140, activated_but(message::MNI_AT, 5), 12);
-    show::row(rt, 141, activated_but(message::CALLING_AREA_AT, 1), 12);
+fn others_not_valid() {
+    show::row(138, activated_but(message::CAUSE_AT, 1), 12);
+    show::row(139, message::with_given(activated(), 4), 12);
+    show::row(140, activated_but(message::MNI_AT, 5), 12);
+    show::row(141, activated_but(message::CALLING_AREA_AT, 1), 12);
 }
 
-fn users_not_valid(rt: &impl Print) {
+fn users_not_valid() {
     show::row(
-        rt,
         142,
         message::with_users(activated(), pair(0, user(1001), message::NOBODY)),
         12,
     );
     show::row(
-        rt,
         143,
         message::with_mask(activated(), false, 0x8000_0000_0000_0000),
         12,
     );
 }
 
-fn options_absent(rt: &impl Print) {
-    show::row(rt, 144, marked(four_options(), BUT_DISPATCHERS), 12);
-    show::row(rt, 145, marked(four_options(), BUT_SOURCES), 12);
-    show::row(rt, 146, marked(four_options(), BUT_DESTINATIONS), 12);
-    show::row(rt, 147, marked(four_options(), BUT_AREAS), 12);
+fn options_absent() {
+    show::row(144, marked(four_options(), BUT_DISPATCHERS), 12);
+    show::row(145, marked(four_options(), BUT_SOURCES), 12);
+    show::row(146, marked(four_options(), BUT_DESTINATIONS), 12);
+    show::row(147, marked(four_options(), BUT_AREAS), 12);
 }
 
-fn lists_not_valid(rt: &impl Print) {
+fn lists_not_valid() {
     let third_kind = address(3, 1004, 0);
     show::row(
-        rt,
         148,
         message::with_destinations(four_options(), pair(15, third_kind, user(1004))),
         12,
     );
     show::row(
-        rt,
         149,
         message::with_sources(four_options(), pair(2, third_kind, user(1004))),
         12,
     );
     show::row(
-        rt,
         150,
         message::with_sources(four_options(), pair(4, stranger(1001, 5), user(1004))),
         12,
     );
 }
 
-fn areas_not_valid(rt: &impl Print) {
-    show::row(rt, 151, activated_in(areas(15, 5, 3, 0)), 12);
-    show::row(rt, 152, activated_in(areas(2, 1, 16, 0)), 12);
-    show::row(rt, 153, activated_in(areas(14, 1, 0, 0)), 12);
-    show::row(rt, 154, activated_in(areas(1, 1, 1, 0)), 12);
+fn areas_not_valid() {
+    show::row(151, activated_in(areas(15, 5, 3, 0)), 12);
+    show::row(152, activated_in(areas(2, 1, 16, 0)), 12);
+    show::row(153, activated_in(areas(14, 1, 0, 0)), 12);
+    show::row(154, activated_in(areas(1, 1, 1, 0)), 12);
 }
 
-fn type_not_valid(rt: &impl Print) {
+fn type_not_valid() {
     let mut value = activated();
     value.pdu = 3;
-    show::row(rt, 155, value, 12);
+    show::row(155, value, 12);
 }
 
 // ---- their values

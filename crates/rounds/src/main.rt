@@ -9,87 +9,75 @@ mod deactivations;
 mod interrogations;
 mod show;
 
-fn main(rt: HostRuntime) {
-    activates(&rt);
-    acks(&rt);
-    calls(&rt);
-    sizes(&rt);
-    acks_not_valid(&rt);
-    activates_not_valid(&rt);
-    others_not_valid(&rt);
-    requests(&rt);
-    endings(&rt);
-    request_sizes(&rt);
-    requests_not_valid(&rt);
-    options_not_valid(&rt);
-    endings_not_valid(&rt);
-    deactivations::rows(&rt);
-    interrogations::rows(&rt);
+fn main() {
+    activates();
+    acks();
+    calls();
+    sizes();
+    acks_not_valid();
+    activates_not_valid();
+    others_not_valid();
+    requests();
+    endings();
+    request_sizes();
+    requests_not_valid();
+    options_not_valid();
+    endings_not_valid();
+    deactivations::rows();
+    interrogations::rows();
 }
 
 // ---- the rows
 
-fn activates(rt: &impl Print) {
-    show::row(rt, 1, case_8(), 12);
-    show::row(rt, 2, two_and_one(), 48);
-    show::row(rt, 3, one_and_none(), 48);
-    show::row(rt, 4, three_and_range(), 48);
+fn activates() {
+    show::row(1, case_8(), 12);
+    show::row(2, two_and_one(), 48);
+    show::row(3, one_and_none(), 48);
+    show::row(4, three_and_range(), 48);
 }
 
-fn acks(rt: &impl Print) {
-    show::row(rt, 5, ack(3, four(), true, 0xC000_0000_0000_0000, 1, 0), 48);
-    show::row(rt, 6, ack(3, four(), true, 0x2000_0000_0000_0000, 0, 1), 48);
-    show::row(rt, 7, ack(3, four(), false, 0, 1, 0), 48);
-    show::row(rt, 8, ack(3, twice_and_one(), false, 0, 0, 127), 48);
+fn acks() {
+    show::row(5, ack(3, four(), true, 0xC000_0000_0000_0000, 1, 0), 48);
+    show::row(6, ack(3, four(), true, 0x2000_0000_0000_0000, 0, 1), 48);
+    show::row(7, ack(3, four(), false, 0, 1, 0), 48);
+    show::row(8, ack(3, twice_and_one(), false, 0, 0, 127), 48);
     show::row(
-        rt,
         9,
         ack(3, sixty_four(), true, 0xAAAA_AAAA_AAAA_AAAA, 0, 2),
         48,
     );
 }
 
-fn calls(rt: &impl Print) {
-    show::row(rt, 10, interrogate(user(1001)), 48);
-    show::row(rt, 11, interrogate(stranger(1001, 77)), 48);
-    show::row(rt, 12, notice(10, 0, false, message::NOBODY), 48);
-    show::row(rt, 13, notice(10, 2, true, user(1)), 48);
-    show::row(rt, 14, call(12, 5), 48);
-    show::row(rt, 15, call(13, 0), 48);
-    show::row(rt, 16, call(15, 16383), 48);
-    show::row(rt, 17, notice(16, 0, false, message::NOBODY), 48);
-    show::row(rt, 18, notice(16, 31, true, stranger(16777215, 1)), 48);
+fn calls() {
+    show::row(10, interrogate(user(1001)), 48);
+    show::row(11, interrogate(stranger(1001, 77)), 48);
+    show::row(12, notice(10, 0, false, message::NOBODY), 48);
+    show::row(13, notice(10, 2, true, user(1)), 48);
+    show::row(14, call(12, 5), 48);
+    show::row(15, call(13, 0), 48);
+    show::row(16, call(15, 16383), 48);
+    show::row(17, notice(16, 0, false, message::NOBODY), 48);
+    show::row(18, notice(16, 31, true, stranger(16777215, 1)), 48);
 }
 
-fn sizes(rt: &impl Print) {
-    show::row(rt, 19, case_8(), 9);
-    show::row(rt, 20, case_8(), 8);
-    show::row(rt, 21, call(13, 0), 2);
-    show::row(rt, 22, call(13, 0), 1);
-    show::row(rt, 23, call(13, 0), 0);
+fn sizes() {
+    show::row(19, case_8(), 9);
+    show::row(20, case_8(), 8);
+    show::row(21, call(13, 0), 2);
+    show::row(22, call(13, 0), 1);
+    show::row(23, call(13, 0), 0);
 }
 
-fn acks_not_valid(rt: &impl Print) {
-    show::row(
-        rt,
-        24,
-        ack(3, four(), true, 0xC800_0000_0000_0000, 1, 0),
-        12,
-    );
-    show::row(
-        rt,
-        25,
-        ack(3, four(), false, 0x8000_0000_0000_0000, 1, 0),
-        12,
-    );
-    show::row(rt, 26, interrogate(address(1, 1001, 77)), 12);
-    show::row(rt, 27, one_too_many(), 12);
-    show::row(rt, 28, ack(3, four(), false, 0, 1, 1), 12);
+fn acks_not_valid() {
+    show::row(24, ack(3, four(), true, 0xC800_0000_0000_0000, 1, 0), 12);
+    show::row(25, ack(3, four(), false, 0x8000_0000_0000_0000, 1, 0), 12);
+    show::row(26, interrogate(address(1, 1001, 77)), 12);
+    show::row(27, one_too_many(), 12);
+    show::row(28, ack(3, four(), false, 0, 1, 1), 12);
 }
 
-fn activates_not_valid(rt: &impl Print) {
+fn activates_not_valid() {
     show::row(
-        rt,
         29,
         activate(
             four(),
@@ -98,67 +86,66 @@ fn activates_not_valid(rt: &impl Print) {
         ),
         12,
     );
-    show::row(rt, 30, call(12, 16384), 12);
-    show::row(rt, 31, notice(10, 32, false, message::NOBODY), 12);
-    show::row(rt, 32, alone(4, message::NOBODY, message::NOBODY), 12);
-    show::row(rt, 33, alone(0, message::NOBODY, message::NOBODY), 12);
+    show::row(30, call(12, 16384), 12);
+    show::row(31, notice(10, 32, false, message::NOBODY), 12);
+    show::row(32, alone(4, message::NOBODY, message::NOBODY), 12);
+    show::row(33, alone(0, message::NOBODY, message::NOBODY), 12);
 }
 
-fn others_not_valid(rt: &impl Print) {
-    show::row(rt, 34, alone(15, user(1004), user(1001)), 12);
-    show::row(rt, 35, alone(15, user(1), user(65)), 12);
-    show::row(rt, 36, call(5, 0), 12);
-    show::row(rt, 37, numbered(interrogate(user(1001)), 1), 12);
+fn others_not_valid() {
+    show::row(34, alone(15, user(1004), user(1001)), 12);
+    show::row(35, alone(15, user(1), user(65)), 12);
+    show::row(36, call(5, 0), 12);
+    show::row(37, numbered(interrogate(user(1001)), 1), 12);
 }
 
-fn requests(rt: &impl Print) {
-    show::row(rt, 38, request(5, 0), 48);
-    show::row(rt, 39, request(5, 2), 48);
-    show::row(rt, 40, all_given(detailed()), 48);
-    show::row(rt, 41, service_of_called(), 48);
-    show::row(rt, 42, all_given(largest()), 48);
-    show::row(rt, 43, called_alone(16, user(7)), 48);
-    show::row(rt, 44, marked(request(16383, 31), NO_PARTY), 48);
+fn requests() {
+    show::row(38, request(5, 0), 48);
+    show::row(39, request(5, 2), 48);
+    show::row(40, all_given(detailed()), 48);
+    show::row(41, service_of_called(), 48);
+    show::row(42, all_given(largest()), 48);
+    show::row(43, called_alone(16, user(7)), 48);
+    show::row(44, marked(request(16383, 31), NO_PARTY), 48);
 }
 
-fn endings(rt: &impl Print) {
-    show::row(rt, 45, call(14, 5), 48);
-    show::row(rt, 46, call(14, 16383), 48);
-    show::row(rt, 47, call_and_cause(17, 5, 2), 48);
-    show::row(rt, 48, notice(18, 2, false, message::NOBODY), 48);
-    show::row(rt, 49, notice(18, 2, true, user(1001)), 48);
+fn endings() {
+    show::row(45, call(14, 5), 48);
+    show::row(46, call(14, 16383), 48);
+    show::row(47, call_and_cause(17, 5, 2), 48);
+    show::row(48, notice(18, 2, false, message::NOBODY), 48);
+    show::row(49, notice(18, 2, true, user(1001)), 48);
 }
 
-fn request_sizes(rt: &impl Print) {
-    show::row(rt, 50, all_given(detailed()), 19);
-    show::row(rt, 51, all_given(detailed()), 18);
+fn request_sizes() {
+    show::row(50, all_given(detailed()), 19);
+    show::row(51, all_given(detailed()), 18);
 }
 
-fn requests_not_valid(rt: &impl Print) {
-    show::row(rt, 52, marked(detailed(), NO_CALLING), 12);
-    show::row(rt, 53, marked(detailed(), NO_CALLED), 12);
-    show::row(rt, 54, detailed_but(message::MNI_AT, 16777216), 12);
-    show::row(rt, 55, detailed_but(message::CALLED_AREA_AT, 16), 12);
-    show::row(rt, 56, detailed_but(message::CALLING_SERVICE_AT, 4), 12);
+fn requests_not_valid() {
+    show::row(52, marked(detailed(), NO_CALLING), 12);
+    show::row(53, marked(detailed(), NO_CALLED), 12);
+    show::row(54, detailed_but(message::MNI_AT, 16777216), 12);
+    show::row(55, detailed_but(message::CALLED_AREA_AT, 16), 12);
+    show::row(56, detailed_but(message::CALLING_SERVICE_AT, 4), 12);
 }
 
-fn options_not_valid(rt: &impl Print) {
+fn options_not_valid() {
     show::row(
-        rt,
         57,
         message::with_number(service_of_called(), message::CALLING_SERVICE_AT, 3),
         12,
     );
-    show::row(rt, 58, numbered(all_given(detailed()), 2), 12);
-    show::row(rt, 59, called_alone(0, address(3, 1004, 0)), 12);
-    show::row(rt, 60, request(16384, 0), 12);
+    show::row(58, numbered(all_given(detailed()), 2), 12);
+    show::row(59, called_alone(0, address(3, 1004, 0)), 12);
+    show::row(60, request(16384, 0), 12);
 }
 
-fn endings_not_valid(rt: &impl Print) {
-    show::row(rt, 61, call_and_cause(17, 5, 32), 12);
-    show::row(rt, 62, call_and_cause(14, 5, 2), 12);
-    show::row(rt, 63, call_and_cause(18, 5, 2), 12);
-    show::row(rt, 64, message::with_given(call(12, 5), 2), 12);
+fn endings_not_valid() {
+    show::row(61, call_and_cause(17, 5, 32), 12);
+    show::row(62, call_and_cause(14, 5, 2), 12);
+    show::row(63, call_and_cause(18, 5, 2), 12);
+    show::row(64, message::with_given(call(12, 5), 2), 12);
 }
 
 // ---- their values

@@ -1,61 +1,74 @@
-// One row: its value is written, read and written again, and the lines say what came. A line that can't be written ends nothing.
+// One row: its value is written, read and written again, and the lines say what came.
 use codec::Stop;
 use message::Value;
 use std::fmt;
+use std::fmt::Write;
 
 // The value into an area of so many bytes, at most 96.
-pub(crate) fn row(rt: &impl Print, number: u64, value: Value, bytes: usize) {
+pub(crate) fn row(number: u64, value: Value, bytes: usize) {
     if bytes > 96 {
         return;
     }
     let mut area = [0xAAu8; 96];
-    write(rt, number, value, &mut area[..bytes]);
+    write(number, value, &mut area[..bytes]);
 }
 
-fn write(rt: &impl Print, number: u64, value: Value, area: &mut [u8]) {
+fn write(number: u64, value: Value, area: &mut [u8]) {
     let written = writing::write(profile::sample_profile(), value, area);
-    say(rt, number, value.pdu, written, area);
+    say(number, value.pdu, written, area);
 }
 
-fn say(rt: &impl Print, number: u64, pdu: u8, written: Result<usize, Stop>, area: &[u8]) {
+fn say(number: u64, pdu: u8, written: Result<usize, Stop>, area: &[u8]) {
     match written {
         Ok(bits) => {
-            let _ = println!(rt; "{number} {} {bits} {}", name(pdu), Hex(area));
-            read(rt, number, bits, area);
+            line(number, name(pdu), bits, area);
+            read(number, bits, area);
         }
-        Err(stop) => {
-            let _ = println!(rt; "{number} refused {} {}", stop.number, Hex(area));
-        }
+        Err(stop) => line(number, "refused", stop.number as usize, area),
     }
 }
 
-fn read(rt: &impl Print, number: u64, bits: usize, area: &[u8]) {
+fn read(number: u64, bits: usize, area: &[u8]) {
     let value = reading::read(profile::sample_profile(), area, bits).unwrap_or(message::blank(0));
     if area.len() > 96 {
         return;
     }
     let mut second = [0x55u8; 96];
-    write_again(rt, number, value, &mut second[..area.len()]);
+    write_again(number, value, &mut second[..area.len()]);
 }
 
-fn write_again(rt: &impl Print, number: u64, value: Value, second: &mut [u8]) {
+fn write_again(number: u64, value: Value, second: &mut [u8]) {
     let bits = writing::write(profile::sample_profile(), value, second).unwrap_or(0);
-    let _ = println!(rt; "{number} again {bits} {}", Hex(second));
+    line(number, "again", bits, second);
 }
 
 // ---- its lines
 
-// Bytes, as two hex digits each.
+// Standard output, a write for each part of a line. By `println!` one more function were trusted, which reads errno, and a line would end
+// at a write that fails; here it goes on.
 #[derive(Drop)]
-struct Hex<'a>(&'a [u8]);
+struct Out;
 
-impl fmt::Display for Hex<'_> {
-    fn fmt<W: fmt::Write>(&self, f: &mut fmt::Formatter<W>) -> fmt::Result {
-        for byte in self.0 {
-            write!(f, "{byte:02X}")?;
-        }
+impl Write for Out {
+    fn write_str(&mut self, s: &str) -> fmt::Result {
+        io::write_all(1, s.as_bytes());
         Ok(())
     }
+}
+
+// Both digits of a byte are one part; `{:02X}` would make a zero in front one of its own.
+fn line(number: u64, word: &str, n: usize, area: &[u8]) {
+    let mut out = Out;
+    let _ = write!(out, "{number} {word} {n} ");
+    for byte in area {
+        io::write_all(1, &[digit(byte / 16), digit(byte % 16)]);
+    }
+    let _ = writeln!(out);
+}
+
+fn digit(x: u8) -> u8 {
+    let digit = char::from_digit(x as u32, 16).unwrap_or('?');
+    digit.to_ascii_uppercase() as u8
 }
 
 // `lines` has the same as bytes, for itself alone.
