@@ -11,14 +11,24 @@ use borrow.Rule.Slice.PartMut.{put_mid}
 use Rattle.std.specs.List.{position, position_or_len}
 use Rattle.std.specs.Option.{option_map_or}
 use Rattle.std.proofs.lemmas.List.Recursion.{is_position_or_len}
-use borrow.Author.Tests.{lt-ltb, le-ltb, ne_eqb, eqb-false}
+use borrow.Author.Tests.{lt-ltb, le-ltb, eq-eqb, ne_eqb, eqb-false}
 use lib.Dec.{eqb}
 use lib.ListN.{length, get_or, set, take, drop, length-drop, length-append, drop_of_length-le}
-use lib.Seq.{sets, sets-eq, drop-drop, length-sets, take_all, take-length, take-append-le, take-append-add, drop-cons, length-take-le}
+use lib.Seq.{sets, sets-eq, drop-drop, length-sets, take_all, take-add, take-length, take-append-le, take-append-add, drop-cons, length-take-le}
 use Rattle.bits.proofs.SetLaws.{lt_or}
 use Rattle.blocks.specs.Blocks.{before_lf, line_end, fits, text_end, put_text, Wrote}
+use Rattle.blocks.specs.Texts.{room_for, keep_of}
+use Rattle.blocks.specs.declared.Text.{Text}
+
+-- what stands from an index on
+pub rest_of : (l : List ℕ) (i : ℕ) → take (length l - i) (drop i l) ≡ drop i l
+rest_of l i = take_all _ _ (omega (arith, length-drop i l))
 
 -- ---- the end of a line
+
+pub at_lf : (l : List ℕ) (i : ℕ) → i < length l → get_or l i 0 ≡ 10 → line_end l i ≡ i
+unfolding line_end before_lf
+at_lf l i h e = rw (drop-cons l i 0 h, eq-eqb _ _ e) (add-zero i)
 
 pub past_byte : (l : List ℕ) (i : ℕ) → i < length l → (get_or l i 0 ≡ 10 → ⊥) → line_end l i ≡ line_end l (i + 1)
 unfolding line_end before_lf
@@ -76,6 +86,26 @@ put_part l at n text h k =
     let e : length (take n text) ≡ n = length-take-le n text k in
     let d : at + n - at ≡ n = omega arith in
     rw (d, sets-eq (take n text) l at (rw e h), e, append_assoc, drop-drop n at l)
+
+-- a text put at once, or its first bytes and then the others
+pub put_two : (l : List ℕ) (at k m n : ℕ) (text : List ℕ) → m ≡ k → k ≤ n → at + n ≤ length l → n ≤ length text
+    → put_mid (at + m) (at + n - (at + m)) (put_mid at (at + k - at) l (take k text)) (take (k + n - m - k) (drop k text)) ≡ sets l at (take n text)
+put_two l at k m n text e j h t =
+    let w : k + (n - k) ≡ n = omega arith in
+    let x : at + n ≡ at + k + (n - k) = omega arith in
+    let y : k + n - k - k ≡ n - k = omega arith in
+    let z : length (take k text) ≡ k = length-take-le k text (omega arith) in
+    let s : length (sets l at (take k text)) ≡ length l = length-sets l at (take k text) in
+    rw (
+      e,
+      x,
+      y,
+      put_part l at k text (omega arith) (omega arith),
+      put_part (sets l at (take k text)) (at + k) (n - k) (drop k text) (omega arith) (omega (arith, length-drop k text)),
+    )
+    (ap (λ (i : ℕ). sets (sets l at (take k text)) (at + i) (take (n - k) (drop k text))) (sym z)
+    ∙ sym (sets_join l at (take k text) (take (n - k) (drop k text)))
+    ∙ ap (λ (ys : List ℕ). sets l at ys) (sym (take-add k (n - k) text) ∙ ap (λ (i : ℕ). take i text) w))
 
 -- ---- as much of some bytes as there is room for
 
@@ -163,6 +193,12 @@ module _ {l m n : List ℕ} {a b c : ℕ} {xs ys : List ℕ} (p : Wrote l a m b 
 -- the same bytes, put together in another way
 pub wrote_as : {l m : List ℕ} {a b : ℕ} {xs ys : List ℕ} → Wrote l a m b xs → xs ≡ ys → Wrote l a m b ys
 wrote_as {l} {m} {a} {b} p e = record { ends = p.ends ∙ ap (λ (k : List ℕ). text_end l a k) e; holds = p.holds ∙ ap (λ (k : List ℕ). put_text l a k) e }
+
+-- what was put after a text is kept with it
+pub keep_wrote : {t : Text} {m : List ℕ} {b : ℕ} {xs : List ℕ} → length t.bytes ≡ 1152 → Wrote t.bytes t.len m b xs
+    → ◌≡◌ {A = Text} (record { len = b; bytes = m }) (keep_of t xs)
+unfolding keep_of room_for text_end put_text fits
+keep_wrote {t} {m} {b} {xs} e p = rw (p.ends, p.holds, e)
 
 -- what is yet to be written: whatever has xs after the one has ys after the other
 abbrev pub Yet : List ℕ → ℕ → List ℕ → List ℕ → ℕ → List ℕ → Type 0

@@ -3,13 +3,14 @@ use Prim.Native.Nat.{ℕ, zero, suc, ◌+◌, ◌/◌, ◌%◌, ◌^◌, ◌<◌
 use mathlib.Core.Path.{◌≡◌, refl}
 use mir.Val.{bool_byte}
 use mathlib.Core.Bool.{Bool, true, false}
-use mathlib.Core.List.{List, [], ◌++◌, append-nil}
+use mathlib.Core.List.{List, [], ◌∷◌, ◌++◌, append-nil}
 use native.Mathlib.Nat.{pow-suc, one-le-pow, mul-div_cancel}
 use native.Mathlib.Omega.{arith}
 use lib.ListN.{get_or}
+use borrow.Author.Tests.{ne_eqb}
 use Rattle.profile.specs.Counting.{one}
 use Rattle.blocks.specs.Blocks.{Wrote}
-use Rattle.words.specs.Words.{digit_in, shown, digit_if, digits_from, hex_pair, hex_from}
+use Rattle.words.specs.Words.{digit_in, shown, digit_if, digits_from, hex_pair, hex_from, word_in}
 use Rattle.blocks.proofs.BlockLaws.{wrote_none, wrote_join, wrote_as, Yet}
 
 -- the numbers that it is divided by
@@ -44,6 +45,24 @@ module _ (left k : ℕ) (area : List ℕ) (at byte : ℕ) {l m : List ℕ} {a b 
 pub bytes_over : (left : ℕ) (area : List ℕ) (at : ℕ) (l : List ℕ) (a : ℕ) → left ≡ 0 → Wrote l a l a (hex_from left area at)
 unfolding hex_from
 bytes_over left area at l a e = rw e (wrote_none l a)
+
+-- ---- an element's name
+
+-- a number that a table does not have
+abbrev pub OutOf : List (ℕ × List ℕ) → ℕ → Type 0
+OutOf [] e = Unit
+OutOf ((k, word) ∷ rest) e = (e ≡ k → ⊥) × OutOf rest e
+
+pub word_out : (words : List (ℕ × List ℕ)) (e : ℕ) → OutOf words e → word_in words e ≡ []
+unfolding word_in
+word_out [] e o = refl
+word_out ((k, word) ∷ rest) e o = rw (ne_eqb e k o.0) (word_out rest e o.1)
+
+-- of two tables one after the other, where the first does not have the number, the second is asked
+pub word_on : (first rest : List (ℕ × List ℕ)) (e : ℕ) → OutOf first e → word_in (first ++ rest) e ≡ word_in rest e
+unfolding word_in
+word_on [] rest e o = refl
+word_on ((k, word) ∷ more) rest e o = rw (ne_eqb e k o.0) (word_on more rest e o.1)
 
 -- a mark is printed as 1 or 0
 pub one_byte : (b : Bool) → bool_byte b ≡ one b

@@ -1,13 +1,12 @@
 use lib.ListN.{length}
-use Rattle.blocks.specs.Blocks.{fits, text_end, put_text}
-use Rattle.blocks.specs.Texts.{room_for, keep_of}
+use Rattle.blocks.specs.Blocks.{Wrote}
+use Rattle.blocks.proofs.BlockLaws.{keep_wrote}
 use Rattle.blocks.proofs.keep.Goals as goal
 use native.Mathlib.Omega.{arith}
 use mathlib.Core.Path.{◌≡◌}
 
 pub returns : goal.returns
-unfolding keep_of room_for text_end put_text fits
 returns c =
-    let p = c.put-len.ensures in
     let k : length c.args.kept.bytes ≡ 1152 = omega arith in
-    rw (p.0.0, p.0.1, k)
+    let p : Wrote c.args.kept.bytes c.args.kept.len c.put-len.new.block c.put-len.result c.args.piece.now = record { ends = c.put-len.ensures.0.0; holds = c.put-len.ensures.0.1 } in
+    keep_wrote k p
