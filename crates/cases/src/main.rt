@@ -109,8 +109,8 @@ fn user(ssi: u32, post: u8) -> Record {
 
 // ---- words
 
-// Standard output, a write for each part of a line. By `println!` one more function were trusted, which reads errno, and a line would end
-// at a write that fails; here it goes on.
+// Standard output, a write for each part of a line. By `println!` one more function would be trusted, which reads errno, and a line would
+// end at a write that fails; here it goes on.
 #[derive(Drop)]
 struct Out;
 

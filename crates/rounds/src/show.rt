@@ -44,8 +44,8 @@ fn write_again(number: u64, value: Value, second: &mut [u8]) {
 
 // ---- its lines
 
-// Standard output, a write for each part of a line. By `println!` one more function were trusted, which reads errno, and a line would end
-// at a write that fails; here it goes on.
+// Standard output, a write for each part of a line. By `println!` one more function would be trusted, which reads errno, and a line would
+// end at a write that fails; here it goes on.
 #[derive(Drop)]
 struct Out;
 

@@ -9,7 +9,7 @@ use native.Mathlib.Omega.{arith}
 use lib.Dec.{eqb}
 use lib.ListN.{length, get_or, take, drop, set, drop_of_length-le}
 use lib.Pointwise.{pointwise}
-use lib.Seq.{drop-cons, take_all}
+use lib.Seq.{drop-cons}
 use borrow.Author.Tests.{eq-eqb, ne_eqb, eqb-true, eqb-false, lt-ltb, le-ltb, le-leb, lt-leb}
 use Rattle.std.specs.Prelude.{Some, None}
 use Rattle.codec.specs.Codec.{both}
@@ -24,10 +24,6 @@ module _ (l : List ℕ) (i : ℕ) (h : i < length l) where
   next_byte = rw (add-one, drop-cons l i 0 h)
 
 -- ---- a keyword
-
--- a line from its first byte on
-pub whole : (l : List ℕ) → take (length l - 0) (drop 0 l) ≡ l
-whole l = take_all _ _ (omega arith)
 
 -- the library's test, which looks at the keyword's bytes first
 pub starts_same : (l w : List ℕ) → pointwise eqb w (take (length w) l) ≡ starts_with l w

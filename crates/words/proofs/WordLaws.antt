@@ -1,14 +1,12 @@
 -- Numbers in decimal and bytes in hex, turn by turn as the code's loops write them. Assumes nothing.
 use Prim.Native.Nat.{ℕ, zero, suc, ◌+◌, ◌/◌, ◌%◌, ◌^◌, ◌<◌}
 use mathlib.Core.Path.{◌≡◌, refl}
-use mir.Val.{bool_byte}
-use mathlib.Core.Bool.{Bool, true, false}
+use mathlib.Core.Bool.{Bool}
 use mathlib.Core.List.{List, [], ◌∷◌, ◌++◌, append-nil}
 use native.Mathlib.Nat.{pow-suc, one-le-pow, mul-div_cancel}
 use native.Mathlib.Omega.{arith}
 use lib.ListN.{get_or}
 use borrow.Author.Tests.{ne_eqb}
-use Rattle.profile.specs.Counting.{one}
 use Rattle.blocks.specs.Blocks.{Wrote}
 use Rattle.words.specs.Words.{digit_in, shown, digit_if, digits_from, hex_pair, hex_from, word_in}
 use Rattle.blocks.proofs.BlockLaws.{wrote_none, wrote_join, wrote_as, Yet}
@@ -63,11 +61,6 @@ pub word_on : (first rest : List (ℕ × List ℕ)) (e : ℕ) → OutOf first e 
 unfolding word_in
 word_on [] rest e o = refl
 word_on ((k, word) ∷ more) rest e o = rw (ne_eqb e k o.0) (word_on more rest e o.1)
-
--- a mark is printed as 1 or 0
-pub one_byte : (b : Bool) → bool_byte b ≡ one b
-one_byte true = refl
-one_byte false = refl
 
 -- ---- what is written for each of some numbers
 

@@ -1,6 +1,6 @@
 use mathlib.Core.Path.{◌≡◌, ◌∙◌}
 use Rattle.profile.specs.Counting.{one}
-use Rattle.words.proofs.WordLaws.{one_byte}
+use Rattle.places.proofs.HeldLaws.{one_byte}
 use Rattle.blocks.proofs.BlockLaws.{wrote_none, wrote_join}
 use Rattle.words.specs.Words.{record_words}
 use Rattle.words.proofs.answers.record_part.Goals as goal
